@@ -9,6 +9,7 @@ use Rattle.tinyjson.proofs.Callers.{Appends_keeps, Appends_written, begins, stop
 use Rattle.tinyjson.specs.Tree.{Tree}
 use Rattle.tinyjson.specs.Written.{Written, WrittenPart}
 use Rattle.tinyjson_lines.specs.Line.{line_of}
+use Rattle.tinyjson_schema.specs.declared.violation.Violation.{Violation}
 use Rattle.json_schema.specs.Report.{report_tree}
 use Rattle.json_schema.specs.Run.{Handles}
 use Rattle.json_schema.specs.Told.{told_line}
@@ -17,7 +18,6 @@ use Rattle.json_schema.specs.declared.lines.Outcome.{Outcome}
 use Rattle.json_schema.specs.declared.lines.Outcome.TheVariants.{SomeRefused}
 use Rattle.json_schema.specs.declared.verdict.Cause.{Cause}
 use Rattle.json_schema.specs.declared.verdict.Verdict.TheVariants.{Invalid, Refused}
-use Rattle.json_schema.specs.declared.violation.Violation.{Violation}
 
 module _ (s : Tree) (n : ℕ) (line : List ℕ) (held told : Option (List ℕ)) where
   -- the exit of a `?`

@@ -6,7 +6,7 @@ use Rattle.tinyjson.specs.Tree.{Tree, boolean, number, string, object, Members, 
 use Rattle.tinyjson_pointer.specs.Text.{pointer_text}
 use Rattle.tinyjson_pointer.specs.Tokens.{tokens_of}
 use Rattle.tinyjson_pointer.specs.declared.pointer.Pointer.{Pointer}
-use Rattle.json_schema.specs.declared.violation.Violation.{Violation}
+use Rattle.tinyjson_schema.specs.declared.violation.Violation.{Violation}
 
 abbrev pub place_tree : Pointer → Tree
 place_tree p = string (pointer_text (tokens_of p))

@@ -8,11 +8,11 @@ use Rattle.tinyjson.specs.Parser.{ParsesText}
 use Rattle.tinyjson.specs.Tree.{Tree}
 use Rattle.tinyjson.specs.declared.parser.error.JsonParseError.{JsonParseError}
 use Rattle.tinyjson_lines.specs.Lines.{content}
-use Rattle.json_schema.specs.Valid.{Validates}
+use Rattle.tinyjson_schema_keywords.specs.declared.walk.CheckError.TheVariants as check
+use Rattle.tinyjson_schema.specs.Valid.{Validates}
 use Rattle.json_schema.specs.declared.verdict.Cause.TheVariants as cause
 use Rattle.json_schema.specs.declared.verdict.Verdict.{Verdict}
 use Rattle.json_schema.specs.declared.verdict.Verdict.TheVariants.{Valid, Invalid, Refused}
-use Rattle.json_schema.specs.declared.walk.CheckError.TheVariants as check
 
 -- how many containers may be open at once, and how many schemas may be applied in one another
 abbrev pub depth_limit : Option ℕ

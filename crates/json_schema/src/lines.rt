@@ -1,15 +1,15 @@
 //! The check of each line of an input.
 ghost use Rattle.std.specs.Prelude.{◌≡◌};
-ghost use Rattle.json_schema.specs.Reading.{tree_of};
+ghost use Rattle.tinyjson_schema.specs.Reading.{tree_of};
 ghost use Rattle.json_schema.specs.Run.{Runs, Handles, both, status};
 
 use crate::refusal::{Refusal, tell};
 use crate::report::write_report;
-use crate::schema::Schema;
 use crate::verdict::{Verdict, check_line};
 use std::alloc::Global;
 use std::io::{self, BufRead, ErrorKind, Write};
 use tinyjson_lines::read_line;
+use tinyjson_schema::Schema;
 
 /// What became of the texts that were checked.
 #[derive(Clone, Copy)]

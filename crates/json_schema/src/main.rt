@@ -10,52 +10,28 @@
 //! keywords are told on standard error, and lines that can't be checked.
 #![tactic(auto)]
 
-mod anchor;
-mod applied;
-mod assertions;
-mod bundle;
-mod circles;
-mod contains;
-mod copies;
-mod document;
 mod failure;
-mod form;
-mod guide;
-mod keyword;
 mod lines;
-mod mark;
-mod multiple;
 mod options;
-mod part;
-mod pattern;
-mod place;
-mod reference;
 mod refusal;
-mod refused;
 mod report;
-mod schema;
-mod scope;
 mod shown;
-mod unique;
 mod unknown;
-mod validate;
 mod verdict;
-mod violation;
-mod walk;
 
-use bundle::bundled;
 use failure::{Failure, input_error, schema_file_error, schema_text_error};
 use lines::{Outcome, check_lines};
 use options::{Request, asked};
 use report::write_report;
-use schema::{Schema, SchemaError};
 use std::alloc::Global;
 use std::env::{self, Env};
 use std::fs::{self, Files};
 use std::io::{self, BufReader, BufWriter, ErrorKind, Write};
 use std::process::ExitCode;
 use tinyjson::JsonValue;
-use unknown::{tell_words, unknown_words};
+use tinyjson_schema::{Schema, SchemaError, unknown_words};
+use tinyjson_schema_bundle::bundled;
+use unknown::tell_words;
 use verdict::{DEPTH_LIMIT, Verdict, check_text};
 
 fn main(rt: HostRuntime) -> ExitCode {

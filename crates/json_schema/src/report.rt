@@ -7,13 +7,13 @@ ghost use Rattle.tinyjson.specs.Written.{WritesPrefix};
 ghost use Rattle.tinyjson_lines.specs.Line.{line_of};
 ghost use Rattle.json_schema.specs.Report.{report_tree, place_tree, with_line};
 
-use crate::violation::Violation;
 use std::alloc::{AllocError, Global};
 use std::collections::HashMap;
 use std::io::{self, Write};
 use tinyjson::{JsonNumber, JsonValue, insert_member};
 use tinyjson_lines::write_line;
 use tinyjson_pointer::Pointer;
+use tinyjson_schema::Violation;
 
 /// Writes an output unit (Core, 12.4.2) as one line in normal form, with the number of the value's line if it
 /// has one.

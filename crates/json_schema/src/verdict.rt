@@ -2,16 +2,14 @@
 ghost use Rattle.std.specs.Prelude.{IfOk};
 ghost use Rattle.std.specs.Str.{chars};
 ghost use Rattle.tinyjson.specs.View.{view};
-ghost use Rattle.json_schema.specs.Reading.{tree_of};
+ghost use Rattle.tinyjson_schema.specs.Reading.{tree_of};
 ghost use Rattle.json_schema.specs.Verdicts.{ValueGives, TextGives, LineGives};
 
-use crate::schema::Schema;
-use crate::violation::Violation;
-use crate::walk::CheckError;
 use std::alloc::{AllocError, Global};
 use std::str;
 use tinyjson::{JsonParseError, JsonValue};
 use tinyjson_lines::content;
+use tinyjson_schema::{CheckError, Schema, Violation};
 
 /// How many containers of a schema or a value may be open at once: the check takes stack as they are deep.
 pub const DEPTH_LIMIT: usize = 100;

@@ -2,10 +2,10 @@ use Rattle.std.proofs.Common.{◌∷◌, [], Ok, sym, subst}
 use Rattle.std.proofs.KnownBytes.{Keeps-refl}
 use Rattle.tinyjson_lines.proofs.Callers as run
 use Rattle.tinyjson_lines.specs.Lines.{LinesRead, AllRead, ReadsLine}
+use Rattle.tinyjson_schema.specs.Reading.{tree_of}
 use Rattle.json_schema.specs.Run.{report_of, telling_of}
 use Rattle.json_schema.specs.Verdicts.{LineGives}
 use Rattle.json_schema.proofs.Running.{begun, stopped, ended, next, failed}
-use Rattle.json_schema.specs.Reading.{tree_of}
 use Rattle.json_schema.proofs.lines.check_lines.Goals as goal
 
 pub loop-number-init : goal.loop-number-init

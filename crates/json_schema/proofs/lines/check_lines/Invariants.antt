@@ -1,5 +1,5 @@
+use Rattle.tinyjson_schema.specs.Reading.{tree_of}
 use Rattle.json_schema.proofs.Running.{Progress}
-use Rattle.json_schema.specs.Reading.{tree_of}
 use Rattle.json_schema.proofs.lines.check_lines.Given as goal
 
 abbrev pub invariant-loop-number : goal.invariant-loop-number

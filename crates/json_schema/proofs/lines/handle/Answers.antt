@@ -1,8 +1,8 @@
 use Rattle.std.proofs.Common.{subst}
 use Rattle.std.proofs.KnownBytes.{Keeps-refl}
+use Rattle.tinyjson_schema.specs.Reading.{tree_of}
 use Rattle.json_schema.specs.Verdicts.{LineGives}
 use Rattle.json_schema.proofs.Handling.{unhandled, report_failed, line_told, telling_failed}
-use Rattle.json_schema.specs.Reading.{tree_of}
 use Rattle.json_schema.proofs.lines.handle.Goals as goal
 
 pub returns-in_err-check_line : goal.returns-in_err-check_line

@@ -1,6 +1,0 @@
-use Rattle.std.proofs.Common.{◌≡◌, drop}
-use Rattle.json_schema.specs.Anchors.{anchored, all_named}
-use Rattle.json_schema.proofs.anchor.anchored.Given as goal
-
-abbrev pub invariant-loop-anchor : goal.invariant-loop-anchor
-invariant-loop-anchor l = anchored (all_named (drop l.anchor-index l.anchors)) l.name ≡ anchored (all_named l.anchors) l.name

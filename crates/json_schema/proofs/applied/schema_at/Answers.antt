@@ -1,7 +1,0 @@
-use Rattle.std.proofs.Common.{sym}
-use Rattle.tinyjson.specs.View.{view}
-use Rattle.json_schema.proofs.Lookups.{at_name}
-use Rattle.json_schema.proofs.applied.schema_at.Goals as goal
-
-pub returns : goal.returns
-returns c = sym (at_name _ (view c.args.schema.now) c.args.keyword c.name.result.now c.operand.ensures c.name.ensures)

@@ -1,6 +1,0 @@
-use Rattle.json_schema.proofs.Lookups.{keyword_found}
-use Rattle.json_schema.proofs.assertions.operand.Goals as goal
-
-pub returns-in-Object : goal.returns-in-Object
-returns-in-Object c = keyword_found c.args.schema.now c.in-Object.keywords c.args.name.now c.get.result c.in-Object.is c.utf8.name
-    c.get.ensures.value

@@ -1,6 +1,0 @@
-use Rattle.std.proofs.Common.{◌≡◌, string_bytes}
-use Rattle.json_schema.specs.Scopes.{letters_above}
-use Rattle.json_schema.proofs.copies.letters_above.Given as goal
-
-abbrev pub invariant-loop : goal.invariant-loop
-invariant-loop l = string_bytes l.letters ≡ letters_above l.counter

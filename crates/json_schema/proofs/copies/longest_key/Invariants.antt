@@ -1,7 +1,0 @@
-use Rattle.std.proofs.Common.{◌≡◌, drop}
-use Rattle.tinyjson.specs.View.{members_listed}
-use Rattle.json_schema.specs.Scopes.{longest}
-use Rattle.json_schema.proofs.copies.longest_key.Given as goal
-
-abbrev pub invariant-loop-member : goal.invariant-loop-member
-invariant-loop-member l = longest (members_listed (drop l.member-index l.members)) l.most ≡ longest (members_listed l.members) 0

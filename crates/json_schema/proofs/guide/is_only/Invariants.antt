@@ -1,6 +1,0 @@
-use Rattle.std.proofs.Common.{◌≡◌, drop}
-use Rattle.json_schema.specs.Bundles.{is_only, all_marked}
-use Rattle.json_schema.proofs.guide.is_only.Given as goal
-
-abbrev pub invariant-loop-mark : goal.invariant-loop-mark
-invariant-loop-mark l = is_only (all_marked (drop l.mark-index l.marks)) l.name l.place ≡ is_only (all_marked l.marks) l.name l.place

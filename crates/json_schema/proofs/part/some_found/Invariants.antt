@@ -1,9 +1,0 @@
-use Rattle.std.proofs.Common.{◌≡◌, drop}
-use Rattle.std.specs.Str.{chars}
-use Rattle.tinyjson.specs.View.{members_listed}
-use Rattle.json_schema.specs.Parts.{some_found}
-use Rattle.json_schema.proofs.part.some_found.Given as goal
-
-abbrev pub invariant-loop-pattern : goal.invariant-loop-pattern
-invariant-loop-pattern l = some_found (members_listed (drop l.pattern-index l.patterns)) (chars l.key)
-    ≡ some_found (members_listed l.patterns) (chars l.key)

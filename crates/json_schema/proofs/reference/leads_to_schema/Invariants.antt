@@ -1,8 +1,0 @@
-use Rattle.std.proofs.Common.{◌≡◌, drop, map}
-use Rattle.tinyjson.specs.View.{text}
-use Rattle.json_schema.specs.References.{form_after}
-use Rattle.json_schema.specs.declared.form.Form.TheVariants as form
-use Rattle.json_schema.proofs.reference.leads_to_schema.Given as goal
-
-abbrev pub invariant-loop-token : goal.invariant-loop-token
-invariant-loop-token l = form_after l.form (map text (drop l.token-index l.tokens)) ≡ form_after form.Schema (map text l.tokens)

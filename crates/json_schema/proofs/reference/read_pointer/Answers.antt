@@ -1,6 +1,0 @@
-use Rattle.std.specs.Str.{chars}
-use Rattle.json_schema.proofs.References.{read_tokens}
-use Rattle.json_schema.proofs.reference.read_pointer.Goals as goal
-
-pub returns-in-Ok : goal.returns-in-Ok
-returns-in-Ok c = read_tokens (chars c.args.text.now) c.in-Ok.pointer c.in-Ok.ensures

@@ -1,8 +1,0 @@
-use Rattle.std.proofs.Common.{◌≡◌, drop, length}
-use Rattle.json_schema.specs.Bundles.{all_marked}
-use Rattle.json_schema.specs.Scopes.{is_same}
-use Rattle.json_schema.proofs.scope.is_same.Given as goal
-
-abbrev pub invariant-loop-index : goal.invariant-loop-index
-invariant-loop-index l = (length l.scope ≡ length l.other)
-    × (is_same (all_marked (drop l.index l.scope)) (all_marked (drop l.index l.other)) ≡ is_same (all_marked l.scope) (all_marked l.other))

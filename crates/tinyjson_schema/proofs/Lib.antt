@@ -1,0 +1,10 @@
+pub mod Forms
+pub mod Loops
+pub mod Operands
+pub mod Parts
+pub mod Patterns
+pub mod Places
+pub mod Refusals
+pub mod Settling
+pub mod Sourcing
+pub mod Validity

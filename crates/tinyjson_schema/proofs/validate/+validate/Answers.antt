@@ -1,0 +1,1202 @@
+use Rattle.std.proofs.Common.{◌≡◌, ◌==◌, ◌<◌, ◌≤◌, ◌+◌, ◌*◌, ◌∙◌, ◌∷◌, ◌++◌, [], not, ◌&&◌, ◌||◌, Bool, true, false, Ok}
+use Rattle.std.proofs.Common.{Some, None, drop, is_some, option_map, suc, arith, rules, refl}
+use Rattle.std.proofs.Common.{sym, ap, ap₂, subst, cond}
+use Rattle.std.proofs.lemmas.Bool.{or_left, or_right}
+use Rattle.std.specs.Option.{option_map_or}
+use Rattle.std.specs.Prelude.{option_and_then}
+use Rattle.std.specs.Str.{chars}
+use Rattle.tinyjson.proofs.Callers.{view_Object, view_Array}
+use Rattle.tinyjson.specs.Index.{nth, tree_at_key}
+use Rattle.tinyjson.specs.Tree.{object, array, find}
+use Rattle.tinyjson.specs.View.{view, text, items_view, members_view, members_listed}
+use Rattle.tinyjson.specs.Soundness.{IsSorted}
+use Rattle.tinyjson_pointer.specs.Index.{index_of}
+use Rattle.tinyjson_pointer.specs.Tokens.{tokens_of}
+use Rattle.tinyjson_pointer.specs.Walk.{item_of}
+use Rattle.i_regexp.specs.PatternDeciding.{is_found}
+use Rattle.tinyjson_schema_keywords.specs.Applied.{schema_at, schemas_at, schema_map_at, members_in}
+use Rattle.tinyjson_schema_keywords.specs.declared.keyword.Keyword.TheVariants as kw
+use Rattle.tinyjson_schema_keywords.proofs.Callers.{listed_found, listed_sorted, turn_next, turn_stop, turn_end, count_next, count_end}
+use Rattle.tinyjson_schema_keywords.proofs.Callers.{nth_item}
+use Rattle.tinyjson_schema.specs.Applicators.{all_accept, dependents_accept, members_accepted, items_accepted, found_pass, patterns_accept}
+use Rattle.tinyjson_schema.specs.Applicators.{applies, parts_accepted, tests, contains_some, contains_at_most, contains_at_least, any_of}
+use Rattle.tinyjson_schema.specs.Applicators.{one_of, branch_accepts, some_accepts, accepting, keys_pass, passing, items_passing}
+use Rattle.tinyjson_schema.specs.Evaluated.{Answers, Child, member_at, item_at, value_of, others_evaluate, rest_accepted, members_pass}
+use Rattle.tinyjson_schema.specs.Evaluated.{some_evaluate, accepting_evaluate, branch_evaluates, dependents_evaluate, target_evaluates}
+use Rattle.tinyjson_schema.specs.Assertions.{IsUnmet}
+use Rattle.tinyjson_schema.specs.Parts.{item_schema}
+use Rattle.tinyjson_schema.specs.Places.{IsMemberPart, IsUnderKey, IsWithin, Enters, place}
+use Rattle.tinyjson_schema.specs.Sources.{sources_evaluate, AreWithin}
+use Rattle.tinyjson_schema.specs.Valid.{answers_in, FindsRest, reference_accepts, target_accepts, says, Judges, Finds, IsUnapplied, refused}
+use Rattle.tinyjson_schema.specs.Valid.{unmet, not_applied, in_all_of, in_dependent, in_patterned, in_reference, in_part, IsInvalidAt}
+use Rattle.tinyjson_schema.specs.Valid.{FindsFound}
+use Rattle.tinyjson_schema.specs.declared.validate.unevaluated.Source.{Source}
+use Rattle.tinyjson_schema.proofs.Loops.{items_turn, items_end, item_passes, item_free, members_turn, member_passes, member_free}
+use Rattle.tinyjson_schema.proofs.Loops.{dependents_turn, dependent_passes, dependent_free, no_parts, found_holds, not_found, found_turn}
+use Rattle.tinyjson_schema.proofs.Sourcing.{adds_none, adds_both, adds_as, adds_turn, adds_end, within_pushed, within_at, schema_added}
+use Rattle.tinyjson_schema.proofs.Sourcing.{inner_added, asking_added, branch_none, branch_some, no_branch_added, target_added}
+use Rattle.tinyjson_schema.proofs.Sourcing.{no_target_added, left_turn, left_end, no_member_rest, no_item_rest, members_found, items_found}
+use Rattle.tinyjson_schema.proofs.Sourcing.{evaluated_by, item_applied}
+use Rattle.tinyjson_schema.proofs.Validity.{reported, verdict, placed, last_tested, last_found, before, no_branch, branch_met, branch_place}
+use Rattle.tinyjson_schema.proofs.Validity.{reference_met, no_reference, both_met}
+use Rattle.tinyjson_schema.proofs.validate.+validate.Goals.{in_dependents-then-has_key+in_ok-found+in_default, in_dependents-else-has_key}
+use Rattle.tinyjson_schema.proofs.validate.+validate.Goals.{in_found-then-is_found+in_ok-found+in_default, in_found-else-is_found}
+use Rattle.tinyjson_schema.proofs.validate.+validate.Goals.{in_members-in-Some+in_ok-found+in_default-2, in_members-in_default}
+use Rattle.tinyjson_schema.proofs.validate.+validate.Goals.{tested::count_accepting-then-accepted, tested::count_accepting-else-accepted}
+use Rattle.tinyjson_schema.proofs.validate.+validate.Goals.{tested::count_passing-then-accepted, tested::count_passing-else-accepted}
+use Rattle.tinyjson_schema.proofs.validate.+validate.Goals.{in_items-in-Some+in_ok-found+in_default-2, in_items-in_default}
+use Rattle.tinyjson_schema.proofs.validate.+validate.Goals.{unevaluated::in_members_left-then-not-evaluated+in_ok-found+in_default}
+use Rattle.tinyjson_schema.proofs.validate.+validate.Goals.{unevaluated::in_members_left-else-not-evaluated}
+use Rattle.tinyjson_schema.proofs.validate.+validate.Goals.{unevaluated::in_items_left-then-not-evaluated+in_ok-found+in_default}
+use Rattle.tinyjson_schema.proofs.validate.+validate.Goals.{unevaluated::in_items_left-else-not-evaluated}
+use Rattle.tinyjson_schema.proofs.validate.+validate.Goals as goal
+
+-- ---- each step takes one of the walk's
+
+pub violation_in-unmet_test-requires : goal.violation_in-unmet_test-requires
+violation_in-unmet_test-requires t c =
+    let fewer : 16 * c.in_ok-inner.inner.steps + 15 < 16 * c.args.walk.steps + 7 = omega (arith, c.in_ok-inner.ensures.1) in
+    search rules
+
+pub violation_in-in_all_of-requires : goal.violation_in-in_all_of-requires
+violation_in-in_all_of-requires t c =
+    let fewer : 16 * c.in_ok-inner.inner.steps + 10 < 16 * c.args.walk.steps + 7 = omega (arith, c.in_ok-inner.ensures.1) in
+    search rules
+
+pub violation_in-in_branch-requires : goal.violation_in-in_branch-requires
+violation_in-in_branch-requires t c =
+    let fewer : 16 * c.in_ok-inner.inner.steps + 10 < 16 * c.args.walk.steps + 7 = omega (arith, c.in_ok-inner.ensures.1) in
+    search rules
+
+pub violation_in-in_dependents-requires : goal.violation_in-in_dependents-requires
+violation_in-in_dependents-requires t c =
+    let fewer : 16 * c.in_ok-inner.inner.steps + 10 < 16 * c.args.walk.steps + 7 = omega (arith, c.in_ok-inner.ensures.1) in
+    search rules
+
+pub violation_in-in_patterned-requires : goal.violation_in-in_patterned-requires
+violation_in-in_patterned-requires t c =
+    let fewer : 16 * c.in_ok-inner.inner.steps + 10 < 16 * c.args.walk.steps + 7 = omega (arith, c.in_ok-inner.ensures.1) in
+    search rules
+
+pub violation_in-in_reference-requires : goal.violation_in-in_reference-requires
+violation_in-in_reference-requires t c =
+    let fewer : 16 * c.in_ok-inner.inner.steps + 11 < 16 * c.args.walk.steps + 7 = omega (arith, c.in_ok-inner.ensures.1) in
+    search rules
+
+pub violation_in-in_parts-requires : goal.violation_in-in_parts-requires
+violation_in-in_parts-requires t c =
+    let fewer : 16 * c.in_ok-inner.inner.steps + 12 < 16 * c.args.walk.steps + 7 = omega (arith, c.in_ok-inner.ensures.1) in
+    search rules
+
+pub violation_in-in_rest-requires : goal.violation_in-in_rest-requires
+violation_in-in_rest-requires t c =
+    let fewer : 16 * c.in_ok-inner.inner.steps + 14 < 16 * c.args.walk.steps + 7 = omega (arith, c.in_ok-inner.ensures.1) in
+    search rules
+
+pub unevaluated::add_schema-add_inner-requires : goal.unevaluated::add_schema-add_inner-requires
+unevaluated::add_schema-add_inner-requires t c =
+    let fewer : 16 * c.in_ok-inner.inner.steps + 12 < 16 * c.args.walk.steps + 7 = omega (arith, c.in_ok-inner.ensures.1) in
+    search rules
+
+-- ---- the whole check
+
+pub violation_in-returns-then-refuses_all : goal.violation_in-returns-then-refuses_all
+violation_in-returns-then-refuses_all t c =
+    let inner = c.in_ok-inner.inner in
+    let s = view c.args.schema.now in
+    let v = view c.args.value.now in
+    before c.args.walk inner c.in_ok-inner.ensures s v (Ok (Some c.of_schema.result))
+    (reported (view inner.whole.now.root.now) (suc inner.steps) s v c.of_schema.result _ _ c.of_schema.ensures
+    (refused (sym c.refuses_all.ensures ∙ c.if-refuses_all.true)))
+
+pub violation_in-returns-in-Some : goal.violation_in-returns-in-Some
+violation_in-returns-in-Some t c =
+    let inner = c.in_ok-inner.inner in
+    let s = view c.args.schema.now in
+    let v = view c.args.value.now in
+    before c.args.walk inner c.in_ok-inner.ensures s v (Ok (Some c.in_ok-of_keyword.field-0))
+    (reported (view inner.whole.now.root.now) (suc inner.steps) s v c.in_ok-of_keyword.field-0 _ _ c.in_ok-of_keyword.ensures
+    (unmet c.in-Some.keyword (subst (λ o. IsUnmet s v o) c.in-Some.is c.in_ok-keyword.ensures)))
+
+pub violation_in-returns-in-Some-2 : goal.violation_in-returns-in-Some-2
+violation_in-returns-in-Some-2 t c =
+    let inner = c.in_ok-inner.inner in
+    let s = view c.args.schema.now in
+    let v = view c.args.value.now in
+    before c.args.walk inner c.in_ok-inner.ensures s v (Ok (Some c.in_ok-of_keyword-2.field-0))
+    (reported (view inner.whole.now.root.now) (suc inner.steps) s v c.in_ok-of_keyword-2.field-0 _ _ c.in_ok-of_keyword-2.ensures
+    (not_applied c.in-Some-2.keyword (subst (λ o. IsUnapplied inner tests s v o) c.in-Some-2.is c.in_ok-keyword-2.ensures)))
+
+pub violation_in-returns-in-Some-3 : goal.violation_in-returns-in-Some-3
+violation_in-returns-in-Some-3 t c =
+    let inner = c.in_ok-inner.inner in
+    let s = view c.args.schema.now in
+    let v = view c.args.value.now in
+    before c.args.walk inner c.in_ok-inner.ensures s v (Ok (Some c.in-Some-3.found))
+    (subst (λ o. Finds inner (λ f. applies f kw.AllOf s v) s v (Ok o)) c.in-Some-3.is c.in_ok-found.ensures)
+
+pub violation_in-returns-in-Some-4 : goal.violation_in-returns-in-Some-4
+violation_in-returns-in-Some-4 t c =
+    let inner = c.in_ok-inner.inner in
+    let s = view c.args.schema.now in
+    let v = view c.args.value.now in
+    before c.args.walk inner c.in_ok-inner.ensures s v (Ok (Some c.in-Some-4.found))
+    (subst (λ o. Finds inner (λ f. applies f kw.If s v) s v (Ok o)) c.in-Some-4.is c.in_ok-found-2.ensures)
+
+pub violation_in-returns-in-Some-5 : goal.violation_in-returns-in-Some-5
+violation_in-returns-in-Some-5 t c =
+    let inner = c.in_ok-inner.inner in
+    let s = view c.args.schema.now in
+    let v = view c.args.value.now in
+    before c.args.walk inner c.in_ok-inner.ensures s v (Ok (Some c.in-Some-5.found))
+    (subst (λ o. Finds inner (λ f. applies f kw.DependentSchemas s v) s v (Ok o)) c.in-Some-5.is c.in_ok-found-3.ensures)
+
+pub violation_in-returns-in-Some-6 : goal.violation_in-returns-in-Some-6
+violation_in-returns-in-Some-6 t c =
+    let inner = c.in_ok-inner.inner in
+    let s = view c.args.schema.now in
+    let v = view c.args.value.now in
+    before c.args.walk inner c.in_ok-inner.ensures s v (Ok (Some c.in-Some-6.found))
+    (subst (λ o. Finds inner (λ f. applies f kw.PatternProperties s v) s v (Ok o)) c.in-Some-6.is c.in_ok-found-4.ensures)
+
+pub violation_in-returns-in-Some-7 : goal.violation_in-returns-in-Some-7
+violation_in-returns-in-Some-7 t c =
+    let inner = c.in_ok-inner.inner in
+    let s = view c.args.schema.now in
+    let v = view c.args.value.now in
+    before c.args.walk inner c.in_ok-inner.ensures s v (Ok (Some c.in-Some-7.found))
+    (subst (λ o. Finds inner (λ f. reference_accepts (view inner.whole.now.root.now) f s v) s v (Ok o)) c.in-Some-7.is
+    c.in_ok-found-5.ensures)
+
+pub violation_in-returns-in-Some-8 : goal.violation_in-returns-in-Some-8
+violation_in-returns-in-Some-8 t c =
+    let inner = c.in_ok-inner.inner in
+    let s = view c.args.schema.now in
+    let v = view c.args.value.now in
+    before c.args.walk inner c.in_ok-inner.ensures s v (Ok (Some c.in-Some-8.found))
+    (subst (λ o. Finds inner (λ f. parts_accepted f s v) s v (Ok o)) c.in-Some-8.is c.in_ok-found-6.ensures)
+
+pub violation_in-returns : goal.violation_in-returns
+violation_in-returns t c =
+    let inner = c.in_ok-inner.inner in
+    let s = view c.args.schema.now in
+    let v = view c.args.value.now in
+    before c.args.walk inner c.in_ok-inner.ensures s v c.in_rest.result
+    (last_found inner s v c.in_rest.result (sym c.refuses_all.ensures ∙ c.if-refuses_all.false)
+    (subst (λ o. IsUnmet s v o) c.in_default.is c.in_ok-keyword.ensures)
+    (subst (λ o. IsUnapplied inner tests s v o) c.in_default-2.is c.in_ok-keyword-2.ensures)
+    (subst (λ o. Finds inner (λ f. applies f kw.AllOf s v) s v (Ok o)) c.in_default-3.is c.in_ok-found.ensures)
+    (subst (λ o. Finds inner (λ f. applies f kw.If s v) s v (Ok o)) c.in_default-4.is c.in_ok-found-2.ensures)
+    (subst (λ o. Finds inner (λ f. applies f kw.DependentSchemas s v) s v (Ok o)) c.in_default-5.is c.in_ok-found-3.ensures)
+    (subst (λ o. Finds inner (λ f. applies f kw.PatternProperties s v) s v (Ok o)) c.in_default-6.is c.in_ok-found-4.ensures)
+    (subst (λ o. Finds inner (λ f. reference_accepts (view inner.whole.now.root.now) f s v) s v (Ok o)) c.in_default-7.is
+    c.in_ok-found-5.ensures)
+    (subst (λ o. Finds inner (λ f. parts_accepted f s v) s v (Ok o)) c.in_default-8.is c.in_ok-found-6.ensures)
+    c.in_rest.ensures)
+
+pub is_accepted-returns : goal.is_accepted-returns
+is_accepted-returns t c g = c.is_nothing.ensures
+    ∙ verdict (view c.args.walk.whole.now.root.now) c.args.walk.steps (view c.args.schema.now) (view c.args.value.now) c.in_ok-found.found
+    c.in_ok-found.ensures g
+
+pub tested::unmet_test-returns-then-not-any : goal.tested::unmet_test-returns-then-not-any
+tested::unmet_test-returns-then-not-any t c g =
+    let f = says c.args.walk g in
+    let v = view c.args.value.now in
+    sym (c.in_ok-any.ensures g ∙ ap (λ rs. any_of f rs v) c.schemas_at.ensures) ∙ c.if-not-any.true
+
+pub tested::unmet_test-returns-then-not-one : goal.tested::unmet_test-returns-then-not-one
+tested::unmet_test-returns-then-not-one t c g =
+    let f = says c.args.walk g in
+    let v = view c.args.value.now in
+    sym (c.in_ok-one.ensures g ∙ ap (λ rs. one_of f rs v) c.schemas_at-2.ensures) ∙ c.if-not-one.true
+
+pub tested::unmet_test-returns-then-not-other : goal.tested::unmet_test-returns-then-not-other
+tested::unmet_test-returns-then-not-other t c g = sym (c.in_ok-other.ensures g) ∙ c.if-not-other.true
+
+pub tested::unmet_test-returns-then-not-names : goal.tested::unmet_test-returns-then-not-names
+tested::unmet_test-returns-then-not-names t c g = sym (c.in_ok-names.ensures g) ∙ c.if-not-names.true
+
+pub tested::unmet_test-returns : goal.tested::unmet_test-returns
+tested::unmet_test-returns t c =
+    let w = c.args.walk in
+    let s = view c.args.schema.now in
+    let v = view c.args.value.now in
+    last_tested w s v c.unmet_count.result (λ g. (
+      sym (c.in_ok-any.ensures g ∙ ap (λ rs. any_of (says w g) rs v) c.schemas_at.ensures) ∙ c.if-not-any.false,
+      sym (c.in_ok-one.ensures g ∙ ap (λ rs. one_of (says w g) rs v) c.schemas_at-2.ensures) ∙ c.if-not-one.false,
+      sym (c.in_ok-other.ensures g) ∙ c.if-not-other.false,
+      sym (c.in_ok-names.ensures g) ∙ c.if-not-names.false,
+    )) c.unmet_count.ensures
+
+pub tested::unmet_count-returns : goal.tested::unmet_count-returns
+tested::unmet_count-returns t c g =
+    let s = view c.args.schema.now in
+    let counted = c.in_ok-count.ensures g in
+    let some : contains_some c.in_ok-count.count s ≡ true = sym c.contains_some-some.ensures ∙ c.if-not-some.false in
+    let most : contains_at_most c.in_ok-count.count s ≡ true = sym c.in_ok-most.ensures ∙ c.if-not-most.false in
+    let least : contains_at_least c.in_ok-count.count s ≡ true = sym c.in_ok-least.ensures ∙ c.if-not-least.false in
+    let all : (contains_some c.in_ok-count.count s && (contains_at_most c.in_ok-count.count s
+    && (contains_at_least c.in_ok-count.count s && true))) ≡ true = λ i. some i && (most i && (least i && true)) in
+    ap (λ n. contains_some n s && (contains_at_most n s && (contains_at_least n s && true))) (sym counted) ∙ all
+
+-- ---- schemas and items that are counted
+
+pub tested::is_any_met-returns : goal.tested::is_any_met-returns
+tested::is_any_met-returns t c g =
+    let rs = items_view c.args.schemas.now in
+    c.in_ok-accepted.ensures g ∙ sym (ap (λ b. not b || some_accepts (says c.args.walk g) rs (view c.args.value.now))
+    (sym c.is_some_item.ensures ∙ c.if-not-is_some_item.false))
+
+pub tested::is_some_met-returns-then-accepted : goal.tested::is_some_met-returns-then-accepted
+tested::is_some_met-returns-then-accepted t c g =
+    let f = says c.args.walk g in
+    let v = view c.args.value.now in
+    let vs = c.args.schemas.now in
+    let i = c.loop-schema.schema-index in
+    turn_stop (λ xs. some_accepts f (items_view xs) v) vs i true c.schema-item.result c.loop-schema-test.true c.schema-item.is
+    (ap (λ b. b || some_accepts f (items_view (drop (i + 1) vs)) v) (sym (c.in_ok-accepted.ensures g) ∙ c.if-accepted.true))
+    (c.loop-schema.invariant g)
+
+pub tested::is_some_met-loop-schema-preserved : goal.tested::is_some_met-loop-schema-preserved
+tested::is_some_met-loop-schema-preserved t c g =
+    let f = says c.args.walk g in
+    let v = view c.args.value.now in
+    let vs = c.args.schemas.now in
+    let i = c.loop-schema.schema-index in
+    turn_next (λ xs. some_accepts f (items_view xs) v) vs i c.schema-item.result c.loop-schema-test.true c.schema-item.is
+    (ap (λ b. b || some_accepts f (items_view (drop (i + 1) vs)) v) (sym (c.in_ok-accepted.ensures g) ∙ c.if-accepted.false))
+    (c.loop-schema.invariant g)
+
+pub tested::is_some_met-returns : goal.tested::is_some_met-returns
+tested::is_some_met-returns t c g =
+    let v = view c.args.value.now in
+    sym (turn_end (λ xs. some_accepts (says c.args.walk g) (items_view xs) v) c.args.schemas.now c.loop-schema.schema-index false
+    c.loop-schema-test.false refl (c.loop-schema.invariant g))
+
+pub tested::is_one_met-returns : goal.tested::is_one_met-returns
+tested::is_one_met-returns t c g =
+    let rs = items_view c.args.schemas.now in
+    ap (λ n. n == 1) (c.in_ok-count.ensures g) ∙ sym (ap (λ b. not b || accepting (says c.args.walk g) rs (view c.args.value.now) == 1)
+    (sym c.is_some_item.ensures ∙ c.if-not-is_some_item.false))
+
+pub tested::count_accepting-loop-schema-preserved : goal.tested::count_accepting-loop-schema-preserved
+tested::count_accepting-loop-schema-preserved t c =
+    let v = view c.args.value.now in
+    let vs = c.args.schemas.now in
+    let i = c.loop-schema.schema-index in
+    let n = c.loop-schema.count in
+    let x = c.schema-item.result in
+    elim c.if-accepted.branch [
+      | tested::count_accepting-then-accepted w ↦ (
+        omega (arith, w.count-is, c.loop-schema.invariant.0),
+        λ g. count_next (λ xs. accepting (says c.args.walk g) (items_view xs) v) vs i n x 1 c.if-accepted.count c.loop-schema-test.true
+            c.schema-item.is (ap (λ b. cond b 1 0 + accepting (says c.args.walk g) (items_view (drop (i + 1) vs)) v)
+            (sym (c.in_ok-accepted.ensures g) ∙ w.if-accepted.true)) w.count-is (c.loop-schema.invariant.1 g),
+      )
+      | tested::count_accepting-else-accepted w ↦ (
+        omega (arith, w.count-is, c.loop-schema.invariant.0),
+        λ g. count_next (λ xs. accepting (says c.args.walk g) (items_view xs) v) vs i n x 0 c.if-accepted.count c.loop-schema-test.true
+            c.schema-item.is (ap (λ b. cond b 1 0 + accepting (says c.args.walk g) (items_view (drop (i + 1) vs)) v)
+            (sym (c.in_ok-accepted.ensures g) ∙ w.if-accepted.false)) (omega (arith, w.count-is)) (c.loop-schema.invariant.1 g),
+      )
+    ]
+
+pub tested::count_accepting-returns : goal.tested::count_accepting-returns
+tested::count_accepting-returns t c g =
+    let v = view c.args.value.now in
+    count_end (λ xs. accepting (says c.args.walk g) (items_view xs) v) c.args.schemas.now c.loop-schema.schema-index c.loop-schema.count
+    c.loop-schema-test.false refl (c.loop-schema.invariant.1 g)
+
+pub tested::are_names_met-returns-in_ok-accepted-in-Some : goal.tested::are_names_met-returns-in_ok-accepted-in-Some
+tested::are_names_met-returns-in_ok-accepted-in-Some t c g =
+    let f = says c.args.walk g in
+    let v = view c.args.value.now in
+    c.in_ok-accepted-in-Some.ensures g
+    ∙ (ap (keys_pass (f (view c.in-Some.part.now))) (ap members_listed c.as_slice.ensures.value ∙ c.in_ok-members-in-Some.ensures.listed)
+    ∙ ap (λ o. option_map_or (λ r. keys_pass (f r) (members_in v)) o true) c.in-Some.ensures)
+
+pub tested::are_keys_met-returns-then-not-accepted : goal.tested::are_keys_met-returns-then-not-accepted
+tested::are_keys_met-returns-then-not-accepted t c g =
+    let f = says c.args.walk g in
+    let s = view c.args.schema.now in
+    let ps = c.args.members.now in
+    let i = c.loop-key.key-index in
+    turn_stop (λ xs. keys_pass (f s) (members_listed xs)) ps i false c.loop-key-item.result c.loop-key-test.true c.loop-key-item.is
+    (ap (λ b. b && keys_pass (f s) (members_listed (drop (i + 1) ps)))
+    (ap (f s) (sym c.in_ok-name.ensures) ∙ (sym (c.in_ok-accepted.ensures g) ∙ c.if-not-accepted.true)))
+    (c.loop-key.invariant g)
+
+pub tested::are_keys_met-loop-key-preserved : goal.tested::are_keys_met-loop-key-preserved
+tested::are_keys_met-loop-key-preserved t c g =
+    let f = says c.args.walk g in
+    let s = view c.args.schema.now in
+    let ps = c.args.members.now in
+    let i = c.loop-key.key-index in
+    turn_next (λ xs. keys_pass (f s) (members_listed xs)) ps i c.loop-key-item.result c.loop-key-test.true c.loop-key-item.is
+    (ap (λ b. b && keys_pass (f s) (members_listed (drop (i + 1) ps)))
+    (ap (f s) (sym c.in_ok-name.ensures) ∙ (sym (c.in_ok-accepted.ensures g) ∙ c.if-not-accepted.false)))
+    (c.loop-key.invariant g)
+
+pub tested::are_keys_met-returns : goal.tested::are_keys_met-returns
+tested::are_keys_met-returns t c g =
+    let s = view c.args.schema.now in
+    sym (turn_end (λ xs. keys_pass (says c.args.walk g s) (members_listed xs)) c.args.members.now c.loop-key.key-index true
+    c.loop-key-test.false refl (c.loop-key.invariant g))
+
+pub tested::contained-returns-in_ok-count-in-Array : goal.tested::contained-returns-in_ok-count-in-Array
+tested::contained-returns-in_ok-count-in-Array t c g =
+    let f = says c.args.walk g in
+    let v = view c.args.value.now in
+    let same : array (items_view c.as_slice.result.now) ≡ v
+    = ap (λ xs. array (items_view xs)) c.as_slice.ensures.value ∙ sym (ap view c.in-Array.is ∙ view_Array c.in-Array.items) in
+    ap Some (c.in_ok-count-in-Array.ensures g) ∙ (ap (items_passing (f (view c.in-Some.part.now))) same
+    ∙ ap (option_and_then (λ r. items_passing (f r) v)) c.in-Some.ensures)
+
+pub tested::count_passing-loop-item-preserved : goal.tested::count_passing-loop-item-preserved
+tested::count_passing-loop-item-preserved t c =
+    let s = view c.args.schema.now in
+    let vs = c.args.items.now in
+    let i = c.loop-item.item-index in
+    let n = c.loop-item.count in
+    let x = c.item-item.result in
+    elim c.if-accepted.branch [
+      | tested::count_passing-then-accepted w ↦ (
+        omega (arith, w.count-is, c.loop-item.invariant.0),
+        λ g. count_next (λ xs. passing (says c.args.walk g s) (items_view xs)) vs i n x 1 c.if-accepted.count c.loop-item-test.true
+            c.item-item.is (ap (λ b. cond b 1 0 + passing (says c.args.walk g s) (items_view (drop (i + 1) vs)))
+            (sym (c.in_ok-accepted.ensures g) ∙ w.if-accepted.true)) w.count-is (c.loop-item.invariant.1 g),
+      )
+      | tested::count_passing-else-accepted w ↦ (
+        omega (arith, w.count-is, c.loop-item.invariant.0),
+        λ g. count_next (λ xs. passing (says c.args.walk g s) (items_view xs)) vs i n x 0 c.if-accepted.count c.loop-item-test.true
+            c.item-item.is (ap (λ b. cond b 1 0 + passing (says c.args.walk g s) (items_view (drop (i + 1) vs)))
+            (sym (c.in_ok-accepted.ensures g) ∙ w.if-accepted.false)) (omega (arith, w.count-is)) (c.loop-item.invariant.1 g),
+      )
+    ]
+
+pub tested::count_passing-returns : goal.tested::count_passing-returns
+tested::count_passing-returns t c g =
+    let s = view c.args.schema.now in
+    count_end (λ xs. passing (says c.args.walk g s) (items_view xs)) c.args.items.now c.loop-item.item-index c.loop-item.count
+    c.loop-item-test.false refl (c.loop-item.invariant.1 g)
+
+pub tested::unmet_count-returns-then-not-some : goal.tested::unmet_count-returns-then-not-some
+tested::unmet_count-returns-then-not-some t c g =
+    let s = view c.args.schema.now in
+    ap (λ n. contains_some n s) (sym (c.in_ok-count.ensures g)) ∙ (sym c.contains_some-some.ensures ∙ c.if-not-some.true)
+
+pub tested::unmet_count-returns-then-not-most : goal.tested::unmet_count-returns-then-not-most
+tested::unmet_count-returns-then-not-most t c g =
+    let s = view c.args.schema.now in
+    ap (λ n. contains_at_most n s) (sym (c.in_ok-count.ensures g)) ∙ (sym c.in_ok-most.ensures ∙ c.if-not-most.true)
+
+pub tested::unmet_count-returns-then-not-least : goal.tested::unmet_count-returns-then-not-least
+tested::unmet_count-returns-then-not-least t c g =
+    let s = view c.args.schema.now in
+    ap (λ n. contains_at_least n s) (sym (c.in_ok-count.ensures g)) ∙ (sym c.in_ok-least.ensures ∙ c.if-not-least.true)
+
+-- ---- where a schema in this one is not met
+
+pub in_all_of-returns-in-Some : goal.in_all_of-returns-in-Some
+in_all_of-returns-in-Some t c =
+    let s = view c.args.schema.now in
+    let v = view c.args.value.now in
+    let vs = c.schemas_at-parts.result.now in
+    let i = c.loop-index.index in
+    let x = c.index-parts-index.result in
+    let old = c.in-Some.found in
+    let inner = subst (λ o. Judges c.args.walk (view x) v (Ok o)) c.in-Some.is c.in_ok-found.ensures in
+    let entered = c.in_ok-enter_listed.ensures in
+    let at : nth (schemas_at s kw.AllOf) i ≡ Some (view x)
+    = ap (λ ts. nth ts i) (sym c.schemas_at-parts.ensures) ∙ nth_item vs i x c.loop-index-test.true c.index-parts-index.is in
+    placed c.args.walk (λ f. applies f kw.AllOf s v) s v c.enter_listed.new.self _ _ entered.entered
+    (in_all_of {k = entered.token} (ap (item_of (schemas_at s kw.AllOf)) entered.named ∙ at) inner)
+
+pub in_all_of-loop-index-preserved : goal.in_all_of-loop-index-preserved
+in_all_of-loop-index-preserved t c g =
+    let v = view c.args.value.now in
+    let vs = c.schemas_at-parts.result.now in
+    let i = c.loop-index.index in
+    let x = c.index-parts-index.result in
+    let f = says c.args.walk g in
+    let good = subst (λ o. Judges c.args.walk (view x) v (Ok o)) c.in_default.is c.in_ok-found.ensures in
+    turn_next (λ xs. all_accept f (items_view xs) v) vs i x c.loop-index-test.true c.index-parts-index.is
+    (ap (λ b. b && all_accept f (items_view (drop (i + 1) vs)) v) (good g)) (c.loop-index.invariant g)
+
+pub in_all_of-returns : goal.in_all_of-returns
+in_all_of-returns t c g =
+    let f = says c.args.walk g in
+    let v = view c.args.value.now in
+    ap (λ rs. all_accept f rs v) (sym c.schemas_at-parts.ensures)
+    ∙ turn_end (λ xs. all_accept f (items_view xs) v) c.schemas_at-parts.result.now c.loop-index.index true
+    c.loop-index-test.false refl (c.loop-index.invariant g)
+
+pub in_branch-returns-in_default : goal.in_branch-returns-in_default
+in_branch-returns-in_default t c g =
+    let f = says c.args.walk g in
+    let s = view c.args.schema.now in
+    let v = view c.args.value.now in
+    ap (λ o. option_map_or (λ r. branch_accepts f s v (f r v)) o true) (sym c.in_default.ensures)
+
+pub in_branch-returns-in_default-schema_at : goal.in_branch-returns-in_default-schema_at
+in_branch-returns-in_default-schema_at t c =
+    no_branch c.args.walk (view c.args.schema.now) (view c.args.value.now) (view c.in-Some.test.now) c.in_ok-accepted.accepted
+    c.branch-chosen.result c.in-Some.ensures c.in_ok-accepted.ensures c.branch-chosen.ensures c.in_default-schema_at.ensures
+
+pub in_branch-returns-in_default-2 : goal.in_branch-returns-in_default-2
+in_branch-returns-in_default-2 t c =
+    let v = view c.args.value.now in
+    let r = view c.in-Some-schema_at.part.now in
+    branch_met c.args.walk (view c.args.schema.now) v (view c.in-Some.test.now) c.in_ok-accepted.accepted c.branch-chosen.result
+    c.in-Some.ensures c.in_ok-accepted.ensures c.branch-chosen.ensures r c.in-Some-schema_at.ensures
+    (subst (λ o. Judges c.args.walk r v (Ok o)) c.in_default-2.is c.in_ok-found.ensures)
+
+pub in_branch-returns : goal.in_branch-returns
+in_branch-returns t c =
+    let s = view c.args.schema.now in
+    let v = view c.args.value.now in
+    let r = view c.in-Some-schema_at.part.now in
+    let inner = subst (λ o. Judges c.args.walk r v (Ok o)) c.in-Some-2.is c.in_ok-found.ensures in
+    placed c.args.walk (λ f. applies f kw.If s v) s v c.enter_keyword.new.self _ _ c.in_ok-enter_keyword.ensures
+    (branch_place c.args.walk s v (view c.in-Some.test.now) c.in_ok-accepted.accepted c.branch-chosen.result c.in-Some.ensures
+    c.in_ok-accepted.ensures c.branch-chosen.ensures r _ _ c.in-Some-schema_at.ensures inner)
+
+pub in_dependents-returns-in-Some : goal.in_dependents-returns-in-Some
+in_dependents-returns-in-Some t c =
+    let s = view c.args.schema.now in
+    let v = view c.args.value.now in
+    let ps = c.as_slice-dependents.result.now in
+    let i = c.loop-key.key-index in
+    let p = c.loop-key-item.result in
+    let r = view p.1.now in
+    let k = text p.0.now in
+    let old = c.in-Some.found in
+    let inner = subst (λ o. Judges c.args.walk r v (Ok o)) c.in-Some.is c.in_ok-found.ensures in
+    let entered = subst (λ bs. IsUnderKey kw.DependentSchemas (chars bs) old c.enter_keyed.new.self) c.as_str-in-Some.ensures.value
+    c.in_ok-enter_keyed.ensures in
+    let here : is_some (tree_at_key v k) ≡ true = ap (λ bs. is_some (tree_at_key v (chars bs))) (sym c.as_str.ensures.value)
+    ∙ (sym c.has_key.ensures ∙ c.if-has_key.true) in
+    let sorted = subst (λ xs. IsSorted (members_listed xs)) (sym c.as_slice-dependents.ensures.value) c.in_ok-listed.ensures.sorted in
+    let at : find k (schema_map_at s kw.DependentSchemas) ≡ Some r
+    = ap (find k) (sym (ap members_listed c.as_slice-dependents.ensures.value ∙ c.in_ok-listed.ensures.listed))
+    ∙ listed_found ps i p sorted c.loop-key-test.true c.loop-key-item.is in
+    placed c.args.walk (λ f. applies f kw.DependentSchemas s v) s v c.enter_keyed.new.self _ _ entered
+    (in_dependent here at inner)
+
+pub in_dependents-loop-key-preserved : goal.in_dependents-loop-key-preserved
+in_dependents-loop-key-preserved t c g =
+    let v = view c.args.value.now in
+    let ps = c.as_slice-dependents.result.now in
+    let i = c.loop-key.key-index in
+    let p = c.loop-key-item.result in
+    let r = view p.1.now in
+    let k = text p.0.now in
+    elim c.if-has_key.branch [
+      | in_dependents-then-has_key+in_ok-found+in_default w ↦
+          dependents_turn (says c.args.walk g) v ps i p c.loop-key-test.true c.loop-key-item.is
+          (dependent_passes (says c.args.walk g) v k r (subst (λ o. Judges c.args.walk r v (Ok o)) w.in_default.is w.in_ok-found.ensures g))
+          (c.loop-key.invariant g)
+      | in_dependents-else-has_key w ↦
+          dependents_turn (says c.args.walk g) v ps i p c.loop-key-test.true c.loop-key-item.is
+          (dependent_free (says c.args.walk g) v k r (ap (λ bs. is_some (tree_at_key v (chars bs))) (sym c.as_str.ensures.value)
+          ∙ (sym c.has_key.ensures ∙ w.if-has_key.false))) (c.loop-key.invariant g)
+    ]
+
+pub in_dependents-returns : goal.in_dependents-returns
+in_dependents-returns t c g =
+    let v = view c.args.value.now in
+    ap (λ rs. dependents_accept (says c.args.walk g) rs v)
+    (sym (ap members_listed c.as_slice-dependents.ensures.value ∙ c.in_ok-listed.ensures.listed))
+    ∙ turn_end (λ xs. dependents_accept (says c.args.walk g) (members_listed xs) v) c.as_slice-dependents.result.now c.loop-key.key-index
+    true c.loop-key-test.false refl (c.loop-key.invariant g)
+
+pub in_patterned-returns-in-Some : goal.in_patterned-returns-in-Some
+in_patterned-returns-in-Some t c =
+    let s = view c.args.schema.now in
+    let v = view c.args.value.now in
+    let ps = c.as_slice-patterns.result.now in
+    let i = c.loop-pattern.pattern-index in
+    let p = c.loop-pattern-item.result in
+    let r = view p.1.now in
+    let k = text p.0.now in
+    let old = c.in-Some.found in
+    let told = subst (λ o. FindsFound c.args.walk (chars c.as_str.result.now) r (members_in v) (Ok o)) c.in-Some.is c.in_ok-found.ensures in
+    let inner = subst (λ bs. FindsFound c.args.walk (chars bs) r (members_in v) (Ok (Some old))) c.as_str.ensures.value told in
+    let entered = subst (λ bs. IsUnderKey kw.PatternProperties (chars bs) old c.enter_keyed.new.self) c.as_str-in-Some.ensures.value
+    c.in_ok-enter_keyed.ensures in
+    let sorted = subst (λ xs. IsSorted (members_listed xs)) (sym c.as_slice-patterns.ensures.value) c.in_ok-listed.ensures.sorted in
+    let at : find k (schema_map_at s kw.PatternProperties) ≡ Some r
+    = ap (find k) (sym (ap members_listed c.as_slice-patterns.ensures.value ∙ c.in_ok-listed.ensures.listed))
+    ∙ listed_found ps i p sorted c.loop-pattern-test.true c.loop-pattern-item.is in
+    placed c.args.walk (λ f. applies f kw.PatternProperties s v) s v c.enter_keyed.new.self _ _ (entered.0, entered.1 ∙ inner.placed)
+    (in_patterned at inner.found inner.at inner.invalid)
+
+pub in_patterned-loop-pattern-preserved : goal.in_patterned-loop-pattern-preserved
+in_patterned-loop-pattern-preserved t c g =
+    let v = view c.args.value.now in
+    let ps = c.as_slice-patterns.result.now in
+    let i = c.loop-pattern.pattern-index in
+    let p = c.loop-pattern-item.result in
+    let r = view p.1.now in
+    let told = subst (λ o. FindsFound c.args.walk (chars c.as_str.result.now) r (members_in v) (Ok o)) c.in_default.is
+    c.in_ok-found.ensures in
+    let good = subst (λ bs. FindsFound c.args.walk (chars bs) r (members_in v) (Ok None)) c.as_str.ensures.value told in
+    turn_next (λ xs. patterns_accept (says c.args.walk g) (members_listed xs) (members_in v)) ps i p c.loop-pattern-test.true
+    c.loop-pattern-item.is
+    (ap (λ b. b && patterns_accept (says c.args.walk g) (members_listed (drop (i + 1) ps)) (members_in v)) (good g))
+    (c.loop-pattern.invariant g)
+
+pub in_patterned-returns : goal.in_patterned-returns
+in_patterned-returns t c g =
+    let ms = members_in (view c.args.value.now) in
+    ap (λ rs. patterns_accept (says c.args.walk g) rs ms)
+    (sym (ap members_listed c.as_slice-patterns.ensures.value ∙ c.in_ok-listed.ensures.listed))
+    ∙ turn_end (λ xs. patterns_accept (says c.args.walk g) (members_listed xs) ms) c.as_slice-patterns.result.now
+    c.loop-pattern.pattern-index true c.loop-pattern-test.false refl (c.loop-pattern.invariant g)
+
+pub in_found-returns-in-Some : goal.in_found-returns-in-Some
+in_found-returns-in-Some t c =
+    let w = c.args.walk in
+    let r = view c.args.schema.now in
+    let ms = members_in (view c.args.value.now) in
+    let ps = c.as_slice-members.result.now in
+    let i = c.loop-key.key-index in
+    let p = c.loop-key-item.result in
+    let k = text p.0.now in
+    let old = c.in-Some.found in
+    let inner = subst (λ o. Judges w r (view p.1.now) (Ok o)) c.in-Some.is c.in_ok-found.ensures in
+    let entered = subst (λ bs. IsWithin (chars bs) old c.enter_value.new.self) c.as_str-in-Some.ensures.value
+    c.in_ok-enter_value.ensures in
+    let sorted = subst (λ xs. IsSorted (members_listed xs)) (sym c.as_slice-members.ensures.value) c.in_ok-listed.ensures.sorted in
+    record {
+      key = k;
+      value = view p.1.now;
+      rest = tokens_of old.instance_location;
+      found = ap₂ is_found (sym c.loop-key.invariant.0) (ap chars (sym c.as_str.ensures.value))
+          ∙ (sym c.is_found_in-is_found.ensures.found ∙ c.if-is_found.true);
+      at = ap (find k) (sym (ap members_listed c.as_slice-members.ensures.value ∙ c.in_ok-listed.ensures.listed))
+          ∙ listed_found ps i p sorted c.loop-key-test.true c.loop-key-item.is;
+      placed = entered.1;
+      invalid = subst (λ xs. IsInvalidAt (view w.whole.now.root.now) w.steps r (view p.1.now) xs (tokens_of old.instance_location))
+          (sym entered.0) inner;
+    }
+
+pub in_found-loop-key-preserved : goal.in_found-loop-key-preserved
+in_found-loop-key-preserved t c =
+    let r = view c.args.schema.now in
+    let pattern = chars c.args.pattern.now in
+    let ps = c.as_slice-members.result.now in
+    let i = c.loop-key.key-index in
+    let p = c.loop-key-item.result in
+    let k = text p.0.now in
+    let u = view p.1.now in
+    let answer : c.is_found_in-is_found.result ≡ is_found pattern k
+    = c.is_found_in-is_found.ensures.found ∙ ap₂ is_found c.loop-key.invariant.0 (ap chars c.as_str.ensures.value) in (
+      ap text c.is_found_in-is_found.ensures.same ∙ c.loop-key.invariant.0,
+      λ g. elim c.if-is_found.branch [
+        | in_found-then-is_found+in_ok-found+in_default w ↦
+            found_turn (says c.args.walk g r) pattern ps i p c.loop-key-test.true c.loop-key-item.is
+            (found_holds (says c.args.walk g r) pattern k u
+            (subst (λ o. Judges c.args.walk r u (Ok o)) w.in_default.is w.in_ok-found.ensures g)) (c.loop-key.invariant.1 g)
+        | in_found-else-is_found w ↦
+            found_turn (says c.args.walk g r) pattern ps i p c.loop-key-test.true c.loop-key-item.is
+            (not_found (says c.args.walk g r) pattern k u (sym answer ∙ w.if-is_found.false)) (c.loop-key.invariant.1 g)
+      ],
+    )
+
+pub in_found-returns : goal.in_found-returns
+in_found-returns t c g =
+    let q = says c.args.walk g (view c.args.schema.now) in
+    let ps = chars c.args.pattern.now in
+    ap (found_pass q ps) (sym (ap members_listed c.as_slice-members.ensures.value ∙ c.in_ok-listed.ensures.listed))
+    ∙ turn_end (λ xs. found_pass q ps (members_listed xs)) c.as_slice-members.result.now c.loop-key.key-index true
+    c.loop-key-test.false refl (c.loop-key.invariant.1 g)
+
+pub in_reference-returns : goal.in_reference-returns
+in_reference-returns t c =
+    let w = c.args.walk in
+    let s = view c.args.schema.now in
+    let v = view c.args.value.now in
+    both_met w s v c.in_target-2.result
+    (subst (λ o. Finds w (λ f. target_accepts (view w.whole.now.root.now) kw.Ref f s v) s v (Ok o)) c.in_default.is c.in_ok-found.ensures)
+    c.in_target-2.ensures
+
+pub in_target-returns-in_default : goal.in_target-returns-in_default
+in_target-returns-in_default t c g =
+    let w = c.args.walk in
+    no_reference (view w.whole.now.root.now) (says w g) (view c.args.schema.now) (view c.args.value.now) c.args.keyword
+    (ap (option_map (λ x. view x.now)) (sym c.in_default.is) ∙ c.in_ok-part.ensures)
+
+pub in_target-returns-in_default-2 : goal.in_target-returns-in_default-2
+in_target-returns-in_default-2 t c g =
+    let w = c.args.walk in
+    let v = view c.args.value.now in
+    let r = view c.in-Some.part.now in
+    reference_met (view w.whole.now.root.now) (says w g) (view c.args.schema.now) v r c.args.keyword
+    (ap (option_map (λ x. view x.now)) (sym c.in-Some.is) ∙ c.in_ok-part.ensures)
+    (subst (λ o. Judges w r v (Ok o)) c.in_default-2.is c.in_ok-found.ensures g)
+
+pub in_target-returns : goal.in_target-returns
+in_target-returns t c =
+    let w = c.args.walk in
+    let s = view c.args.schema.now in
+    let v = view c.args.value.now in
+    let r = view c.in-Some.part.now in
+    let inner = subst (λ o. Judges w r v (Ok o)) c.in-Some-2.is c.in_ok-found.ensures in
+    placed w (λ f. target_accepts (view w.whole.now.root.now) c.args.keyword f s v) s v c.enter_keyword.new.self _ _
+    c.in_ok-enter_keyword.ensures
+    (in_reference c.args.keyword c.requires (sym (ap (option_map (λ x. view x.now)) (sym c.in-Some.is) ∙ c.in_ok-part.ensures)) inner)
+
+pub in_members-returns-in-Some-2 : goal.in_members-returns-in-Some-2
+in_members-returns-in-Some-2 t c =
+    let s = view c.args.schema.now in
+    let ps = c.args.members.now in
+    let i = c.loop-key.key-index in
+    let p = c.loop-key-item.result in
+    let k = text p.0.now in
+    let part = c.in-Some.part in
+    let r = view part.schema.now in
+    let old = c.in-Some-2.found in
+    let applied = subst (λ bs. IsMemberPart s (chars bs) (Some part)) c.as_str.ensures.value
+    (subst (λ o. IsMemberPart s (chars c.as_str.result.now) o) c.in-Some.is c.in_ok-part.ensures) in
+    let inner = subst (λ o. Judges c.args.walk r (view p.1.now) (Ok o)) c.in-Some-2.is c.in_ok-found.ensures in
+    let entered = subst (λ bs. Enters part.applicator (chars bs) (chars bs) old c.enter_member.new.self) c.as_str-in-Some-2.ensures.value
+    c.in_ok-enter_member.ensures in
+    placed c.args.walk (λ f. members_accepted f s (members_listed ps)) s (object (members_listed ps)) c.enter_member.new.self _
+    _ entered
+    (in_part (place part.applicator k) applied.0 (listed_found ps i p c.requires c.loop-key-test.true c.loop-key-item.is) applied.1 inner)
+
+pub in_members-loop-key-preserved : goal.in_members-loop-key-preserved
+in_members-loop-key-preserved t c g =
+    let s = view c.args.schema.now in
+    let ps = c.args.members.now in
+    let i = c.loop-key.key-index in
+    let p = c.loop-key-item.result in
+    let u = view p.1.now in
+    let k = text p.0.now in
+    elim c.match-branch-2.branch [
+      | in_members-in-Some+in_ok-found+in_default-2 w ↦
+          let part = w.in-Some.part in
+          let r = view part.schema.now in
+          let applied = subst (λ bs. IsMemberPart s (chars bs) (Some part)) c.as_str.ensures.value
+          (subst (λ o. IsMemberPart s (chars c.as_str.result.now) o) w.in-Some.is c.in_ok-part.ensures) in
+          members_turn (says c.args.walk g) s ps i p c.loop-key-test.true c.loop-key-item.is
+          (member_passes (says c.args.walk g) s k r u applied.0
+          (subst (λ o. Judges c.args.walk r u (Ok o)) w.in_default-2.is w.in_ok-found.ensures g))
+          (c.loop-key.invariant g)
+      | in_members-in_default w ↦
+          members_turn (says c.args.walk g) s ps i p c.loop-key-test.true c.loop-key-item.is
+          (member_free (says c.args.walk g) s k u
+          (subst (λ bs. IsMemberPart s (chars bs) None) c.as_str.ensures.value
+          (subst (λ o. IsMemberPart s (chars c.as_str.result.now) o) w.in_default.is c.in_ok-part.ensures)))
+          (c.loop-key.invariant g)
+    ]
+
+pub in_members-returns : goal.in_members-returns
+in_members-returns t c g =
+    let s = view c.args.schema.now in
+    turn_end (λ xs. members_accepted (says c.args.walk g) s (members_listed xs)) c.args.members.now c.loop-key.key-index true
+    c.loop-key-test.false refl (c.loop-key.invariant g)
+
+pub in_items-returns-in-Some-2 : goal.in_items-returns-in-Some-2
+in_items-returns-in-Some-2 t c =
+    let s = view c.args.schema.now in
+    let vs = c.args.items.now in
+    let i = c.loop-index.index in
+    let x = c.index-items-index.result in
+    let part = c.in-Some.part in
+    let r = view part.schema.now in
+    let old = c.in-Some-2.found in
+    let applied = c.in-Some.ensures in
+    let inner = subst (λ o. Judges c.args.walk r (view x) (Ok o)) c.in-Some-2.is c.in_ok-found.ensures in
+    let entered = c.in_ok-enter_item.ensures in
+    let at : item_of (items_view vs) (index_of entered.token) ≡ Some (view x)
+    = ap (item_of (items_view vs)) entered.named ∙ nth_item vs i x c.loop-index-test.true c.index-items-index.is in
+    placed c.args.walk (λ f. items_accepted f s 0 (items_view vs)) s (array (items_view vs)) c.enter_item.new.self _ _
+    entered.entered
+    (in_part {k = entered.token} (place part.applicator entered.schema_token)
+    (ap (option_and_then (item_schema s)) entered.named ∙ applied.0) at
+    (applied.1 entered.schema_token entered.schema_named) inner)
+
+pub in_items-loop-index-preserved : goal.in_items-loop-index-preserved
+in_items-loop-index-preserved t c g =
+    let s = view c.args.schema.now in
+    let vs = c.args.items.now in
+    let i = c.loop-index.index in
+    let x = c.index-items-index.result in
+    elim c.match-item_part.branch [
+      | in_items-in-Some+in_ok-found+in_default-2 w ↦
+          let r = view w.in-Some.part.schema.now in
+          items_turn (says c.args.walk g) s vs i x c.loop-index-test.true c.index-items-index.is
+          (item_passes (says c.args.walk g) s i r (view x) w.in-Some.ensures.0
+          (subst (λ o. Judges c.args.walk r (view x) (Ok o)) w.in_default-2.is w.in_ok-found.ensures g))
+          (c.loop-index.invariant g)
+      | in_items-in_default w ↦
+          items_turn (says c.args.walk g) s vs i x c.loop-index-test.true c.index-items-index.is
+          (item_free (says c.args.walk g) s i (view x) w.in_default.ensures)
+          (c.loop-index.invariant g)
+    ]
+
+pub in_items-returns : goal.in_items-returns
+in_items-returns t c g = items_end (says c.args.walk g) (view c.args.schema.now) c.args.items.now c.loop-index.index
+    c.loop-index-test.false (c.loop-index.invariant g)
+
+pub in_parts-in_members-requires : goal.in_parts-in_members-requires
+in_parts-in_members-requires t c =
+    let rises : IsSorted (members_listed c.as_slice.result.now) = subst (λ xs. IsSorted (members_listed xs)) (sym c.as_slice.ensures.value)
+    (listed_sorted c.in_ok-sorted-in-Object.sorted.items c.in-Object.members c.in_ok-sorted-in-Object.ensures) in
+    search rules
+
+pub in_parts-returns-in_ok-sorted-in-Object : goal.in_parts-returns-in_ok-sorted-in-Object
+in_parts-returns-in_ok-sorted-in-Object t c =
+    let s = view c.args.schema.now in
+    let same : object (members_listed c.as_slice.result.now) ≡ view c.args.value.now
+    = ap object (ap members_listed c.as_slice.ensures.value ∙ c.in_ok-sorted-in-Object.ensures)
+    ∙ sym (ap view c.in-Object.is ∙ view_Object c.in-Object.members) in
+    subst (λ x. Finds c.args.walk (λ f. parts_accepted f s x) s x c.in_members.result) same c.in_members.ensures
+
+pub in_parts-returns-in-Array : goal.in_parts-returns-in-Array
+in_parts-returns-in-Array t c =
+    let s = view c.args.schema.now in
+    let same : array (items_view c.as_slice-in-Array.result.now) ≡ view c.args.value.now
+    = ap (λ xs. array (items_view xs)) c.as_slice-in-Array.ensures.value ∙ sym (ap view c.in-Array.is ∙ view_Array c.in-Array.items) in
+    subst (λ x. Finds c.args.walk (λ f. parts_accepted f s x) s x c.in_items.result) same c.in_items.ensures
+
+pub in_parts-returns-in_default : goal.in_parts-returns-in_default
+in_parts-returns-in_default t c g = no_parts (says c.args.walk g) (view c.args.schema.now) c.args.value.now c.in_default.not-Object
+    c.in_default.not-Array
+
+-- ---- what is not evaluated
+
+pub unevaluated::in_members_left-returns-in-Some : goal.unevaluated::in_members_left-returns-in-Some
+unevaluated::in_members_left-returns-in-Some t c =
+    let w = c.args.walk in
+    let xs = c.args.sources.now in
+    let ps = c.args.members.now in
+    let p = c.loop-key-item.result in
+    let k = text p.0.now in
+    let u = view p.1.now in
+    let r = view c.args.rest.now in
+    let old = c.in-Some.found in
+    record {
+      child = member_at k u;
+      token = k;
+      location = tokens_of old.keyword_location;
+      within = tokens_of old.instance_location;
+      keyword = refl;
+      named = (refl, listed_found ps c.loop-key.key-index p c.requires c.loop-key-test.true c.loop-key-item.is);
+      left = λ g. ap (λ bs. sources_evaluate g xs (member_at (chars bs) u)) (sym c.as_str.ensures.value)
+          ∙ (sym (c.in_ok-evaluated.ensures g u) ∙ c.if-not-evaluated.true);
+      placed = subst (λ bs. Enters kw.UnevaluatedProperties (chars bs) (chars bs) old c.enter_member.new.self)
+          c.as_str-in-Some.ensures.value c.in_ok-enter_member.ensures;
+      invalid = subst (λ o. Judges w r u (Ok o)) c.in-Some.is c.in_ok-found.ensures;
+    }
+
+pub unevaluated::in_members_left-loop-key-preserved : goal.unevaluated::in_members_left-loop-key-preserved
+unevaluated::in_members_left-loop-key-preserved t c g =
+    let w = c.args.walk in
+    let xs = c.args.sources.now in
+    let ps = c.args.members.now in
+    let i = c.loop-key.key-index in
+    let p = c.loop-key-item.result in
+    let k = text p.0.now in
+    let u = view p.1.now in
+    let r = view c.args.rest.now in
+    let q : Child → Bool = λ k. sources_evaluate g xs k || says w g r (value_of k) in
+    let told : c.in_ok-evaluated.evaluated ≡ sources_evaluate g xs (member_at k u)
+    = c.in_ok-evaluated.ensures g u ∙ ap (λ bs. sources_evaluate g xs (member_at (chars bs) u)) c.as_str.ensures.value in
+    elim c.if-not-evaluated.branch [
+      | unevaluated::in_members_left-then-not-evaluated+in_ok-found+in_default w ↦
+          turn_next (λ ys. members_pass q (members_listed ys)) ps i p c.loop-key-test.true c.loop-key-item.is
+          (ap (λ b. b && members_pass q (members_listed (drop (i + 1) ps))) (or_right _ _
+          (subst (λ o. Judges c.args.walk r u (Ok o)) w.in_default.is w.in_ok-found.ensures g))) (c.loop-key.invariant g)
+      | unevaluated::in_members_left-else-not-evaluated w ↦
+          turn_next (λ ys. members_pass q (members_listed ys)) ps i p c.loop-key-test.true c.loop-key-item.is
+          (ap (λ b. b && members_pass q (members_listed (drop (i + 1) ps))) (or_left _ _ (sym told ∙ w.if-not-evaluated.false)))
+          (c.loop-key.invariant g)
+    ]
+
+pub unevaluated::in_members_left-returns : goal.unevaluated::in_members_left-returns
+unevaluated::in_members_left-returns t c g =
+    let q : Child → Bool = λ k. sources_evaluate g c.args.sources.now k || says c.args.walk g (view c.args.rest.now) (value_of k) in
+    turn_end (λ ys. members_pass q (members_listed ys)) c.args.members.now c.loop-key.key-index true c.loop-key-test.false refl
+    (c.loop-key.invariant g)
+
+pub unevaluated::in_items_left-returns-in-Some : goal.unevaluated::in_items_left-returns-in-Some
+unevaluated::in_items_left-returns-in-Some t c =
+    let w = c.args.walk in
+    let vs = c.args.items.now in
+    let i = c.loop-index.index in
+    let x = c.index-items-index.result in
+    let r = view c.args.rest.now in
+    let old = c.in-Some.found in
+    let entered = c.in_ok-enter_item.ensures in
+    record {
+      child = item_at i (view x);
+      token = entered.token;
+      location = tokens_of old.keyword_location;
+      within = tokens_of old.instance_location;
+      keyword = refl;
+      named = (entered.named, nth_item vs i x c.loop-index-test.true c.index-items-index.is);
+      left = λ g. sym (c.in_ok-evaluated.ensures g) ∙ c.if-not-evaluated.true;
+      placed = entered.entered;
+      invalid = subst (λ o. Judges w r (view x) (Ok o)) c.in-Some.is c.in_ok-found.ensures;
+    }
+
+pub unevaluated::in_items_left-loop-index-preserved : goal.unevaluated::in_items_left-loop-index-preserved
+unevaluated::in_items_left-loop-index-preserved t c g =
+    let vs = c.args.items.now in
+    let i = c.loop-index.index in
+    let x = c.index-items-index.result in
+    let r = view c.args.rest.now in
+    let q : Child → Bool = λ k. sources_evaluate g c.args.sources.now k || says c.args.walk g r (value_of k) in
+    elim c.if-not-evaluated.branch [
+      | unevaluated::in_items_left-then-not-evaluated+in_ok-found+in_default w ↦
+          left_turn q vs i x c.loop-index-test.true c.index-items-index.is
+          (or_right _ _ (subst (λ o. Judges c.args.walk r (view x) (Ok o)) w.in_default.is w.in_ok-found.ensures g))
+          (c.loop-index.invariant g)
+      | unevaluated::in_items_left-else-not-evaluated w ↦
+          left_turn q vs i x c.loop-index-test.true c.index-items-index.is
+          (or_left _ _ (sym (c.in_ok-evaluated.ensures g) ∙ w.if-not-evaluated.false)) (c.loop-index.invariant g)
+    ]
+
+pub unevaluated::in_items_left-returns : goal.unevaluated::in_items_left-returns
+unevaluated::in_items_left-returns t c g =
+    let q : Child → Bool = λ k. sources_evaluate g c.args.sources.now k || says c.args.walk g (view c.args.rest.now) (value_of k) in
+    left_end q c.args.items.now c.loop-index.index c.loop-index-test.false (c.loop-index.invariant g)
+
+pub unevaluated::is_item_evaluated-evaluates_item-requires : goal.unevaluated::is_item_evaluated-evaluates_item-requires
+unevaluated::is_item_evaluated-evaluates_item-requires t c =
+    let x = c.source-item.result in
+    let within : x.walk.steps ≤ c.args.walk.steps
+    = within_at c.args.walk.steps c.args.sources.now c.loop-source.source-index x c.requires c.loop-source-test.true c.source-item.is in
+    let fewer : 16 * x.walk.steps + 11 < 16 * c.args.walk.steps + 12 = omega (arith, within) in
+    search rules
+
+pub unevaluated::is_item_evaluated-returns-then-evaluates : goal.unevaluated::is_item_evaluated-returns-then-evaluates
+unevaluated::is_item_evaluated-returns-then-evaluates t c g =
+    let k = item_at c.args.index (view c.args.item.now) in
+    let xs = c.args.sources.now in
+    let i = c.loop-source.source-index in
+    turn_stop (λ ys. sources_evaluate g ys k) xs i true c.source-item.result c.loop-source-test.true c.source-item.is
+    (ap (λ b. b || sources_evaluate g (drop (i + 1) xs) k) (sym (c.in_ok-evaluates.ensures g) ∙ c.if-evaluates.true))
+    (c.loop-source.invariant g)
+
+pub unevaluated::is_item_evaluated-loop-source-preserved : goal.unevaluated::is_item_evaluated-loop-source-preserved
+unevaluated::is_item_evaluated-loop-source-preserved t c g =
+    let k = item_at c.args.index (view c.args.item.now) in
+    let xs = c.args.sources.now in
+    let i = c.loop-source.source-index in
+    turn_next (λ ys. sources_evaluate g ys k) xs i c.source-item.result c.loop-source-test.true c.source-item.is
+    (ap (λ b. b || sources_evaluate g (drop (i + 1) xs) k) (sym (c.in_ok-evaluates.ensures g) ∙ c.if-evaluates.false))
+    (c.loop-source.invariant g)
+
+pub unevaluated::is_item_evaluated-returns : goal.unevaluated::is_item_evaluated-returns
+unevaluated::is_item_evaluated-returns t c g =
+    let k = item_at c.args.index (view c.args.item.now) in
+    sym (turn_end (λ ys. sources_evaluate g ys k) c.args.sources.now c.loop-source.source-index false c.loop-source-test.false refl
+    (c.loop-source.invariant g))
+
+pub unevaluated::evaluates_item-returns-then-has_rest : goal.unevaluated::evaluates_item-returns-then-has_rest
+unevaluated::evaluates_item-returns-then-has_rest t c g =
+    sym (or_left _ _ (sym c.counts_rest-has_rest.ensures ∙ c.if-has_rest.true))
+
+pub unevaluated::evaluates_item-returns-then-is_some : goal.unevaluated::evaluates_item-returns-then-is_some
+unevaluated::evaluates_item-returns-then-is_some t c g =
+    let x = c.args.source.now in
+    let s = view x.schema.now in
+    sym (or_right _ _ (or_left _ _ (sym (item_applied s c.args.index c.item_part-applied.result c.item_part-applied.ensures)
+    ∙ (sym c.is_some.ensures ∙ c.if-is_some.true))))
+
+pub unevaluated::evaluates_item-returns-in_default : goal.unevaluated::evaluates_item-returns-in_default
+unevaluated::evaluates_item-returns-in_default t c g =
+    let x = c.args.source.now in
+    let s = view x.schema.now in
+    evaluated_by _ _ _ false (sym c.counts_rest-has_rest.ensures ∙ c.if-has_rest.false)
+    (sym (item_applied s c.args.index c.item_part-applied.result c.item_part-applied.ensures)
+    ∙ (sym c.is_some.ensures ∙ c.if-is_some.false))
+    (ap (λ o. option_map_or (λ r. says x.walk g r (view c.args.item.now)) o false) c.in_default.ensures)
+
+pub unevaluated::evaluates_item-returns : goal.unevaluated::evaluates_item-returns
+unevaluated::evaluates_item-returns t c g =
+    let x = c.args.source.now in
+    let s = view x.schema.now in
+    evaluated_by _ _ _ c.in_ok-accepted.accepted (sym c.counts_rest-has_rest.ensures ∙ c.if-has_rest.false)
+    (sym (item_applied s c.args.index c.item_part-applied.result c.item_part-applied.ensures)
+    ∙ (sym c.is_some.ensures ∙ c.if-is_some.false))
+    (c.in_ok-accepted.ensures g ∙ ap (λ o. option_map_or (λ r. says x.walk g r (view c.args.item.now)) o false) c.in-Some.ensures)
+
+-- ---- the whole of it
+
+pub unevaluated::in_rest-in_members_left-requires : goal.unevaluated::in_rest-in_members_left-requires
+unevaluated::in_rest-in_members_left-requires t c =
+    let rises : IsSorted (members_listed c.as_slice.result.now) = subst (λ xs. IsSorted (members_listed xs)) (sym c.as_slice.ensures.value)
+    (listed_sorted c.in_ok-sorted-in-Object.sorted.items c.in-Object.members c.in_ok-sorted-in-Object.ensures) in
+    let fewer : 16 * c.args.walk.steps + 13 < 16 * c.args.walk.steps + 14 = omega arith in
+    search rules
+
+pub unevaluated::in_rest-in_items_left-requires : goal.unevaluated::in_rest-in_items_left-requires
+unevaluated::in_rest-in_items_left-requires t c =
+    let inside : AreWithin c.args.walk.steps c.as_slice-in-Array-2.result.now
+    = subst (AreWithin c.args.walk.steps) (sym c.as_slice-in-Array-2.ensures.value) c.in_ok-sources-in-Array.ensures.within in
+    let fewer : 16 * c.args.walk.steps + 13 < 16 * c.args.walk.steps + 14 = omega arith in
+    search rules
+
+pub unevaluated::in_rest-returns-in_default-schema_at : goal.unevaluated::in_rest-returns-in_default-schema_at
+unevaluated::in_rest-returns-in_default-schema_at t c g =
+    let w = c.args.walk in
+    let s = view c.args.schema.now in
+    let same : object (members_view c.in-Object.members.entries) ≡ view c.args.value.now
+    = sym (ap view c.in-Object.is ∙ view_Object c.in-Object.members) in
+    subst (λ x. rest_accepted (view w.whole.now.root.now) (answers_in w g) s x ≡ true) same
+    (no_member_rest (view w.whole.now.root.now) (answers_in w g) s (members_view c.in-Object.members.entries)
+    c.in_default-schema_at.ensures)
+
+pub unevaluated::in_rest-returns-in_default-schema_at-2 : goal.unevaluated::in_rest-returns-in_default-schema_at-2
+unevaluated::in_rest-returns-in_default-schema_at-2 t c g =
+    let w = c.args.walk in
+    let s = view c.args.schema.now in
+    let same : array (items_view c.in-Array.items.items) ≡ view c.args.value.now
+    = sym (ap view c.in-Array.is ∙ view_Array c.in-Array.items) in
+    subst (λ x. rest_accepted (view w.whole.now.root.now) (answers_in w g) s x ≡ true) same
+    (no_item_rest (view w.whole.now.root.now) (answers_in w g) s (items_view c.in-Array.items.items) c.in_default-schema_at-2.ensures)
+
+pub unevaluated::in_rest-returns-in_ok-sorted-in-Object : goal.unevaluated::in_rest-returns-in_ok-sorted-in-Object
+unevaluated::in_rest-returns-in_ok-sorted-in-Object t c =
+    let w = c.args.walk in
+    let s = view c.args.schema.now in
+    let v = view c.args.value.now in
+    let xs = c.as_slice-in-Object.result.now in
+    let ms = members_listed c.as_slice.result.now in
+    let same : object ms ≡ v = ap object (ap members_listed c.as_slice.ensures.value ∙ c.in_ok-sorted-in-Object.ensures)
+    ∙ sym (ap view c.in-Object.is ∙ view_Object c.in-Object.members) in
+    let told : (g : Answers) (k : Child) → sources_evaluate g xs k ≡ others_evaluate (view w.whole.now.root.now) (answers_in w g) s v k
+    = λ g k. ap (λ l. sources_evaluate g l k) c.as_slice-in-Object.ensures.value ∙ c.in_ok-sources-in-Object.ensures.evaluated g k in
+    subst (λ x. FindsRest w s x c.in_members_left.result) same
+    (members_found w s (view c.in-Some.rest.now) ms xs c.in_members_left.result
+    (subst (λ x. (g : Answers) (k : Child) → sources_evaluate g xs k ≡ others_evaluate (view w.whole.now.root.now) (answers_in w g) s x k)
+    (sym same)
+    told) c.in-Some.ensures c.in_members_left.ensures)
+
+pub unevaluated::in_rest-returns-in_ok-sources-in-Array : goal.unevaluated::in_rest-returns-in_ok-sources-in-Array
+unevaluated::in_rest-returns-in_ok-sources-in-Array t c =
+    let w = c.args.walk in
+    let s = view c.args.schema.now in
+    let v = view c.args.value.now in
+    let xs = c.as_slice-in-Array-2.result.now in
+    let us = items_view c.as_slice-in-Array.result.now in
+    let same : array us ≡ v = ap (λ ys. array (items_view ys)) c.as_slice-in-Array.ensures.value
+    ∙ sym (ap view c.in-Array.is ∙ view_Array c.in-Array.items) in
+    let told : (g : Answers) (k : Child) → sources_evaluate g xs k ≡ others_evaluate (view w.whole.now.root.now) (answers_in w g) s v k
+    = λ g k. ap (λ l. sources_evaluate g l k) c.as_slice-in-Array-2.ensures.value ∙ c.in_ok-sources-in-Array.ensures.evaluated g k in
+    subst (λ x. FindsRest w s x c.in_items_left.result) same
+    (items_found w s (view c.in-Some-schema_at.rest.now) us xs c.in_items_left.result
+    (subst (λ x. (g : Answers) (k : Child) → sources_evaluate g xs k ≡ others_evaluate (view w.whole.now.root.now) (answers_in w g) s x k)
+    (sym same)
+    told) c.in-Some-schema_at.ensures c.in_items_left.ensures)
+
+-- ---- schemas that evaluate
+
+pub unevaluated::sources_of-returns-clause-evaluated : goal.unevaluated::sources_of-returns-clause-evaluated
+unevaluated::sources_of-returns-clause-evaluated t c =
+    let x : Source = record { schema = c.args.schema; walk = c.args.walk; asks = true } in
+    asking_added c.args.walk x (view c.args.value.now) c.push.new.self.items c.add_inner.new.sources.items refl refl
+    (c.in_ok-push.ensures.items ∙ ap (λ ys. ys ++ x ∷ []) c.new-sources.ensures.items) c.in_ok-add_inner.ensures.evaluated
+
+pub unevaluated::sources_of-returns-clause-within : goal.unevaluated::sources_of-returns-clause-within
+unevaluated::sources_of-returns-clause-within t c =
+    let w = c.args.walk in
+    let x : Source = record { schema = c.args.schema; walk = w; asks = true } in
+    let one : c.push.new.self.items ≡ x ∷ [] = c.in_ok-push.ensures.items ∙ ap (λ ys. ys ++ x ∷ []) c.new-sources.ensures.items in
+    let same : w.steps ≤ w.steps = omega arith in
+    c.in_ok-add_inner.ensures.within w.steps same (subst (AreWithin w.steps) (sym one) (same, tt))
+
+pub unevaluated::add_schema-returns-clause-evaluated : goal.unevaluated::add_schema-returns-clause-evaluated
+unevaluated::add_schema-returns-clause-evaluated t c =
+    let inner = c.in_ok-inner.inner in
+    schema_added c.args.walk inner (record { schema = c.args.schema; walk = inner; asks = false }) (view c.args.value.now)
+    c.args.sources.now.items c.push.new.self.items c.add_inner.new.sources.items c.in_ok-inner.ensures refl refl
+    c.in_ok-push.ensures.items c.in_ok-add_inner.ensures.evaluated
+
+pub unevaluated::add_schema-returns-clause-within : goal.unevaluated::add_schema-returns-clause-within
+unevaluated::add_schema-returns-clause-within t c n h k =
+    let inner = c.in_ok-inner.inner in
+    let x : Source = record { schema = c.args.schema; walk = inner; asks = false } in
+    let less : inner.steps ≤ n = omega (arith, c.in_ok-inner.ensures.1, h) in
+    c.in_ok-add_inner.ensures.within n less
+    (subst (AreWithin n) (sym c.in_ok-push.ensures.items) (within_pushed n c.args.sources.now.items x k less))
+
+pub unevaluated::add_inner-returns-clause-evaluated : goal.unevaluated::add_inner-returns-clause-evaluated
+unevaluated::add_inner-returns-clause-evaluated t c =
+    inner_added c.args.walk (view c.args.schema.now) (view c.args.value.now) (items_view c.schemas_at-all.result.now)
+    (items_view c.schemas_at-any.result.now) (items_view c.schemas_at-one.result.now) c.args.sources.now.items
+    c.add_listed.new.sources.items c.add_accepting.new.sources.items c.add_accepting-2.new.sources.items
+    c.add_branch.new.sources.items c.add_dependents.new.sources.items c.add_reference.new.sources.items c.schemas_at-all.ensures
+    c.schemas_at-any.ensures c.schemas_at-one.ensures c.in_ok-add_listed.ensures.evaluated c.in_ok-add_accepting.ensures.evaluated
+    c.in_ok-add_accepting-2.ensures.evaluated c.in_ok-add_branch.ensures.evaluated c.in_ok-add_dependents.ensures.evaluated
+    c.in_ok-add_reference.ensures.evaluated
+
+pub unevaluated::add_inner-returns-clause-within : goal.unevaluated::add_inner-returns-clause-within
+unevaluated::add_inner-returns-clause-within t c n h k =
+    c.in_ok-add_reference.ensures.within n h (c.in_ok-add_dependents.ensures.within n h (c.in_ok-add_branch.ensures.within n h
+    (c.in_ok-add_accepting-2.ensures.within n h (c.in_ok-add_accepting.ensures.within n h (c.in_ok-add_listed.ensures.within n h k)))))
+
+pub unevaluated::add_listed-loop-schema-preserved : goal.unevaluated::add_listed-loop-schema-preserved
+unevaluated::add_listed-loop-schema-preserved t c = (
+  λ g k. adds_turn (λ ys. some_evaluate (answers_in c.args.walk g) (items_view ys) (view c.args.value.now) k) c.args.schemas.now
+      c.loop-schema.schema-index c.schema-item.result _ _ _ _ c.loop-schema-test.true c.schema-item.is refl
+      (c.in_ok-add_schema.ensures.evaluated g k) (c.loop-schema.invariant.0 g k),
+  λ n h k. c.in_ok-add_schema.ensures.within n h (c.loop-schema.invariant.1 n h k),
+)
+
+pub unevaluated::add_listed-returns-clause-evaluated : goal.unevaluated::add_listed-returns-clause-evaluated
+unevaluated::add_listed-returns-clause-evaluated t c g k =
+    adds_end (λ ys. some_evaluate (answers_in c.args.walk g) (items_view ys) (view c.args.value.now) k) c.args.schemas.now
+    c.loop-schema.schema-index _ _ c.loop-schema-test.false refl (c.loop-schema.invariant.0 g k)
+
+pub unevaluated::add_accepting-loop-schema-preserved : goal.unevaluated::add_accepting-loop-schema-preserved
+unevaluated::add_accepting-loop-schema-preserved t c = (
+  λ g k. adds_turn (λ ys. accepting_evaluate (answers_in c.args.walk g) (items_view ys) (view c.args.value.now) k) c.args.schemas.now
+      c.loop-schema.schema-index c.schema-item.result _ _ _ _ c.loop-schema-test.true c.schema-item.is refl
+      (c.in_ok-add_if_accepting.ensures.evaluated g k) (c.loop-schema.invariant.0 g k),
+  λ n h k. c.in_ok-add_if_accepting.ensures.within n h (c.loop-schema.invariant.1 n h k),
+)
+
+pub unevaluated::add_accepting-returns-clause-evaluated : goal.unevaluated::add_accepting-returns-clause-evaluated
+unevaluated::add_accepting-returns-clause-evaluated t c g k =
+    adds_end (λ ys. accepting_evaluate (answers_in c.args.walk g) (items_view ys) (view c.args.value.now) k) c.args.schemas.now
+    c.loop-schema.schema-index _ _ c.loop-schema-test.false refl (c.loop-schema.invariant.0 g k)
+
+pub unevaluated::add_if_accepting-returns-then-not-accepted-clause-accepted
+    : goal.unevaluated::add_if_accepting-returns-then-not-accepted-clause-accepted
+unevaluated::add_if_accepting-returns-then-not-accepted-clause-accepted t c g = sym c.if-not-accepted.true ∙ c.in_ok-accepted.ensures g
+
+pub unevaluated::add_if_accepting-returns-then-not-accepted-clause-evaluated
+    : goal.unevaluated::add_if_accepting-returns-then-not-accepted-clause-evaluated
+unevaluated::add_if_accepting-returns-then-not-accepted-clause-evaluated t c =
+    let s = view c.args.schema.now in
+    let v = view c.args.value.now in
+    adds_none c.args.walk (λ a k. a.accepts s v && a.evaluates s v k) _
+    (λ g k. ap (λ b. b && (answers_in c.args.walk g).evaluates s v k) (sym (c.in_ok-accepted.ensures g) ∙ c.if-not-accepted.true))
+
+pub unevaluated::add_if_accepting-returns-clause-accepted : goal.unevaluated::add_if_accepting-returns-clause-accepted
+unevaluated::add_if_accepting-returns-clause-accepted t c g = sym c.if-not-accepted.false ∙ c.in_ok-accepted.ensures g
+
+pub unevaluated::add_if_accepting-returns-clause-evaluated : goal.unevaluated::add_if_accepting-returns-clause-evaluated
+unevaluated::add_if_accepting-returns-clause-evaluated t c =
+    let s = view c.args.schema.now in
+    let v = view c.args.value.now in
+    adds_as c.args.walk (λ a k. a.evaluates s v k) (λ a k. a.accepts s v && a.evaluates s v k) _ _
+    (λ g k. sym (ap (λ b. b && (answers_in c.args.walk g).evaluates s v k) (sym (c.in_ok-accepted.ensures g) ∙ c.if-not-accepted.false)))
+    c.in_ok-add_schema.ensures.evaluated
+
+pub unevaluated::add_branch-returns-in_default-clause-evaluated : goal.unevaluated::add_branch-returns-in_default-clause-evaluated
+unevaluated::add_branch-returns-in_default-clause-evaluated t c =
+    let s = view c.args.schema.now in
+    let v = view c.args.value.now in
+    adds_none c.args.walk (λ a k. branch_evaluates a s v k) _
+    (λ g k. no_branch_added (answers_in c.args.walk g) s v k c.in_default.ensures)
+
+pub unevaluated::add_branch-returns-in_default-schema_at-clause-evaluated
+    : goal.unevaluated::add_branch-returns-in_default-schema_at-clause-evaluated
+unevaluated::add_branch-returns-in_default-schema_at-clause-evaluated t c =
+    let w = c.args.walk in
+    let s = view c.args.schema.now in
+    let v = view c.args.value.now in
+    let r = view c.in-Some.test.now in
+    let b = c.in_ok-accepted.accepted in
+    adds_as w (λ a k. a.accepts r v && a.evaluates r v k) (λ a k. branch_evaluates a s v k) _ _
+    (branch_none w s v r c.in-Some.ensures b c.in_ok-accepted.ensures.accepted
+    (c.in_default-schema_at.ensures ∙ ap (schema_at s) c.branch-chosen.ensures)) c.in_ok-accepted.ensures.evaluated
+
+pub unevaluated::add_branch-returns-clause-evaluated : goal.unevaluated::add_branch-returns-clause-evaluated
+unevaluated::add_branch-returns-clause-evaluated t c =
+    let w = c.args.walk in
+    let s = view c.args.schema.now in
+    let v = view c.args.value.now in
+    let r = view c.in-Some.test.now in
+    let u = view c.in-Some-schema_at.part.now in
+    let b = c.in_ok-accepted.accepted in
+    adds_as w (λ a k. (a.accepts r v && a.evaluates r v k) || a.evaluates u v k) (λ a k. branch_evaluates a s v k) _ _
+    (branch_some w s v r c.in-Some.ensures b c.in_ok-accepted.ensures.accepted u
+    (c.in-Some-schema_at.ensures ∙ ap (schema_at s) c.branch-chosen.ensures))
+    (adds_both w (λ a k. a.accepts r v && a.evaluates r v k) (λ a k. a.evaluates u v k) c.args.sources.now.items
+    c.add_if_accepting.new.sources.items c.add_schema.new.sources.items c.in_ok-accepted.ensures.evaluated
+    c.in_ok-add_schema.ensures.evaluated)
+
+pub unevaluated::add_branch-returns-clause-within : goal.unevaluated::add_branch-returns-clause-within
+unevaluated::add_branch-returns-clause-within t c n h k = c.in_ok-add_schema.ensures.within n h (c.in_ok-accepted.ensures.within n h k)
+
+pub unevaluated::add_dependents-loop-key-preserved : goal.unevaluated::add_dependents-loop-key-preserved
+unevaluated::add_dependents-loop-key-preserved t c =
+    let w = c.args.walk in
+    let v = view c.args.value.now in
+    let ps = c.as_slice-dependents.result.now in
+    let i = c.loop-key.key-index in
+    let p = c.loop-key-item.result in
+    let r = view p.1.now in (
+      λ g k. adds_turn (λ ys. dependents_evaluate (answers_in w g) (members_listed ys) v k) ps i p _ _ _ _ c.loop-key-test.true
+          c.loop-key-item.is (ap (λ bs. (is_some (tree_at_key v (chars bs)) && (answers_in w g).evaluates r v k)
+          || dependents_evaluate (answers_in w g) (members_listed (drop (i + 1) ps)) v k) (sym c.as_str.ensures.value))
+          (c.in_ok-add_dependent.ensures.evaluated g k) (c.loop-key.invariant.0 g k),
+      λ n h k. c.in_ok-add_dependent.ensures.within n h (c.loop-key.invariant.1 n h k),
+    )
+
+pub unevaluated::add_dependents-returns-clause-evaluated : goal.unevaluated::add_dependents-returns-clause-evaluated
+unevaluated::add_dependents-returns-clause-evaluated t c g k =
+    let v = view c.args.value.now in
+    adds_end (λ ys. dependents_evaluate (answers_in c.args.walk g) (members_listed ys) v k) c.as_slice-dependents.result.now
+    c.loop-key.key-index _ _ c.loop-key-test.false refl (c.loop-key.invariant.0 g k)
+    ∙ ap (λ rs. sources_evaluate g c.args.sources.now.items k || dependents_evaluate (answers_in c.args.walk g) rs v k)
+    (ap members_listed c.as_slice-dependents.ensures.value ∙ c.in_ok-listed.ensures.listed)
+
+pub unevaluated::add_dependent-returns-then-not-has_key-clause-evaluated
+    : goal.unevaluated::add_dependent-returns-then-not-has_key-clause-evaluated
+unevaluated::add_dependent-returns-then-not-has_key-clause-evaluated t c =
+    let s = view c.args.schema.now in
+    let v = view c.args.value.now in
+    let here = is_some (tree_at_key v (chars c.args.key.now)) in
+    adds_none c.args.walk (λ a k. here && a.evaluates s v k) _
+    (λ g k. ap (λ b. b && (answers_in c.args.walk g).evaluates s v k) (sym c.has_key.ensures ∙ c.if-not-has_key.true))
+
+pub unevaluated::add_dependent-returns-clause-evaluated : goal.unevaluated::add_dependent-returns-clause-evaluated
+unevaluated::add_dependent-returns-clause-evaluated t c =
+    let s = view c.args.schema.now in
+    let v = view c.args.value.now in
+    let here = is_some (tree_at_key v (chars c.args.key.now)) in
+    adds_as c.args.walk (λ a k. a.evaluates s v k) (λ a k. here && a.evaluates s v k) _ _
+    (λ g k. sym (ap (λ b. b && (answers_in c.args.walk g).evaluates s v k) (sym c.has_key.ensures ∙ c.if-not-has_key.false)))
+    c.in_ok-add_schema.ensures.evaluated
+
+pub unevaluated::add_reference-returns-clause-evaluated : goal.unevaluated::add_reference-returns-clause-evaluated
+unevaluated::add_reference-returns-clause-evaluated t c =
+    let root = view c.args.walk.whole.now.root.now in
+    let s = view c.args.schema.now in
+    let v = view c.args.value.now in
+    adds_both c.args.walk (λ a k. target_evaluates root kw.Ref a s v k) (λ a k. target_evaluates root kw.DynamicRef a s v k)
+    c.args.sources.now.items c.add_target.new.sources.items c.add_target-2.new.sources.items c.in_ok-add_target.ensures.evaluated
+    c.in_ok-add_target-2.ensures.evaluated
+
+pub unevaluated::add_reference-returns-clause-within : goal.unevaluated::add_reference-returns-clause-within
+unevaluated::add_reference-returns-clause-within t c n h k =
+    c.in_ok-add_target-2.ensures.within n h (c.in_ok-add_target.ensures.within n h k)
+
+pub unevaluated::add_target-returns-in_default-clause-evaluated : goal.unevaluated::add_target-returns-in_default-clause-evaluated
+unevaluated::add_target-returns-in_default-clause-evaluated t c =
+    let root = view c.args.walk.whole.now.root.now in
+    let s = view c.args.schema.now in
+    let v = view c.args.value.now in
+    adds_none c.args.walk (λ a k. target_evaluates root c.args.keyword a s v k) _
+    (λ g k. no_target_added root (answers_in c.args.walk g) s v c.args.keyword k
+    (ap (option_map (λ x. view x.now)) (sym c.in_default.is) ∙ c.in_ok-part.ensures))
+
+pub unevaluated::add_target-returns-clause-evaluated : goal.unevaluated::add_target-returns-clause-evaluated
+unevaluated::add_target-returns-clause-evaluated t c =
+    let root = view c.args.walk.whole.now.root.now in
+    let s = view c.args.schema.now in
+    let v = view c.args.value.now in
+    let r = view c.in-Some.part.now in
+    adds_as c.args.walk (λ a k. a.evaluates r v k) (λ a k. target_evaluates root c.args.keyword a s v k) _ _
+    (λ g k. target_added root (answers_in c.args.walk g) s v r c.args.keyword k
+    (ap (option_map (λ x. view x.now)) (sym c.in-Some.is) ∙ c.in_ok-part.ensures)) c.in_ok-add_schema.ensures.evaluated

@@ -1,0 +1,13 @@
+pub mod Applicators
+pub mod Assertions
+pub mod Circles
+pub mod Evaluated
+pub mod Operands
+pub mod Parts
+pub mod Patterns
+pub mod Places
+pub mod Reading
+pub mod Refused
+pub mod Schemas
+pub mod Sources
+pub mod Valid

@@ -1,0 +1,54 @@
+-- The schemas that evaluate members and items for one that asks; only private contracts use these words.
+use Rattle.std.specs.Prelude.{◌≡◌, ◌∷◌, ◌≤◌, [], ℕ, Bool, true, false, not, ◌&&◌, ◌||◌, List, Option, Some, None, is_some}
+use Rattle.std.specs.Prelude.{Result, Ok, Err}
+use Rattle.tinyjson.specs.Tree.{Tree}
+use Rattle.tinyjson.specs.View.{view}
+use Rattle.tinyjson_schema_keywords.specs.Applied.{schema_at}
+use Rattle.tinyjson_schema_keywords.specs.Names.{name}
+use Rattle.tinyjson_schema_keywords.specs.declared.keyword.Keyword.{Keyword}
+use Rattle.tinyjson_schema_keywords.specs.declared.walk.CheckError.{CheckError}
+use Rattle.tinyjson_schema_keywords.specs.declared.walk.Walk.{Walk}
+use Rattle.tinyjson_schema.specs.Evaluated.{Child, IsChild, value_of, Answers, rest_keyword, applies_to, children_pass}
+use Rattle.tinyjson_schema.specs.Places.{IsAt}
+use Rattle.tinyjson_schema.specs.Valid.{answers_in, says, IsInvalidAt}
+use Rattle.tinyjson_schema.specs.declared.validate.unevaluated.Source.{Source}
+use Rattle.tinyjson_schema.specs.declared.violation.Violation.{Violation}
+
+-- A keyword of the schema evaluates the child; the keyword for the rest counts in all but the schema that asks.
+abbrev pub source_evaluates : Answers → Source → Child → Bool
+source_evaluates g x c = (not x.asks && is_some (schema_at (view x.schema.now) (rest_keyword c)))
+    || applies_to (says x.walk g) (view x.schema.now) c
+
+abbrev pub sources_evaluate : Answers → List Source → Child → Bool
+sources_evaluate g [] c = false
+sources_evaluate g (x ∷ xs) c = source_evaluates g x c || sources_evaluate g xs c
+
+-- no walk in them has more steps
+abbrev pub AreWithin : ℕ → List Source → Type 0
+AreWithin n [] = Unit {0}
+AreWithin n (x ∷ xs) = (x.walk.steps ≤ n) × AreWithin n xs
+
+-- They evaluate what they did, and what q makes of what schemas say in the walk.
+abbrev pub Adds : Walk → (Answers → Child → Bool) → List Source → List Source → Type 0
+Adds w q old new = (g : Answers) (c : Child) → sources_evaluate g new c ≡ (sources_evaluate g old c || q (answers_in w g) c)
+
+abbrev pub StaysWithin : Walk → List Source → List Source → Type 0
+StaysWithin w old new = (n : ℕ) → w.steps ≤ n → AreWithin n old → AreWithin n new
+
+-- The place is in a child that they do not evaluate, and that the schema r, which the keyword a has, does not accept.
+pub record InRest (w : Walk) (a : Keyword) (xs : List Source) (r t : Tree) (v : Violation) : Type 0 where
+  pub child : Child
+  pub token : List ℕ
+  pub location : List (List ℕ)
+  pub within : List (List ℕ)
+  pub keyword : rest_keyword child ≡ a
+  pub named : IsChild t token child
+  pub left : (g : Answers) → sources_evaluate g xs child ≡ false
+  pub placed : IsAt (name a ∷ location) (token ∷ within) v
+  pub invalid : IsInvalidAt (view w.whole.now.root.now) w.steps r (value_of child) location within
+
+-- No violation, and r accepts each child that they do not evaluate; or one, in such a child.
+abbrev pub FindsLeft : Walk → Keyword → List Source → Tree → Tree → Result (Option Violation) CheckError → Type 0
+FindsLeft w a xs r t (Ok None) = (g : Answers) → children_pass (λ c. sources_evaluate g xs c || says w g r (value_of c)) t ≡ true
+FindsLeft w a xs r t (Ok (Some v)) = InRest w a xs r t v
+FindsLeft w a xs r t (Err e) = Unit {0}

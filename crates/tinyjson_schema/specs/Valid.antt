@@ -1,0 +1,164 @@
+-- Which values a schema accepts.
+use Rattle.std.specs.Prelude.{◌≡◌, ℕ, zero, suc, Bool, true, false, not, ◌&&◌, List, [], ◌∷◌, ◌++◌, Option, Some, None, IsSome, is_some}
+use Rattle.std.specs.Prelude.{Result, Ok, Err}
+use Rattle.std.specs.Option.{option_map_or}
+use Rattle.tinyjson.specs.Index.{tree_at_key}
+use Rattle.tinyjson.specs.Tree.{Tree, boolean, Members, find}
+use Rattle.tinyjson.specs.View.{view}
+use Rattle.tinyjson_pointer.specs.Index.{index_of}
+use Rattle.tinyjson_pointer.specs.Tokens.{tokens_of}
+use Rattle.tinyjson_pointer.specs.Walk.{step, part_at, item_of}
+use Rattle.i_regexp.specs.PatternDeciding.{is_found}
+use Rattle.tinyjson_schema_keywords.specs.Applied.{schema_at, schemas_at, schema_map_at, branch, members_in}
+use Rattle.tinyjson_schema_keywords.specs.Names.{name}
+use Rattle.tinyjson_schema_keywords.specs.References.{referenced}
+use Rattle.tinyjson_schema_keywords.specs.declared.keyword.Keyword.{Keyword}
+use Rattle.tinyjson_schema_keywords.specs.declared.keyword.Keyword.TheVariants as kw
+use Rattle.tinyjson_schema_keywords.specs.declared.walk.CheckError.{CheckError}
+use Rattle.tinyjson_schema_keywords.specs.declared.walk.Walk.{Walk}
+use Rattle.tinyjson_schema.specs.Applicators.{Judge, applies, apply_all, tests, demands, parts_accepted, found_pass}
+use Rattle.tinyjson_schema.specs.Evaluated.{Answers, Child, IsChild, value_of, rest_keyword, others_evaluate, evaluates_by, rest_accepted}
+use Rattle.tinyjson_schema.specs.Assertions.{meets_all, assertions, IsUnmet}
+use Rattle.tinyjson_schema.specs.Parts.{part_schema}
+use Rattle.tinyjson_schema.specs.declared.violation.Violation.{Violation}
+
+-- the schema `false` (Core, 4.3.2)
+abbrev pub refuses_all : Tree → Bool
+refuses_all (boolean accepts) = not accepts
+refuses_all _ = false
+
+-- the schemas that `$ref` and `$dynamicRef` lead to accept the value, whatever stands beside them (Core, 8.2.3)
+abbrev pub is_reference : Keyword → Bool
+is_reference kw.Ref = true
+is_reference kw.DynamicRef = true
+is_reference _ = false
+
+abbrev pub target_accepts : Tree → Keyword → Judge → Tree → Tree → Bool
+target_accepts root k f s t = option_map_or (λ r. f r t) (referenced root k s) true
+
+abbrev pub reference_accepts : Tree → Judge → Tree → Tree → Bool
+reference_accepts root f s t = target_accepts root kw.Ref f s t && target_accepts root kw.DynamicRef f s t
+
+-- The tree t meets the keywords of the schema s that speak of it, those that apply schemas to it, each part is accepted by the
+-- schema that there is for it, and what is not evaluated by that for the rest: by what a says of the schemas that s applies, in s
+-- or elsewhere in the whole schema root.
+abbrev pub accepts_by : Tree → Answers → Judge
+accepts_by root a s t = not (refuses_all s) && (meets_all assertions s t && (apply_all a.accepts tests s t
+    && (apply_all a.accepts demands s t && (reference_accepts root a.accepts s t && (parts_accepted a.accepts s t
+    && rest_accepted root a s t)))))
+
+abbrev pub by_rules : Tree → Answers → Answers
+by_rules root a = record { accepts = accepts_by root a; evaluates = evaluates_by root a }
+
+-- What the schemas of the whole schema root say, by the rules of all keywords, where so many are applied in one another. Of one
+-- that is applied further in, g says it.
+abbrev pub answers : Tree → ℕ → Answers → Answers
+answers root zero g = g
+answers root (suc n) g = by_rules root (answers root n g)
+
+abbrev pub judge : Tree → ℕ → Answers → Judge
+judge root n g = (answers root n g).accepts
+
+-- The tree t is valid against the schema s: to some depth the rules of the keywords give that, whatever is said of the schemas
+-- that are applied further in. So no schema was left out that matters, and references are followed however deep they lead.
+abbrev pub IsValid : Tree → Tree → Type 0
+IsValid s t = (n : ℕ) × ((g : Answers) → judge s n g s t ≡ true)
+
+-- What is said of each schema and value meets the rules of all keywords.
+pub record MeetsRules (root : Tree) (a : Answers) : Type 0 where
+  pub accepts : (s t : Tree) → a.accepts s t ≡ accepts_by root a s t
+  pub evaluates : (s t : Tree) (c : Child) → a.evaluates s t c ≡ evaluates_by root a s t c
+
+-- What the first tokens name in the schema s is not met by what the others name in t: it is the schema `false`, or
+-- a keyword, of a schema that is applied to that part. A token of a reference goes on in the schema that it leads to (Core, 12.3.2).
+pub data IsInvalidAt : Tree → ℕ → Tree → Tree → List (List ℕ) → List (List ℕ) → Type 0 where
+  refused : {root s t : Tree} {n : ℕ} → refuses_all s ≡ true → IsInvalidAt root (suc n) s t [] []
+  unmet : {root s t : Tree} {n : ℕ} (k : Keyword) → IsUnmet s t (Some k) → IsInvalidAt root (suc n) s t (name k ∷ []) []
+  not_applied : {root s t : Tree} {n : ℕ} (k : Keyword) → ((g : Answers) → applies (judge root n g) k s t ≡ false)
+      → IsInvalidAt root (suc n) s t (name k ∷ []) []
+  in_all_of : {root s t r : Tree} {n : ℕ} {k : List ℕ} {ks js : List (List ℕ)} → item_of (schemas_at s kw.AllOf) (index_of k) ≡ Some r
+      → IsInvalidAt root n r t ks js → IsInvalidAt root (suc n) s t (name kw.AllOf ∷ k ∷ ks) js
+  in_branch : {root s t c r : Tree} {b : Bool} {n : ℕ} {ks js : List (List ℕ)} → schema_at s kw.If ≡ Some c
+      → ((g : Answers) → judge root n g c t ≡ b) → schema_at s (branch b) ≡ Some r → IsInvalidAt root n r t ks js
+      → IsInvalidAt root (suc n) s t (name (branch b) ∷ ks) js
+  in_dependent : {root s t r : Tree} {n : ℕ} {k : List ℕ} {ks js : List (List ℕ)} → is_some (tree_at_key t k) ≡ true
+      → find k (schema_map_at s kw.DependentSchemas) ≡ Some r → IsInvalidAt root n r t ks js
+      → IsInvalidAt root (suc n) s t (name kw.DependentSchemas ∷ k ∷ ks) js
+  in_patterned : {root s t r u : Tree} {n : ℕ} {p k : List ℕ} {ks js : List (List ℕ)}
+      → find p (schema_map_at s kw.PatternProperties) ≡ Some r → is_found p k ≡ true → find k (members_in t) ≡ Some u
+      → IsInvalidAt root n r u ks js → IsInvalidAt root (suc n) s t (name kw.PatternProperties ∷ p ∷ ks) (k ∷ js)
+  in_reference : {root s t r : Tree} {n : ℕ} {ks js : List (List ℕ)} (k : Keyword) → is_reference k ≡ true
+      → referenced root k s ≡ Some r → IsInvalidAt root n r t ks js → IsInvalidAt root (suc n) s t (name k ∷ ks) js
+  in_part : {root s t r u : Tree} {n : ℕ} {k : List ℕ} {ks js : List (List ℕ)} (ls : List (List ℕ)) → part_schema s t k ≡ Some r
+      → step t k ≡ Some u → part_at s ls ≡ Some r → IsInvalidAt root n r u ks js → IsInvalidAt root (suc n) s t (ls ++ ks) (k ∷ js)
+  in_rest : {root s t r : Tree} {n : ℕ} {k : List ℕ} {ks js : List (List ℕ)} (c : Child) → schema_at s (rest_keyword c) ≡ Some r
+      → IsChild t k c → ((g : Answers) → others_evaluate root (answers root n g) s t c ≡ false)
+      → IsInvalidAt root n r (value_of c) ks js → IsInvalidAt root (suc n) s t (name (rest_keyword c) ∷ ks) (k ∷ js)
+
+-- No violation, and the whole schema s accepts t; or one, and it does not.
+abbrev pub Validates : ℕ → Tree → Tree → Result (Option Violation) CheckError → Type 0
+Validates n s t (Ok None) = IsValid s t
+Validates n s t (Ok (Some v)) = IsInvalidAt s n s t (tokens_of v.keyword_location) (tokens_of v.instance_location)
+    × IsSome (part_at t (tokens_of v.instance_location)) × ¬ IsValid s t
+Validates n s t (Err e) = Unit {0}
+
+-- Whatever meets the rules of the keywords gives the same answer.
+abbrev pub Agrees : Tree → Tree → Option Violation → Type 0
+Agrees s t o = (a : Answers) → MeetsRules s a → a.accepts s t ≡ not (is_some o)
+
+-- ---- words of private contracts
+
+-- what schemas say in a walk, where g speaks beyond its steps
+abbrev pub answers_in : Walk → Answers → Answers
+answers_in w g = answers (view w.whole.now.root.now) w.steps g
+
+abbrev pub says : Walk → Answers → Judge
+says w g = judge (view w.whole.now.root.now) w.steps g
+
+-- x is what q makes of what schemas say in the walk, whatever is said beyond its steps.
+abbrev pub Follows : {X : Type 0} → Walk → X → (Judge → X) → Type 0
+Follows w x q = (g : Answers) → x ≡ q (says w g)
+
+-- No violation, and s accepts t, within so many steps; or one, and it does not.
+abbrev pub Decides : Tree → ℕ → Tree → Tree → Result (Option Violation) CheckError → Type 0
+Decides root n s t (Ok None) = (g : Answers) → judge root n g s t ≡ true
+Decides root n s t (Ok (Some v)) = IsInvalidAt root n s t (tokens_of v.keyword_location) (tokens_of v.instance_location)
+Decides root n s t (Err e) = Unit {0}
+
+abbrev pub Judges : Walk → Tree → Tree → Result (Option Violation) CheckError → Type 0
+Judges w = Decides (view w.whole.now.root.now) w.steps
+
+-- No violation, and what was asked of t is so; or one, of t by s, in whose schemas the walk is.
+abbrev pub Finds : Walk → (Judge → Bool) → Tree → Tree → Result (Option Violation) CheckError → Type 0
+Finds w q s t (Ok None) = (g : Answers) → q (says w g) ≡ true
+Finds w q s t (Ok (Some v)) = IsInvalidAt (view w.whole.now.root.now) (suc w.steps) s t (tokens_of v.keyword_location)
+    (tokens_of v.instance_location)
+Finds w q s t (Err e) = Unit {0}
+
+-- No violation, and what the others of s leave is accepted; or one.
+abbrev pub FindsRest : Walk → Tree → Tree → Result (Option Violation) CheckError → Type 0
+FindsRest w s t (Ok None) = (g : Answers) → rest_accepted (view w.whole.now.root.now) (answers_in w g) s t ≡ true
+FindsRest w s t (Ok (Some v)) = IsInvalidAt (view w.whole.now.root.now) (suc w.steps) s t (tokens_of v.keyword_location)
+    (tokens_of v.instance_location)
+FindsRest w s t (Err e) = Unit {0}
+
+-- The place is in the member at the key k, in which the pattern p is found, and which the schema r does not accept.
+pub record InFound (w : Walk) (p : List ℕ) (r : Tree) (ms : Members) (v : Violation) : Type 0 where
+  pub key : List ℕ
+  pub value : Tree
+  pub rest : List (List ℕ)
+  pub found : is_found p key ≡ true
+  pub at : find key ms ≡ Some value
+  pub placed : tokens_of v.instance_location ≡ key ∷ rest
+  pub invalid : IsInvalidAt (view w.whole.now.root.now) w.steps r value (tokens_of v.keyword_location) rest
+
+-- No violation, and r accepts each of the members in whose key p is found; or one, in such a member.
+abbrev pub FindsFound : Walk → List ℕ → Tree → Members → Result (Option Violation) CheckError → Type 0
+FindsFound w p r ms (Ok None) = (g : Answers) → found_pass (says w g r) p ms ≡ true
+FindsFound w p r ms (Ok (Some v)) = InFound w p r ms v
+FindsFound w p r ms (Err e) = Unit {0}
+
+-- No keyword, and t meets all of these; or one that it does not meet.
+abbrev pub IsUnapplied : Walk → List Keyword → Tree → Tree → Option Keyword → Type 0
+IsUnapplied w ks s t None = (g : Answers) → apply_all (says w g) ks s t ≡ true
+IsUnapplied w ks s t (Some k) = (g : Answers) → applies (says w g) k s t ≡ false

@@ -1,0 +1,72 @@
+//! How many items of an array the schema of `contains` has to accept.
+ghost use Rattle.std.specs.Prelude.{◌≡◌, IfOk, false};
+ghost use Rattle.std.specs.Option.{option_map_or};
+ghost use Rattle.tinyjson.specs.View.{view};
+ghost use Rattle.tinyjson_schema_keywords.specs.Applied.{schema_at};
+ghost use Rattle.tinyjson_schema_keywords.specs.declared.keyword.Keyword.TheVariants as kw;
+ghost use Rattle.tinyjson_schema.specs.Applicators.{contains_some, contains_at_most};
+ghost use Rattle.tinyjson_schema.specs.Applicators.{contains_at_least, is_zero};
+
+use crate::assertions::{is_count_at_least, is_count_at_most};
+use std::alloc::{AllocError, Global};
+use tinyjson::JsonValue;
+use tinyjson_schema_keywords::{Keyword, schema_at};
+
+/// Whether the count is enough for `contains`: one, unless `minContains` is 0; `true` of none.
+pub fn contains_some(count: Option<usize>, schema: &JsonValue) -> bool
+    ensures { result ≡ contains_some count (view schema.now) }
+{
+    if needs_none(schema) {
+        return true;
+    }
+    match count {
+        Some(count) => count != 0,
+        None => true,
+    }
+}
+
+fn needs_none(schema: &JsonValue) -> bool
+    ensures { result ≡ option_map_or is_zero (schema_at (view schema.now) kw.MinContains) false }
+{
+    match schema_at(schema, Keyword::MinContains) {
+        Some(least) => is_zero(least),
+        None => false,
+    }
+}
+
+fn is_zero(value: &JsonValue) -> bool
+    ensures { result ≡ is_zero (view value.now) }
+{
+    match value {
+        JsonValue::Number(number) => number.digits().is_empty(),
+        _ => false,
+    }
+}
+
+/// Whether the count is at most `maxContains`; `true` of none.
+pub fn contains_at_most(
+    count: Option<usize>,
+    schema: &JsonValue,
+    alloc: Global,
+) -> Result<bool, AllocError>
+    ensures { IfOk result (λ is. is ≡ contains_at_most count (view schema.now)) }
+{
+    match schema_at(schema, Keyword::MaxContains) {
+        Some(limit) => is_count_at_most(count, limit, alloc),
+        None => Ok(true),
+    }
+}
+
+/// Whether the count is at least `minContains`; `true` of none.
+pub fn contains_at_least(
+    count: Option<usize>,
+    schema: &JsonValue,
+    alloc: Global,
+) -> Result<bool, AllocError>
+    ensures { IfOk result (λ is. is ≡ contains_at_least count (view schema.now)) }
+{
+    match schema_at(schema, Keyword::MinContains) {
+        Some(limit) => is_count_at_least(count, limit, alloc),
+        None => Ok(true),
+    }
+}

@@ -1,0 +1,124 @@
+//! The schema that there is for a member or an item.
+ghost use Rattle.std.specs.Prelude.{◌≡◌, option_map, IfOk};
+ghost use Rattle.std.specs.Str.{chars};
+ghost use Rattle.tinyjson.specs.View.{view, members_listed};
+ghost use Rattle.tinyjson_schema.specs.Parts.{property, prefix_item, some_found, is_patterned};
+ghost use Rattle.tinyjson_schema.specs.Parts.{additional};
+ghost use Rattle.tinyjson_schema.specs.Places.{IsMemberPart, IsItemPart};
+
+use crate::pattern::Pattern;
+use std::alloc::{AllocError, Global};
+use tinyjson::JsonValue;
+use tinyjson_schema_keywords::{Keyword, operand, schema_map_at};
+
+/// The schema for a part of the value, and what applies it.
+#[derive(Clone, Copy)]
+pub struct Part<'s> {
+    pub applicator: Keyword,
+    pub schema: &'s JsonValue,
+}
+
+/// The schema for the member at the key: that of `properties`, or else `additionalProperties`, unless
+/// a pattern of `patternProperties` is found in the key.
+pub fn member_part<'s>(
+    schema: &'s JsonValue,
+    key: &str,
+    alloc: Global,
+) -> Result<Option<Part<'s>>, AllocError>
+    ensures { IfOk result (λ part. IsMemberPart (view schema.now) (chars key.now) part) }
+{
+    if let Some(part) = property(schema, key) {
+        return Ok(Some(Part {
+            applicator: Keyword::Properties,
+            schema: part,
+        }));
+    }
+    match additional(schema, key, alloc)? {
+        Some(part) => Ok(Some(Part {
+            applicator: Keyword::AdditionalProperties,
+            schema: part,
+        })),
+        None => Ok(None),
+    }
+}
+
+/// The schema for the item at the index: that of `prefixItems`, or else `items`.
+pub fn item_part(schema: &JsonValue, index: usize) -> Option<Part<'_>>
+    ensures { IsItemPart (view schema.now) index result }
+{
+    if let Some(part) = prefix_item(schema, index) {
+        return Some(Part {
+            applicator: Keyword::PrefixItems,
+            schema: part,
+        });
+    }
+    match operand(schema, "items") {
+        Some(part) => Some(Part {
+            applicator: Keyword::Items,
+            schema: part,
+        }),
+        None => None,
+    }
+}
+
+/// The schema that `properties` has at a key.
+fn property<'s>(schema: &'s JsonValue, key: &str) -> Option<&'s JsonValue>
+    ensures { option_map (λ x. view x.now) result ≡ property (view schema.now) (chars key.now) }
+{
+    operand(operand(schema, "properties")?, key)
+}
+
+/// The schema that `additionalProperties` has for a key in which no pattern is found.
+fn additional<'s>(
+    schema: &'s JsonValue,
+    key: &str,
+    alloc: Global,
+) -> Result<Option<&'s JsonValue>, AllocError>
+    ensures { IfOk result (λ part.
+        option_map (λ x. view x.now) part ≡ additional (view schema.now) (chars key.now)) }
+{
+    let Some(part) = operand(schema, "additionalProperties") else {
+        return Ok(None);
+    };
+    let patterned = is_patterned(schema, key, alloc)?;
+    if patterned {
+        return Ok(None);
+    }
+    Ok(Some(part))
+}
+
+/// Whether a pattern of `patternProperties` is found in the key. Not inlined, since the recursion over
+/// schemas calls it at each level.
+#[inline(never)]
+pub fn is_patterned(schema: &JsonValue, key: &str, alloc: Global) -> Result<bool, AllocError>
+    ensures { IfOk result (λ is. is ≡ is_patterned (view schema.now) (chars key.now)) }
+{
+    let patterns = schema_map_at(schema, Keyword::PatternProperties, alloc)?;
+    some_found(patterns.as_slice(), key, alloc)
+}
+
+fn some_found(
+    patterns: &[(&String, &JsonValue)],
+    key: &str,
+    alloc: Global,
+) -> Result<bool, AllocError>
+    ensures { IfOk result
+        (λ some. some ≡ some_found (members_listed patterns.now) (chars key.now)) }
+{
+    for &(pattern, _) in patterns {
+        if Pattern::read(alloc, pattern.as_str())?.is_found_in(key) {
+            return Ok(true);
+        }
+    }
+    Ok(false)
+}
+
+/// The schema that `prefixItems` has at an index.
+fn prefix_item(schema: &JsonValue, index: usize) -> Option<&JsonValue>
+    ensures { option_map (λ x. view x.now) result ≡ prefix_item (view schema.now) index }
+{
+    match operand(schema, "prefixItems")? {
+        JsonValue::Array(schemas) => schemas.get(index),
+        _ => None,
+    }
+}

@@ -1,0 +1,82 @@
+//! Patterns in schemas (Core, 6.4).
+ghost use Rattle.std.specs.Prelude.{◌≡◌, ℕ, List, IfOk, IfErr, is_some};
+ghost use Rattle.std.specs.Str.{chars};
+ghost use Rattle.tinyjson.specs.View.{text};
+ghost use Rattle.i_regexp.specs.PatternDeciding.{is_pattern, is_found};
+ghost use Rattle.tinyjson_schema.specs.Patterns.{answer_of, IsPatternError};
+
+use i_regexp::{SchemaPattern, SchemaPatternErrorKind};
+use std::alloc::{AllocError, Global};
+
+/// Why a pattern is not read.
+#[derive(Clone, Copy)]
+pub enum PatternError {
+    /// It is too deep or too large.
+    AboveLimits,
+    /// An allocation failed.
+    OutOfMemory,
+}
+
+/// A text that was read as a pattern.
+#[derive(Drop)]
+pub struct Pattern {
+    pattern: String,
+    /// Nothing where the text is no pattern.
+    code: Option<SchemaPattern>,
+    ghost read: { (cs : List ℕ) → is_found (text pattern) cs ≡ answer_of code cs },
+}
+
+impl Pattern {
+    /// Reads a text; one that is no pattern is found nowhere. No pattern of a schema that was read is too
+    /// deep or too large; another would be told as want of memory.
+    pub fn read(alloc: Global, pattern: &str) -> Result<Pattern, AllocError>
+        ensures { IfOk result (λ p. text p.pattern ≡ chars pattern.now) }
+    {
+        let Ok(code) = code_of(alloc, pattern) else {
+            return Err(AllocError);
+        };
+        let pattern = String::from_str(alloc, pattern)?;
+        Ok(Pattern { pattern, code })
+    }
+
+    /// Whether the pattern is found in the text: anywhere, unless it says where.
+    pub fn is_found_in(&mut self, value: &str) -> bool
+        ensures found { result ≡ is_found (text self.old.pattern) (chars value.now) }
+        ensures same { self.new.pattern ≡ self.old.pattern }
+    {
+        match &mut self.code {
+            Some(code) => code.is_found_in(value),
+            None => false,
+        }
+    }
+}
+
+/// The pattern that the text is, if it is one.
+fn code_of(alloc: Global, pattern: &str) -> Result<Option<SchemaPattern>, PatternError>
+    ensures is { IfOk result (λ o. is_some o ≡ is_pattern (chars pattern.now)) }
+    ensures found { IfOk result
+        (λ o. (cs : List ℕ) → is_found (chars pattern.now) cs ≡ answer_of o cs) }
+    ensures error { IfErr result (λ e. IsPatternError (chars pattern.now) e) }
+{
+    match SchemaPattern::parse(alloc, pattern) {
+        Ok(code) => Ok(Some(code)),
+        Err(error) => match error.kind {
+            SchemaPatternErrorKind::Invalid => Ok(None),
+            SchemaPatternErrorKind::Outside => Ok(None),
+            SchemaPatternErrorKind::TooDeep => Err(PatternError::AboveLimits),
+            SchemaPatternErrorKind::TooLarge => Err(PatternError::AboveLimits),
+            SchemaPatternErrorKind::OutOfMemory => Err(PatternError::OutOfMemory),
+        },
+    }
+}
+
+/// Whether the text is a pattern.
+pub fn is_pattern(alloc: Global, text: &str) -> Result<bool, PatternError>
+    ensures is { IfOk result (λ is. is ≡ is_pattern (chars text.now)) }
+    ensures error { IfErr result (λ e. IsPatternError (chars text.now) e) }
+{
+    match code_of(alloc, text) {
+        Ok(code) => Ok(code.is_some()),
+        Err(error) => Err(error),
+    }
+}

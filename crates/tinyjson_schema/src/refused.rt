@@ -1,0 +1,493 @@
+//! Which schemas can be applied, and the place of what can't.
+ghost use Rattle.std.specs.Prelude.{◌≡◌, ◌&&◌, IfOk, true, false, option_map};
+ghost use Rattle.std.specs.Str.{chars};
+ghost use Rattle.std.specs.String.{string_bytes};
+ghost use Rattle.tinyjson.specs.Access.{is_string, is_boolean, is_array, is_number};
+ghost use Rattle.tinyjson.specs.Soundness.{IsSorted};
+ghost use Rattle.tinyjson.specs.Tree.{Tree, array, object};
+ghost use Rattle.tinyjson.specs.View.{view, items_view, members_listed};
+ghost use Rattle.tinyjson_schema_keywords.specs.Anchors.{is_own_name, is_name};
+ghost use Rattle.tinyjson_schema_keywords.specs.Forms.{is_some_item};
+ghost use Rattle.tinyjson_schema_keywords.specs.declared.form.Form.TheVariants as form;
+ghost use Rattle.tinyjson_schema.specs.Operands.{is_count, is_type_name, are_type_names, are_types};
+ghost use Rattle.tinyjson_schema.specs.Operands.{are_strings, are_keys, is_key_list};
+ghost use Rattle.tinyjson_schema.specs.Operands.{have_key_lists, is_key_map, is_pattern_text};
+ghost use Rattle.tinyjson_schema.specs.Operands.{are_patterns, has_patterns, is_dialect};
+ghost use Rattle.tinyjson_schema.specs.Operands.{is_name_of_type, is_type_list};
+ghost use Rattle.tinyjson_schema.specs.Refused.{Refuses, RefusesWhole, IsWhole, IsTextReason};
+ghost use Rattle.tinyjson_schema.specs.Refused.{whole_for, whole_of};
+ghost use Rattle.tinyjson_schema.specs.Schemas.{is_schema, keywords_fit, fits, is_schema_list};
+ghost use Rattle.tinyjson_schema.specs.Schemas.{is_schema_map, are_schemas, have_schemas};
+
+use crate::assertions::is_among;
+use crate::circles::leads;
+use crate::multiple::is_divisor_number;
+use crate::pattern::{PatternError, is_pattern};
+use std::alloc::{AllocError, Global};
+use tinyjson::{JsonValue, sorted_members};
+use tinyjson_compare::are_distinct;
+use tinyjson_pointer::Pointer;
+use tinyjson_schema_keywords::{Document, Form, form_at, is_plain_name, is_some_item};
+
+/// A place in a schema that is refused, and why.
+#[derive(Drop)]
+pub struct RefusedPlace {
+    pub pointer: Pointer,
+    pub reason: Reason,
+}
+
+/// Why a place is refused.
+#[derive(Clone, Copy)]
+pub enum Reason {
+    /// What stands there can't be applied.
+    Misfit,
+    /// It is a pattern that is too deep or too large.
+    PatternLimit,
+}
+
+/// The place of what can't be applied in a schema: a keyword whose value has another form than the standard's,
+/// a reference that leads to no schema in it, or in a circle, or a schema that is neither an object nor a truth
+/// value; or that of a pattern that is too deep or too large. `None` says that the schema can be applied. The only
+/// error is out of memory.
+///
+/// It calls itself for each schema in the schema, so it takes stack as the schema is deep.
+pub fn refused_place(
+    document: Document<'_, '_>,
+    alloc: Global,
+) -> Result<Option<RefusedPlace>, AllocError>
+    ensures { let root = whole_of document.entry in
+        Refuses (is_schema root true root) root true form.Schema root result }
+{
+    refused_in(document.whole.root, document, true, alloc)
+}
+
+/// The same of a schema in the whole one, or of the whole one.
+#[cycle(refused)]
+fn refused_in(
+    schema: &JsonValue,
+    document: Document<'_, '_>,
+    is_whole: bool,
+    alloc: Global,
+) -> Result<Option<RefusedPlace>, AllocError>
+    ensures { Refuses (is_schema (whole_of document.entry) is_whole (view schema.now))
+        (whole_of document.entry) is_whole form.Schema (view schema.now) result }
+{
+    match schema {
+        JsonValue::Boolean(_) => Ok(None),
+        JsonValue::Object(keywords) => {
+            let sorted = sorted_members(alloc, keywords)?;
+            refused_keyword(sorted.as_slice(), document, is_whole, alloc)
+        }
+        _ => Ok(Some(whole_place(alloc, Reason::Misfit))),
+    }
+}
+
+#[cycle(refused)]
+fn refused_keyword(
+    keywords: &[(&String, &JsonValue)],
+    document: Document<'_, '_>,
+    is_whole: bool,
+    alloc: Global,
+) -> Result<Option<RefusedPlace>, AllocError>
+    requires { IsSorted (members_listed keywords.now) }
+    ensures { Refuses
+        (keywords_fit (whole_of document.entry) is_whole (members_listed keywords.now))
+        (whole_of document.entry) is_whole form.Schema
+        (object (members_listed keywords.now)) result }
+{
+    for &(name, operand) in keywords {
+        if let Some(mut place) = misfit(
+            form_at(name.as_str()),
+            operand,
+            document,
+            is_whole,
+            alloc,
+        )? {
+            place
+                .pointer
+                .prepend(String::from_str(alloc, name.as_str())?)?;
+            return Ok(Some(place));
+        }
+    }
+    Ok(None)
+}
+
+/// The place in a keyword's value of what has another form.
+#[cycle(refused)]
+fn misfit(
+    form: Form,
+    operand: &JsonValue,
+    document: Document<'_, '_>,
+    is_whole: bool,
+    alloc: Global,
+) -> Result<Option<RefusedPlace>, AllocError>
+    ensures { Refuses (fits (whole_of document.entry) is_whole form (view operand.now))
+        (whole_of document.entry) (whole_for is_whole form) form (view operand.now) result }
+{
+    match form {
+        Form::Anything => Ok(None),
+        Form::Text => unless(is_string(operand), alloc),
+        Form::Truth => unless(is_boolean(operand), alloc),
+        Form::List => unless(is_array(operand), alloc),
+        Form::Types => unless(are_types(operand), alloc),
+        Form::Number => unless(is_number(operand), alloc),
+        Form::Divisor => unless(is_divisor_number(operand), alloc),
+        Form::Count => unless(is_count(operand), alloc),
+        Form::Keys => unless(is_key_list(operand, alloc)?, alloc),
+        Form::KeyLists => unless(is_key_map(operand, alloc)?, alloc),
+        Form::Pattern => refused_text(operand, alloc),
+        Form::Dialect => unless(is_dialect(operand), alloc),
+        Form::Schema => refused_in(operand, document, false, alloc),
+        Form::Schemas => refused_in_list(operand, document, alloc),
+        Form::SchemaMap => refused_in_map(operand, document, alloc),
+        Form::PatternMap => refused_in_patterns(operand, document, alloc),
+        Form::Base => unless(is_base(operand, is_whole), alloc),
+        Form::Reference => unless(leads(operand, document, alloc)?, alloc),
+        Form::Anchor => unless(is_own_name(operand, document), alloc),
+    }
+}
+
+#[cycle(refused)]
+fn refused_in_list(
+    schemas: &JsonValue,
+    document: Document<'_, '_>,
+    alloc: Global,
+) -> Result<Option<RefusedPlace>, AllocError>
+    ensures { Refuses (is_schema_list (whole_of document.entry) (view schemas.now))
+        (whole_of document.entry) false form.Schemas (view schemas.now) result }
+{
+    let JsonValue::Array(schemas) = schemas else {
+        return Ok(Some(whole_place(alloc, Reason::Misfit)));
+    };
+    let schemas = schemas.as_slice();
+    if !is_some_item(schemas) {
+        return Ok(Some(whole_place(alloc, Reason::Misfit)));
+    }
+    refused_item(schemas, document, alloc)
+}
+
+#[cycle(refused)]
+fn refused_item(
+    schemas: &[JsonValue],
+    document: Document<'_, '_>,
+    alloc: Global,
+) -> Result<Option<RefusedPlace>, AllocError>
+    ensures { Refuses (are_schemas (whole_of document.entry) (items_view schemas.now))
+        (whole_of document.entry) false form.Schemas (array (items_view schemas.now)) result }
+{
+    for (index, schema) in schemas.iter().enumerate() {
+        if let Some(mut place) = refused_in(schema, document, false, alloc)? {
+            place.pointer.prepend_index(alloc, index)?;
+            return Ok(Some(place));
+        }
+    }
+    Ok(None)
+}
+
+#[cycle(refused)]
+fn refused_in_map(
+    schemas: &JsonValue,
+    document: Document<'_, '_>,
+    alloc: Global,
+) -> Result<Option<RefusedPlace>, AllocError>
+    ensures { Refuses (is_schema_map (whole_of document.entry) (view schemas.now))
+        (whole_of document.entry) false form.SchemaMap (view schemas.now) result }
+{
+    let JsonValue::Object(schemas) = schemas else {
+        return Ok(Some(whole_place(alloc, Reason::Misfit)));
+    };
+    let sorted = sorted_members(alloc, schemas)?;
+    refused_member(sorted.as_slice(), document, alloc)
+}
+
+#[cycle(refused)]
+fn refused_member(
+    schemas: &[(&String, &JsonValue)],
+    document: Document<'_, '_>,
+    alloc: Global,
+) -> Result<Option<RefusedPlace>, AllocError>
+    requires { IsSorted (members_listed schemas.now) }
+    ensures { Refuses (have_schemas (whole_of document.entry) (members_listed schemas.now))
+        (whole_of document.entry) false form.SchemaMap
+        (object (members_listed schemas.now)) result }
+{
+    for &(key, schema) in schemas {
+        if let Some(mut place) = refused_in(schema, document, false, alloc)? {
+            place
+                .pointer
+                .prepend(String::from_str(alloc, key.as_str())?)?;
+            return Ok(Some(place));
+        }
+    }
+    Ok(None)
+}
+
+/// The place of a key that is no pattern, or one above the limits, or else of what is refused in a schema.
+#[cycle(refused)]
+fn refused_in_patterns(
+    schemas: &JsonValue,
+    document: Document<'_, '_>,
+    alloc: Global,
+) -> Result<Option<RefusedPlace>, AllocError>
+    ensures { Refuses
+        (has_patterns (view schemas.now)
+        && is_schema_map (whole_of document.entry) (view schemas.now))
+        (whole_of document.entry) false form.PatternMap (view schemas.now) result }
+{
+    if let Some(place) = refused_pattern(schemas, alloc)? {
+        return Ok(Some(place));
+    }
+    refused_in_map(schemas, document, alloc)
+}
+
+fn refused_pattern(schemas: &JsonValue, alloc: Global) -> Result<Option<RefusedPlace>, AllocError>
+    ensures { (root : Tree) → Refuses (has_patterns (view schemas.now))
+        root false form.PatternMap (view schemas.now) result }
+{
+    match schemas {
+        JsonValue::Object(schemas) => {
+            let sorted = sorted_members(alloc, schemas)?;
+            refused_key(sorted.as_slice(), alloc)
+        }
+        _ => Ok(Some(whole_place(alloc, Reason::Misfit))),
+    }
+}
+
+fn refused_key(
+    schemas: &[(&String, &JsonValue)],
+    alloc: Global,
+) -> Result<Option<RefusedPlace>, AllocError>
+    requires { IsSorted (members_listed schemas.now) }
+    ensures { (root : Tree) → Refuses (are_patterns (members_listed schemas.now))
+        root false form.PatternMap (object (members_listed schemas.now)) result }
+{
+    for &(key, _) in schemas {
+        if let Some(reason) = text_reason(key.as_str(), alloc)? {
+            let mut place = whole_place(alloc, reason);
+            place
+                .pointer
+                .prepend(String::from_str(alloc, key.as_str())?)?;
+            return Ok(Some(place));
+        }
+    }
+    Ok(None)
+}
+
+/// The place of the whole, unless it is a text that is a pattern.
+fn refused_text(value: &JsonValue, alloc: Global) -> Result<Option<RefusedPlace>, AllocError>
+    ensures { (root : Tree) → Refuses (is_pattern_text (view value.now))
+        root false form.Pattern (view value.now) result }
+{
+    match value {
+        JsonValue::String(pattern) => match text_reason(pattern.as_str(), alloc)? {
+            Some(reason) => Ok(Some(whole_place(alloc, reason))),
+            None => Ok(None),
+        },
+        _ => Ok(Some(whole_place(alloc, Reason::Misfit))),
+    }
+}
+
+/// Why the text can't be applied as a pattern; `None` says that it can be.
+fn text_reason(text: &str, alloc: Global) -> Result<Option<Reason>, AllocError>
+    ensures { IfOk result (λ reason. IsTextReason (chars text.now) reason) }
+{
+    match is_pattern(alloc, text) {
+        Ok(true) => Ok(None),
+        Ok(false) => Ok(Some(Reason::Misfit)),
+        Err(PatternError::AboveLimits) => Ok(Some(Reason::PatternLimit)),
+        Err(PatternError::OutOfMemory) => Err(AllocError),
+    }
+}
+
+/// The place of the whole.
+fn whole_place(alloc: Global, reason: Reason) -> RefusedPlace
+    ensures { IsWhole reason result }
+{
+    RefusedPlace {
+        pointer: Pointer::root(alloc),
+        reason,
+    }
+}
+
+/// The place of the whole, unless it fits.
+fn unless(fits: bool, alloc: Global) -> Result<Option<RefusedPlace>, AllocError>
+    ensures { RefusesWhole fits result }
+{
+    if fits {
+        Ok(None)
+    } else {
+        Ok(Some(whole_place(alloc, Reason::Misfit)))
+    }
+}
+
+/// Whether it is a plain name, and not the first one that the document has twice.
+fn is_own_name(value: &JsonValue, document: Document<'_, '_>) -> bool
+    ensures { result ≡ is_own_name (whole_of document.entry) (view value.now) }
+{
+    match value {
+        JsonValue::String(name) => is_plain_name(name.as_str())
+            && !is_name(document.again, name.as_str()),
+        _ => false,
+    }
+}
+
+fn is_name(again: Option<&String>, name: &str) -> bool
+    ensures { result ≡ is_name (option_map (λ x. string_bytes x.now) again.entry) name.now }
+{
+    match again {
+        Some(other) => other.as_str() == name,
+        None => false,
+    }
+}
+
+/// Whether the value may be that of `$id`: a string, in the whole schema alone.
+fn is_base(value: &JsonValue, is_whole: bool) -> bool
+    ensures { result ≡ is_whole && is_string (view value.now) }
+{
+    is_whole && is_string(value)
+}
+
+fn is_string(value: &JsonValue) -> bool
+    ensures { result ≡ is_string (view value.now) }
+{
+    matches!(value, JsonValue::String(_))
+}
+
+fn is_boolean(value: &JsonValue) -> bool
+    ensures { result ≡ is_boolean (view value.now) }
+{
+    matches!(value, JsonValue::Boolean(_))
+}
+
+fn is_array(value: &JsonValue) -> bool
+    ensures { result ≡ is_array (view value.now) }
+{
+    matches!(value, JsonValue::Array(_))
+}
+
+fn is_number(value: &JsonValue) -> bool
+    ensures { result ≡ is_number (view value.now) }
+{
+    matches!(value, JsonValue::Number(_))
+}
+
+fn is_count(value: &JsonValue) -> bool
+    ensures { result ≡ is_count (view value.now) }
+{
+    match value {
+        JsonValue::Number(number) => !number.is_negative() && number.power() >= 0,
+        _ => false,
+    }
+}
+
+fn are_types(value: &JsonValue) -> bool
+    ensures { result ≡ are_types (view value.now) }
+{
+    match value {
+        JsonValue::Array(names) => is_type_list(names.as_slice()),
+        _ => is_type_name(value),
+    }
+}
+
+fn is_type_list(names: &[JsonValue]) -> bool
+    ensures { result ≡ is_type_list (items_view names.now) }
+{
+    if !is_some_item(names) {
+        return false;
+    }
+    are_type_names(names)
+}
+
+fn are_type_names(names: &[JsonValue]) -> bool
+    ensures { result ≡ are_type_names (items_view names.now) }
+{
+    let mut rest = names;
+    while let Some((name, more)) = rest.split_first() {
+        if !is_type_name(name) || is_among(more, name) {
+            return false;
+        }
+        rest = more;
+    }
+    true
+}
+
+fn is_type_name(value: &JsonValue) -> bool
+    ensures { result ≡ is_type_name (view value.now) }
+{
+    match value {
+        JsonValue::String(name) => is_name_of_type(name.as_str()),
+        _ => false,
+    }
+}
+
+fn is_name_of_type(name: &str) -> bool
+    ensures { result ≡ is_name_of_type name.now }
+{
+    matches!(
+        name,
+        "null" | "boolean" | "object" | "array" | "number" | "string" | "integer"
+    )
+}
+
+fn is_key_list(value: &JsonValue, alloc: Global) -> Result<bool, AllocError>
+    ensures { IfOk result (λ is. is ≡ is_key_list (view value.now)) }
+{
+    match value {
+        JsonValue::Array(keys) => are_keys(keys.as_slice(), alloc),
+        _ => Ok(false),
+    }
+}
+
+/// Whether they are different strings. The time grows with the strings, and not with the pairs of them.
+fn are_keys(keys: &[JsonValue], alloc: Global) -> Result<bool, AllocError>
+    ensures { IfOk result (λ are. are ≡ are_keys (items_view keys.now)) }
+{
+    if !are_strings(keys) {
+        return Ok(false);
+    }
+    are_distinct(keys, alloc)
+}
+
+fn are_strings(values: &[JsonValue]) -> bool
+    ensures { result ≡ are_strings (items_view values.now) }
+{
+    for value in values {
+        if !is_string(value) {
+            return false;
+        }
+    }
+    true
+}
+
+fn is_key_map(value: &JsonValue, alloc: Global) -> Result<bool, AllocError>
+    ensures { IfOk result (λ is. is ≡ is_key_map (view value.now)) }
+{
+    match value {
+        JsonValue::Object(lists) => {
+            let sorted = sorted_members(alloc, lists)?;
+            have_key_lists(sorted.as_slice(), alloc)
+        }
+        _ => Ok(false),
+    }
+}
+
+fn have_key_lists(lists: &[(&String, &JsonValue)], alloc: Global) -> Result<bool, AllocError>
+    ensures { IfOk result (λ have. have ≡ have_key_lists (members_listed lists.now)) }
+{
+    for &(_, keys) in lists {
+        let is = is_key_list(keys, alloc)?;
+        if !is {
+            return Ok(false);
+        }
+    }
+    Ok(true)
+}
+
+fn is_dialect(value: &JsonValue) -> bool
+    ensures { result ≡ is_dialect (view value.now) }
+{
+    match value {
+        JsonValue::String(name) => name.as_str() == "https://json-schema.org/draft/2020-12/schema",
+        _ => false,
+    }
+}

@@ -1,0 +1,102 @@
+//! Schemas, which are looked through before a value is checked.
+ghost use Rattle.std.specs.Prelude.{◌≡◌, true, IfOk};
+ghost use Rattle.tinyjson.specs.View.{view};
+ghost use Rattle.tinyjson_schema.specs.Schemas.{is_schema};
+ghost use Rattle.tinyjson_schema.specs.declared.schema.SchemaError.{SchemaError};
+
+use crate::refused::{Reason, refused_place};
+use crate::validate::find_violation;
+use crate::violation::Violation;
+use std::alloc::{AllocError, Global};
+use tinyjson::JsonValue;
+use tinyjson_pointer::Pointer;
+use tinyjson_schema_keywords::{CheckError, Document, Walk, Whole, anchors_of, repeated};
+
+/// A schema that can be applied: each keyword in it has a value of the standard's form, and is one that is applied or
+/// says nothing, and each reference leads to a schema in it, and not in a circle.
+#[derive(Drop)]
+pub struct Schema<'s> {
+    whole: Whole<'s>,
+    ghost checked: { is_schema (view whole.root.now) true (view whole.root.now) ≡ true },
+}
+
+/// Why a tree is not taken as a schema.
+#[derive(Drop)]
+pub enum SchemaError {
+    /// What stands at this place can't be applied: a keyword whose value has another form than the standard's,
+    /// a reference that leads to no schema in the tree, or in a circle, a name that another schema
+    /// has, or a schema that is neither an object nor a truth value.
+    Refused(Pointer),
+    /// A pattern at this place is too deep or too large.
+    PatternLimit(Pointer),
+    /// An allocation failed.
+    OutOfMemory,
+}
+
+impl From<AllocError> for SchemaError {
+    ghost from_gives = { λ _ e. e ≡ SchemaError.OutOfMemory };
+
+    fn from(_: AllocError) -> SchemaError {
+        SchemaError::OutOfMemory
+    }
+}
+
+impl<'s> Schema<'s> {
+    ghost use Rattle.tinyjson_schema.specs.Reading.{ReadsSchema, tree_of};
+    ghost use Rattle.tinyjson_schema.specs.Valid.{Validates, Agrees};
+
+    /// Looks a tree through, and gives it as a schema, or the place of what can't be applied in it (Core, 4.3), or of a pattern that is too
+    /// deep or too large.
+    ///
+    /// It calls itself for each schema in the tree, so it takes stack as the tree is deep.
+    ///
+    /// ```
+    /// let schema = Schema::read(&tree, alloc)?;
+    /// ```
+    pub fn read(tree: &'s JsonValue, alloc: Global) -> Result<Schema<'s>, SchemaError>
+        ensures { ReadsSchema (view tree.now) result }
+    {
+        let anchors = anchors_of(tree, alloc)?;
+        let again = repeated(anchors.as_slice(), alloc)?;
+        let whole = Whole {
+            root: tree,
+            anchors,
+        };
+        let document = Document {
+            whole: &whole,
+            again,
+        };
+        match refused_place(document, alloc)? {
+            None => Ok(Schema { whole }),
+            Some(place) => match place.reason {
+                Reason::Misfit => Err(SchemaError::Refused(place.pointer)),
+                Reason::PatternLimit => Err(SchemaError::PatternLimit(place.pointer)),
+            },
+        }
+    }
+
+    /// What the value does not meet of the schema, and where in the value; `None` says that the value is valid. So many
+    /// schemas may be applied in one another, by keywords and by references; where more would be, it returns `TooDeep`.
+    /// The other error is out of memory.
+    ///
+    /// It calls itself for each schema that a schema applies, so it takes stack as these are applied in one another.
+    ///
+    /// ```
+    /// let place = schema.invalid_place(&value, 200, alloc)?;
+    /// ```
+    pub fn invalid_place(
+        &self,
+        value: &JsonValue,
+        steps: usize,
+        alloc: Global,
+    ) -> Result<Option<Violation>, CheckError>
+        ensures judged { Validates steps (tree_of self.now) (view value.now) result }
+        ensures only { IfOk result (λ found. Agrees (tree_of self.now) (view value.now) found) }
+    {
+        let walk = Walk {
+            whole: &self.whole,
+            steps,
+        };
+        find_violation(value, walk, alloc)
+    }
+}

@@ -1,0 +1,361 @@
+//! What a value does not meet of a schema.
+ghost use Rattle.std.specs.Prelude.{◌≡◌, IfOk, not, is_some, true};
+ghost use Rattle.tinyjson.specs.Tree.{array, object};
+ghost use Rattle.tinyjson.specs.View.{view, items_view, members_listed};
+ghost use Rattle.tinyjson.specs.Soundness.{IsSorted};
+ghost use Rattle.std.specs.Str.{chars};
+ghost use Rattle.tinyjson_schema_keywords.specs.Applied.{members_in, schemas_at};
+ghost use Rattle.tinyjson_schema_keywords.specs.declared.keyword.Keyword.TheVariants as kw;
+ghost use Rattle.tinyjson_schema.specs.Applicators.{all_accept, applies, dependents_accept};
+ghost use Rattle.tinyjson_schema.specs.Applicators.{members_accepted, items_accepted};
+ghost use Rattle.tinyjson_schema.specs.Applicators.{parts_accepted};
+ghost use Rattle.tinyjson_schema.specs.Valid.{refuses_all, reference_accepts, Validates, Agrees};
+ghost use Rattle.tinyjson_schema.specs.Valid.{Judges, Follows, Finds, FindsFound, is_reference};
+ghost use Rattle.tinyjson_schema.specs.Valid.{target_accepts};
+
+mod tested;
+mod unevaluated;
+
+use crate::assertions::unmet;
+use crate::part::{item_part, member_part};
+use crate::pattern::Pattern;
+use crate::validate::tested::unmet_test;
+use crate::validate::unevaluated::in_rest;
+use crate::violation::Violation;
+use std::alloc::Global;
+use tinyjson::{JsonValue, sorted_members};
+use tinyjson_schema_keywords::{
+    CheckError, Keyword, Walk, branch, has_key, listed_members, referenced, schema_at,
+    schema_map_at, schemas_at,
+};
+
+/// What the value does not meet of the whole schema, if there is something; `None` says that the value is valid. So many
+/// schemas may be applied in one another as the walk has steps, by keywords and by references; where more would be, it
+/// returns `TooDeep`. The other error is out of memory.
+///
+/// It calls itself for each schema that a schema applies, so it takes stack as these are applied in one another.
+///
+/// ```
+/// let violation = find_violation(&value, walk, alloc)?;
+/// ```
+pub fn find_violation(
+    value: &JsonValue,
+    walk: Walk<'_, '_>,
+    alloc: Global,
+) -> Result<Option<Violation>, CheckError>
+    ensures judged { Validates walk.entry.steps (view walk.entry.whole.now.root.now)
+        (view value.now) result }
+    ensures only { IfOk result
+        (λ found. Agrees (view walk.entry.whole.now.root.now) (view value.now) found) }
+{
+    violation_in(value, walk.whole.root, walk, alloc)
+}
+
+/// The same of a schema in the whole one.
+#[cycle(validate)]
+fn violation_in(
+    value: &JsonValue,
+    schema: &JsonValue,
+    walk: Walk<'_, '_>,
+    alloc: Global,
+) -> Result<Option<Violation>, CheckError>
+    ensures { Judges walk.entry (view schema.now) (view value.now) result }
+{
+    let inner = walk.deeper()?;
+    if refuses_all(schema) {
+        return Ok(Some(Violation::of_schema(alloc)));
+    }
+    if let Some(keyword) = unmet(schema, value, alloc)? {
+        return Ok(Some(Violation::of_keyword(alloc, keyword)?));
+    }
+    if let Some(keyword) = unmet_test(value, schema, inner, alloc)? {
+        return Ok(Some(Violation::of_keyword(alloc, keyword)?));
+    }
+    if let Some(found) = in_all_of(value, schema, inner, alloc)? {
+        return Ok(Some(found));
+    }
+    if let Some(found) = in_branch(value, schema, inner, alloc)? {
+        return Ok(Some(found));
+    }
+    if let Some(found) = in_dependents(value, schema, inner, alloc)? {
+        return Ok(Some(found));
+    }
+    if let Some(found) = in_patterned(value, schema, inner, alloc)? {
+        return Ok(Some(found));
+    }
+    if let Some(found) = in_reference(value, schema, inner, alloc)? {
+        return Ok(Some(found));
+    }
+    if let Some(found) = in_parts(value, schema, inner, alloc)? {
+        return Ok(Some(found));
+    }
+    in_rest(value, schema, inner, alloc)
+}
+
+/// Whether it is the schema `false`.
+fn refuses_all(schema: &JsonValue) -> bool
+    ensures { result ≡ refuses_all (view schema.now) }
+{
+    match schema {
+        JsonValue::Boolean(accepts) => !*accepts,
+        _ => false,
+    }
+}
+
+/// Whether the schema accepts the value.
+#[cycle(validate)]
+fn is_accepted(
+    value: &JsonValue,
+    schema: &JsonValue,
+    walk: Walk<'_, '_>,
+    alloc: Global,
+) -> Result<bool, CheckError>
+    ensures { IfOk result
+        (λ is. Follows walk.entry is (λ f. f (view schema.now) (view value.now))) }
+{
+    let found = violation_in(value, schema, walk, alloc)?;
+    Ok(is_nothing(&found))
+}
+
+fn is_nothing(found: &Option<Violation>) -> bool
+    ensures { result ≡ not (is_some found.now) }
+{
+    match found {
+        Some(_) => false,
+        None => true,
+    }
+}
+
+/// What the value does not meet of a schema of `allOf`.
+#[cycle(validate)]
+fn in_all_of(
+    value: &JsonValue,
+    schema: &JsonValue,
+    walk: Walk<'_, '_>,
+    alloc: Global,
+) -> Result<Option<Violation>, CheckError>
+    ensures { Finds walk.entry
+        (λ f. applies f kw.AllOf (view schema.now) (view value.now))
+        (view schema.now) (view value.now) result }
+{
+    let parts = schemas_at(schema, Keyword::AllOf);
+    for (index, part) in parts.iter().enumerate() {
+        if let Some(mut found) = violation_in(value, part, walk, alloc)? {
+            found.enter_listed(alloc, Keyword::AllOf, index)?;
+            return Ok(Some(found));
+        }
+    }
+    Ok(None)
+}
+
+/// What the value does not meet of the schema that `if` chooses.
+#[cycle(validate)]
+fn in_branch(
+    value: &JsonValue,
+    schema: &JsonValue,
+    walk: Walk<'_, '_>,
+    alloc: Global,
+) -> Result<Option<Violation>, CheckError>
+    ensures { Finds walk.entry (λ f. applies f kw.If (view schema.now) (view value.now))
+        (view schema.now) (view value.now) result }
+{
+    let Some(test) = schema_at(schema, Keyword::If) else {
+        return Ok(None);
+    };
+    let accepted = is_accepted(value, test, walk, alloc)?;
+    let chosen = branch(accepted);
+    let Some(part) = schema_at(schema, chosen) else {
+        return Ok(None);
+    };
+    let Some(mut found) = violation_in(value, part, walk, alloc)? else {
+        return Ok(None);
+    };
+    found.enter_keyword(alloc, chosen)?;
+    Ok(Some(found))
+}
+
+/// What the value does not meet of a schema of `dependentSchemas` whose key it has.
+#[cycle(validate)]
+fn in_dependents(
+    value: &JsonValue,
+    schema: &JsonValue,
+    walk: Walk<'_, '_>,
+    alloc: Global,
+) -> Result<Option<Violation>, CheckError>
+    ensures { Finds walk.entry
+        (λ f. applies f kw.DependentSchemas (view schema.now) (view value.now))
+        (view schema.now) (view value.now) result }
+{
+    let listed = schema_map_at(schema, Keyword::DependentSchemas, alloc)?;
+    let dependents = listed.as_slice();
+    for &(key, part) in dependents {
+        if has_key(value, key.as_str()) {
+            if let Some(mut found) = violation_in(value, part, walk, alloc)? {
+                found.enter_keyed(alloc, Keyword::DependentSchemas, key.as_str())?;
+                return Ok(Some(found));
+            }
+        }
+    }
+    Ok(None)
+}
+
+/// What the value does not meet of a schema of `patternProperties`.
+#[cycle(validate)]
+#[inline(never)]
+fn in_patterned(
+    value: &JsonValue,
+    schema: &JsonValue,
+    walk: Walk<'_, '_>,
+    alloc: Global,
+) -> Result<Option<Violation>, CheckError>
+    ensures { Finds walk.entry
+        (λ f. applies f kw.PatternProperties (view schema.now) (view value.now))
+        (view schema.now) (view value.now) result }
+{
+    let listed = schema_map_at(schema, Keyword::PatternProperties, alloc)?;
+    let patterns = listed.as_slice();
+    for &(pattern, part) in patterns {
+        if let Some(mut found) = in_found(value, pattern.as_str(), part, walk, alloc)? {
+            found.enter_keyed(alloc, Keyword::PatternProperties, pattern.as_str())?;
+            return Ok(Some(found));
+        }
+    }
+    Ok(None)
+}
+
+/// What a member of the value does not meet of the schema, if the pattern is found in its key.
+#[cycle(validate)]
+#[inline(never)]
+fn in_found(
+    value: &JsonValue,
+    pattern: &str,
+    schema: &JsonValue,
+    walk: Walk<'_, '_>,
+    alloc: Global,
+) -> Result<Option<Violation>, CheckError>
+    ensures { FindsFound walk.entry (chars pattern.now) (view schema.now)
+        (members_in (view value.now)) result }
+{
+    let mut code = Pattern::read(alloc, pattern)?;
+    let listed = listed_members(value, alloc)?;
+    let members = listed.as_slice();
+    for &(key, member) in members {
+        let is_found = code.is_found_in(key.as_str());
+        if is_found {
+            if let Some(mut found) = violation_in(member, schema, walk, alloc)? {
+                found.enter_value(alloc, key.as_str())?;
+                return Ok(Some(found));
+            }
+        }
+    }
+    Ok(None)
+}
+
+/// What the value does not meet of the schemas that `$ref` and `$dynamicRef` lead to.
+#[cycle(validate)]
+fn in_reference(
+    value: &JsonValue,
+    schema: &JsonValue,
+    walk: Walk<'_, '_>,
+    alloc: Global,
+) -> Result<Option<Violation>, CheckError>
+    ensures { Finds walk.entry
+        (λ f. reference_accepts (view walk.entry.whole.now.root.now) f (view schema.now)
+        (view value.now))
+        (view schema.now) (view value.now) result }
+{
+    if let Some(found) = in_target(value, schema, Keyword::Ref, walk, alloc)? {
+        return Ok(Some(found));
+    }
+    in_target(value, schema, Keyword::DynamicRef, walk, alloc)
+}
+
+/// What the value does not meet of the schema that the reference leads to.
+#[cycle(validate)]
+#[inline(never)]
+fn in_target(
+    value: &JsonValue,
+    schema: &JsonValue,
+    keyword: Keyword,
+    walk: Walk<'_, '_>,
+    alloc: Global,
+) -> Result<Option<Violation>, CheckError>
+    requires { is_reference keyword ≡ true }
+    ensures { Finds walk.entry (λ f. target_accepts (view walk.entry.whole.now.root.now) keyword f
+        (view schema.now) (view value.now)) (view schema.now) (view value.now) result }
+{
+    let Some(part) = referenced(schema, keyword, walk, alloc)? else {
+        return Ok(None);
+    };
+    let Some(mut found) = violation_in(value, part, walk, alloc)? else {
+        return Ok(None);
+    };
+    found.enter_keyword(alloc, keyword)?;
+    Ok(Some(found))
+}
+
+/// What a member or an item does not meet of the schema that there is for it.
+#[cycle(validate)]
+fn in_parts(
+    value: &JsonValue,
+    schema: &JsonValue,
+    walk: Walk<'_, '_>,
+    alloc: Global,
+) -> Result<Option<Violation>, CheckError>
+    ensures { Finds walk.entry (λ f. parts_accepted f (view schema.now) (view value.now))
+        (view schema.now) (view value.now) result }
+{
+    match value {
+        JsonValue::Object(members) => {
+            let sorted = sorted_members(alloc, members)?;
+            in_members(sorted.as_slice(), schema, walk, alloc)
+        }
+        JsonValue::Array(items) => in_items(items.as_slice(), schema, walk, alloc),
+        _ => Ok(None),
+    }
+}
+
+#[cycle(validate)]
+fn in_members(
+    members: &[(&String, &JsonValue)],
+    schema: &JsonValue,
+    walk: Walk<'_, '_>,
+    alloc: Global,
+) -> Result<Option<Violation>, CheckError>
+    requires { IsSorted (members_listed members.now) }
+    ensures { Finds walk.entry
+        (λ f. members_accepted f (view schema.now) (members_listed members.now))
+        (view schema.now) (object (members_listed members.now)) result }
+{
+    for &(key, member) in members {
+        if let Some(part) = member_part(schema, key.as_str(), alloc)? {
+            if let Some(mut found) = violation_in(member, part.schema, walk, alloc)? {
+                found.enter_member(alloc, part.applicator, key.as_str())?;
+                return Ok(Some(found));
+            }
+        }
+    }
+    Ok(None)
+}
+
+#[cycle(validate)]
+fn in_items(
+    items: &[JsonValue],
+    schema: &JsonValue,
+    walk: Walk<'_, '_>,
+    alloc: Global,
+) -> Result<Option<Violation>, CheckError>
+    ensures { Finds walk.entry
+        (λ f. items_accepted f (view schema.now) 0 (items_view items.now))
+        (view schema.now) (array (items_view items.now)) result }
+{
+    for (index, item) in items.iter().enumerate() {
+        if let Some(part) = item_part(schema, index) {
+            if let Some(mut found) = violation_in(item, part.schema, walk, alloc)? {
+                found.enter_item(alloc, part.applicator, index)?;
+                return Ok(Some(found));
+            }
+        }
+    }
+    Ok(None)
+}

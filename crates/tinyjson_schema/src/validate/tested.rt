@@ -1,0 +1,272 @@
+//! The keywords that a value does not meet by what the schemas in them say of it, or of what is in it. These tests are not
+//! inlined, so that a level of the recursion over schemas takes less than a kilobyte of stack.
+ghost use Rattle.std.specs.Prelude.{IfOk};
+ghost use Rattle.tinyjson.specs.View.{view, items_view, members_listed};
+ghost use Rattle.tinyjson_schema_keywords.specs.declared.keyword.Keyword.TheVariants as kw;
+ghost use Rattle.tinyjson_schema.specs.Applicators.{any_of, some_accepts, one_of, accepting};
+ghost use Rattle.tinyjson_schema.specs.Applicators.{applies, keys_pass, passing, contained, tests};
+ghost use Rattle.tinyjson_schema.specs.Applicators.{counts};
+ghost use Rattle.tinyjson_schema.specs.Valid.{Follows, IsUnapplied};
+
+use crate::contains::{contains_at_least, contains_at_most, contains_some};
+use crate::validate::is_accepted;
+use std::alloc::Global;
+use tinyjson::JsonValue;
+use tinyjson_schema_keywords::{
+    CheckError, Keyword, Walk, is_some_item, listed_members, name_of, schema_at, schemas_at,
+};
+
+/// A keyword that the value does not meet by what the schemas in it say of the value, or of what is in it.
+#[cycle(validate)]
+#[inline(never)]
+pub fn unmet_test(
+    value: &JsonValue,
+    schema: &JsonValue,
+    walk: Walk<'_, '_>,
+    alloc: Global,
+) -> Result<Option<Keyword>, CheckError>
+    ensures { IfOk result
+        (λ found. IsUnapplied walk.entry tests (view schema.now) (view value.now) found) }
+{
+    let any = is_any_met(value, schemas_at(schema, Keyword::AnyOf), walk, alloc)?;
+    if !any {
+        return Ok(Some(Keyword::AnyOf));
+    }
+    let one = is_one_met(value, schemas_at(schema, Keyword::OneOf), walk, alloc)?;
+    if !one {
+        return Ok(Some(Keyword::OneOf));
+    }
+    let other = is_not_met(value, schema, walk, alloc)?;
+    if !other {
+        return Ok(Some(Keyword::Not));
+    }
+    let names = are_names_met(value, schema, walk, alloc)?;
+    if !names {
+        return Ok(Some(Keyword::PropertyNames));
+    }
+    unmet_count(value, schema, walk, alloc)
+}
+
+/// A keyword that the value does not meet by how many items the schema of `contains` accepts.
+#[cycle(validate)]
+#[inline(never)]
+fn unmet_count(
+    value: &JsonValue,
+    schema: &JsonValue,
+    walk: Walk<'_, '_>,
+    alloc: Global,
+) -> Result<Option<Keyword>, CheckError>
+    ensures { IfOk result
+        (λ found. IsUnapplied walk.entry counts (view schema.now) (view value.now) found) }
+{
+    let count = contained(value, schema, walk, alloc)?;
+    let some = contains_some(count, schema);
+    if !some {
+        return Ok(Some(Keyword::Contains));
+    }
+    let most = contains_at_most(count, schema, alloc)?;
+    if !most {
+        return Ok(Some(Keyword::MaxContains));
+    }
+    let least = contains_at_least(count, schema, alloc)?;
+    if !least {
+        return Ok(Some(Keyword::MinContains));
+    }
+    Ok(None)
+}
+
+/// Whether some schema of the list accepts the value, or there is none in it.
+#[cycle(validate)]
+#[inline(never)]
+fn is_any_met(
+    value: &JsonValue,
+    schemas: &[JsonValue],
+    walk: Walk<'_, '_>,
+    alloc: Global,
+) -> Result<bool, CheckError>
+    ensures { IfOk result
+        (λ is. Follows walk.entry is
+        (λ f. any_of f (items_view schemas.now) (view value.now))) }
+{
+    if !is_some_item(schemas) {
+        return Ok(true);
+    }
+    let accepted = is_some_met(value, schemas, walk, alloc)?;
+    Ok(accepted)
+}
+
+#[cycle(validate)]
+#[inline(never)]
+fn is_some_met(
+    value: &JsonValue,
+    schemas: &[JsonValue],
+    walk: Walk<'_, '_>,
+    alloc: Global,
+) -> Result<bool, CheckError>
+    ensures { IfOk result
+        (λ is. Follows walk.entry is
+        (λ f. some_accepts f (items_view schemas.now) (view value.now))) }
+{
+    for schema in schemas {
+        let accepted = is_accepted(value, schema, walk, alloc)?;
+        if accepted {
+            return Ok(true);
+        }
+    }
+    Ok(false)
+}
+
+/// Whether exactly one schema of the list accepts the value, or there is none in it.
+#[cycle(validate)]
+#[inline(never)]
+fn is_one_met(
+    value: &JsonValue,
+    schemas: &[JsonValue],
+    walk: Walk<'_, '_>,
+    alloc: Global,
+) -> Result<bool, CheckError>
+    ensures { IfOk result
+        (λ is. Follows walk.entry is
+        (λ f. one_of f (items_view schemas.now) (view value.now))) }
+{
+    if !is_some_item(schemas) {
+        return Ok(true);
+    }
+    let count = count_accepting(value, schemas, walk, alloc)?;
+    Ok(count == 1)
+}
+
+/// How many schemas of the list accept the value.
+#[cycle(validate)]
+fn count_accepting(
+    value: &JsonValue,
+    schemas: &[JsonValue],
+    walk: Walk<'_, '_>,
+    alloc: Global,
+) -> Result<usize, CheckError>
+    ensures { IfOk result
+        (λ count. Follows walk.entry count
+        (λ f. accepting f (items_view schemas.now) (view value.now))) }
+{
+    let mut count = 0;
+    for schema in schemas {
+        let accepted = is_accepted(value, schema, walk, alloc)?;
+        if accepted {
+            count += 1;
+        }
+    }
+    Ok(count)
+}
+
+/// Whether the schema of `not` does not accept the value.
+#[cycle(validate)]
+#[inline(never)]
+fn is_not_met(
+    value: &JsonValue,
+    schema: &JsonValue,
+    walk: Walk<'_, '_>,
+    alloc: Global,
+) -> Result<bool, CheckError>
+    ensures { IfOk result
+        (λ is. Follows walk.entry is
+        (λ f. applies f kw.Not (view schema.now) (view value.now))) }
+{
+    match schema_at(schema, Keyword::Not) {
+        Some(part) => {
+            let accepted = is_accepted(value, part, walk, alloc)?;
+            Ok(!accepted)
+        }
+        None => Ok(true),
+    }
+}
+
+/// Whether the schema of `propertyNames` accepts each key.
+#[cycle(validate)]
+#[inline(never)]
+fn are_names_met(
+    value: &JsonValue,
+    schema: &JsonValue,
+    walk: Walk<'_, '_>,
+    alloc: Global,
+) -> Result<bool, CheckError>
+    ensures { IfOk result
+        (λ is. Follows walk.entry is
+        (λ f. applies f kw.PropertyNames (view schema.now) (view value.now))) }
+{
+    match schema_at(schema, Keyword::PropertyNames) {
+        Some(part) => {
+            let members = listed_members(value, alloc)?;
+            let accepted = are_keys_met(members.as_slice(), part, walk, alloc)?;
+            Ok(accepted)
+        }
+        None => Ok(true),
+    }
+}
+
+#[cycle(validate)]
+#[inline(never)]
+fn are_keys_met(
+    members: &[(&String, &JsonValue)],
+    schema: &JsonValue,
+    walk: Walk<'_, '_>,
+    alloc: Global,
+) -> Result<bool, CheckError>
+    ensures { IfOk result
+        (λ is. Follows walk.entry is
+        (λ f. keys_pass (f (view schema.now)) (members_listed members.now))) }
+{
+    for &(key, _) in members {
+        let name = name_of(key, alloc)?;
+        let accepted = is_accepted(&name, schema, walk, alloc)?;
+        if !accepted {
+            return Ok(false);
+        }
+    }
+    Ok(true)
+}
+
+/// How many items of an array the schema of `contains` accepts, if there is one.
+#[cycle(validate)]
+#[inline(never)]
+fn contained(
+    value: &JsonValue,
+    schema: &JsonValue,
+    walk: Walk<'_, '_>,
+    alloc: Global,
+) -> Result<Option<usize>, CheckError>
+    ensures { IfOk result
+        (λ count. Follows walk.entry count
+        (λ f. contained f (view schema.now) (view value.now))) }
+{
+    let Some(part) = schema_at(schema, Keyword::Contains) else {
+        return Ok(None);
+    };
+    match value {
+        JsonValue::Array(items) => {
+            let count = count_passing(items.as_slice(), part, walk, alloc)?;
+            Ok(Some(count))
+        }
+        _ => Ok(None),
+    }
+}
+
+#[cycle(validate)]
+fn count_passing(
+    items: &[JsonValue],
+    schema: &JsonValue,
+    walk: Walk<'_, '_>,
+    alloc: Global,
+) -> Result<usize, CheckError>
+    ensures { IfOk result
+        (λ count. Follows walk.entry count
+        (λ f. passing (f (view schema.now)) (items_view items.now))) }
+{
+    let mut count = 0;
+    for item in items {
+        let accepted = is_accepted(item, schema, walk, alloc)?;
+        if accepted {
+            count += 1;
+        }
+    }
+    Ok(count)
+}

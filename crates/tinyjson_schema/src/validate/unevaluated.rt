@@ -1,0 +1,484 @@
+//! What `unevaluatedProperties` and `unevaluatedItems` say of the members and items that no other keyword
+//! evaluates (Core, 11.2 and 11.3).
+//!
+//! The schemas that evaluate for the one that asks are listed first: it, and those that it applies to the value itself
+//! and that accept it, however deep. So each is asked once whether it accepts the value, and not for each member.
+ghost use Rattle.std.specs.Prelude.{◌≡◌, ◌&&◌, ◌||◌, IfOk, OnOk, is_some, not};
+ghost use Rattle.std.specs.Str.{chars};
+ghost use Rattle.tinyjson.specs.Index.{tree_at_key};
+ghost use Rattle.tinyjson.specs.Tree.{array, object, Tree};
+ghost use Rattle.tinyjson.specs.View.{view, items_view, members_listed};
+ghost use Rattle.tinyjson.specs.Soundness.{IsSorted};
+ghost use Rattle.tinyjson_schema_keywords.specs.Applied.{schema_at, schema_map_at};
+ghost use Rattle.tinyjson_schema_keywords.specs.declared.keyword.Keyword.TheVariants as kw;
+ghost use Rattle.tinyjson_schema.specs.Evaluated.{Child, Answers, member_at, item_at};
+ghost use Rattle.tinyjson_schema.specs.Evaluated.{others_evaluate, inner_evaluate, some_evaluate};
+ghost use Rattle.tinyjson_schema.specs.Evaluated.{accepting_evaluate, branch_evaluates};
+ghost use Rattle.tinyjson_schema.specs.Evaluated.{dependents_evaluate, reference_evaluates};
+ghost use Rattle.tinyjson_schema.specs.Evaluated.{target_evaluates};
+ghost use Rattle.tinyjson_schema.specs.Sources.{source_evaluates, sources_evaluate, AreWithin};
+ghost use Rattle.tinyjson_schema.specs.Sources.{Adds, StaysWithin, FindsLeft};
+ghost use Rattle.tinyjson_schema.specs.Valid.{Follows, FindsRest, answers_in};
+
+use crate::part::{is_patterned, item_part, member_part};
+use crate::validate::{is_accepted, violation_in};
+use crate::violation::Violation;
+use std::alloc::{AllocError, Global};
+use tinyjson::{JsonValue, sorted_members};
+use tinyjson_schema_keywords::{
+    CheckError, Keyword, Walk, branch, has_key, referenced, schema_at, schema_map_at, schemas_at,
+};
+
+/// A schema whose keywords evaluate members and items, and the walk in it.
+#[derive(Clone, Copy)]
+pub struct Source<'d, 's> {
+    pub schema: &'s JsonValue,
+    pub walk: Walk<'d, 's>,
+    /// Whether it is the one that asks what the others leave: its own keyword for the rest does not count.
+    pub asks: bool,
+}
+
+/// What a member or an item that no other keyword of the schema evaluates does not meet of the schema for
+/// such.
+#[cycle(validate)]
+#[inline(never)]
+pub fn in_rest(
+    value: &JsonValue,
+    schema: &JsonValue,
+    walk: Walk<'_, '_>,
+    alloc: Global,
+) -> Result<Option<Violation>, CheckError>
+    ensures { FindsRest walk.entry (view schema.now) (view value.now) result }
+{
+    match value {
+        JsonValue::Object(members) => {
+            let Some(rest) = schema_at(schema, Keyword::UnevaluatedProperties) else {
+                return Ok(None);
+            };
+            let sources = sources_of(value, schema, walk, alloc)?;
+            let sorted = sorted_members(alloc, members)?;
+            in_members_left(sorted.as_slice(), rest, sources.as_slice(), walk, alloc)
+        }
+        JsonValue::Array(items) => {
+            let Some(rest) = schema_at(schema, Keyword::UnevaluatedItems) else {
+                return Ok(None);
+            };
+            let sources = sources_of(value, schema, walk, alloc)?;
+            in_items_left(items.as_slice(), rest, sources.as_slice(), walk, alloc)
+        }
+        _ => Ok(None),
+    }
+}
+
+/// What a member that the sources do not evaluate does not meet of the schema.
+#[cycle(validate)]
+#[inline(never)]
+fn in_members_left(
+    members: &[(&String, &JsonValue)],
+    rest: &JsonValue,
+    sources: &[Source<'_, '_>],
+    walk: Walk<'_, '_>,
+    alloc: Global,
+) -> Result<Option<Violation>, CheckError>
+    requires { IsSorted (members_listed members.now) }
+    ensures { FindsLeft walk.entry kw.UnevaluatedProperties sources.now (view rest.now)
+        (object (members_listed members.now)) result }
+{
+    for &(key, member) in members {
+        let evaluated = is_member_evaluated(key.as_str(), sources, alloc)?;
+        if !evaluated {
+            if let Some(mut found) = violation_in(member, rest, walk, alloc)? {
+                found.enter_member(alloc, Keyword::UnevaluatedProperties, key.as_str())?;
+                return Ok(Some(found));
+            }
+        }
+    }
+    Ok(None)
+}
+
+/// The same of an item.
+#[cycle(validate)]
+#[inline(never)]
+fn in_items_left(
+    items: &[JsonValue],
+    rest: &JsonValue,
+    sources: &[Source<'_, '_>],
+    walk: Walk<'_, '_>,
+    alloc: Global,
+) -> Result<Option<Violation>, CheckError>
+    requires { AreWithin walk.steps sources.now }
+    ensures { FindsLeft walk.entry kw.UnevaluatedItems sources.now (view rest.now)
+        (array (items_view items.now)) result }
+{
+    for (index, item) in items.iter().enumerate() {
+        let evaluated = is_item_evaluated(index, item, sources, walk, alloc)?;
+        if !evaluated {
+            if let Some(mut found) = violation_in(item, rest, walk, alloc)? {
+                found.enter_item(alloc, Keyword::UnevaluatedItems, index)?;
+                return Ok(Some(found));
+            }
+        }
+    }
+    Ok(None)
+}
+
+/// Whether one of the sources evaluates the member at the key.
+#[inline(never)]
+fn is_member_evaluated(
+    key: &str,
+    sources: &[Source<'_, '_>],
+    alloc: Global,
+) -> Result<bool, AllocError>
+    ensures { IfOk result (λ is. (g : Answers) (u : Tree) →
+        is ≡ sources_evaluate g sources.now (member_at (chars key.now) u)) }
+{
+    for source in sources {
+        let evaluates = evaluates_member(source, key, alloc)?;
+        if evaluates {
+            return Ok(true);
+        }
+    }
+    Ok(false)
+}
+
+fn evaluates_member(source: &Source<'_, '_>, key: &str, alloc: Global) -> Result<bool, AllocError>
+    ensures { IfOk result (λ is. (g : Answers) (u : Tree) →
+        is ≡ source_evaluates g source.now (member_at (chars key.now) u)) }
+{
+    let has_rest = counts_rest(source, Keyword::UnevaluatedProperties);
+    if has_rest {
+        return Ok(true);
+    }
+    let part = member_part(source.schema, key, alloc)?;
+    if part.is_some() {
+        return Ok(true);
+    }
+    is_patterned(source.schema, key, alloc)
+}
+
+/// Whether the source has the keyword for what the others leave, and does not ask.
+fn counts_rest(source: &Source<'_, '_>, keyword: Keyword) -> bool
+    ensures { result ≡ (not source.now.asks
+        && is_some (schema_at (view source.now.schema.now) keyword)) }
+{
+    if source.asks {
+        return false;
+    }
+    schema_at(source.schema, keyword).is_some()
+}
+
+/// Whether one of the sources evaluates the item at the index.
+#[cycle(validate)]
+#[inline(never)]
+fn is_item_evaluated(
+    index: usize,
+    item: &JsonValue,
+    sources: &[Source<'_, '_>],
+    walk: Walk<'_, '_>,
+    alloc: Global,
+) -> Result<bool, CheckError>
+    requires { AreWithin walk.steps sources.now }
+    ensures { IfOk result (λ is. (g : Answers) →
+        is ≡ sources_evaluate g sources.now (item_at index (view item.now))) }
+{
+    for source in sources {
+        let evaluates = evaluates_item(source, index, item, alloc)?;
+        if evaluates {
+            return Ok(true);
+        }
+    }
+    Ok(false)
+}
+
+#[cycle(validate)]
+#[inline(never)]
+fn evaluates_item(
+    source: &Source<'_, '_>,
+    index: usize,
+    item: &JsonValue,
+    alloc: Global,
+) -> Result<bool, CheckError>
+    ensures { IfOk result (λ is. (g : Answers) →
+        is ≡ source_evaluates g source.now (item_at index (view item.now))) }
+{
+    let has_rest = counts_rest(source, Keyword::UnevaluatedItems);
+    if has_rest {
+        return Ok(true);
+    }
+    let applied = item_part(source.schema, index);
+    if applied.is_some() {
+        return Ok(true);
+    }
+    let Some(part) = schema_at(source.schema, Keyword::Contains) else {
+        return Ok(false);
+    };
+    let accepted = is_accepted(item, part, source.walk, alloc)?;
+    Ok(accepted)
+}
+
+/// The schema, and those that it applies to the value itself and that accept it.
+#[cycle(validate)]
+#[inline(never)]
+fn sources_of<'d, 's>(
+    value: &JsonValue,
+    schema: &'s JsonValue,
+    walk: Walk<'d, 's>,
+    alloc: Global,
+) -> Result<Vec<Source<'d, 's>>, CheckError>
+    ensures evaluated { IfOk result (λ sources. (g : Answers) (c : Child) →
+        sources_evaluate g sources.items c
+        ≡ others_evaluate (view walk.entry.whole.now.root.now) (answers_in walk.entry g)
+        (view schema.now) (view value.now) c) }
+    ensures within { IfOk result (λ sources. AreWithin walk.entry.steps sources.items) }
+{
+    let mut sources = Vec::new(alloc);
+    sources.push(Source {
+        schema,
+        walk,
+        asks: true,
+    })?;
+    add_inner(value, schema, walk, alloc, &mut sources)?;
+    Ok(sources)
+}
+
+/// Adds a schema that accepts the value, and those that it applies to the value itself and that accept it.
+#[cycle(validate)]
+#[inline(never)]
+fn add_schema<'d, 's>(
+    value: &JsonValue,
+    schema: &'s JsonValue,
+    walk: Walk<'d, 's>,
+    alloc: Global,
+    sources: &mut Vec<Source<'d, 's>>,
+) -> Result<(), CheckError>
+    ensures evaluated { OnOk result (Adds walk.entry
+        (λ a c. a.evaluates (view schema.now) (view value.now) c)
+        sources.old.items sources.new.items) }
+    ensures within { OnOk result (StaysWithin walk.entry sources.old.items sources.new.items) }
+{
+    let inner = walk.deeper()?;
+    sources.push(Source {
+        schema,
+        walk: inner,
+        asks: false,
+    })?;
+    add_inner(value, schema, inner, alloc, sources)?;
+    Ok(())
+}
+
+/// Adds those that the schema applies to the value itself and that accept it.
+#[cycle(validate)]
+#[inline(never)]
+fn add_inner<'d, 's>(
+    value: &JsonValue,
+    schema: &'s JsonValue,
+    walk: Walk<'d, 's>,
+    alloc: Global,
+    sources: &mut Vec<Source<'d, 's>>,
+) -> Result<(), CheckError>
+    ensures evaluated { OnOk result (Adds walk.entry
+        (λ a c. inner_evaluate (view walk.entry.whole.now.root.now) a (view schema.now)
+        (view value.now) c)
+        sources.old.items sources.new.items) }
+    ensures within { OnOk result (StaysWithin walk.entry sources.old.items sources.new.items) }
+{
+    let all = schemas_at(schema, Keyword::AllOf);
+    add_listed(value, all, walk, alloc, sources)?;
+    let any = schemas_at(schema, Keyword::AnyOf);
+    add_accepting(value, any, walk, alloc, sources)?;
+    let one = schemas_at(schema, Keyword::OneOf);
+    add_accepting(value, one, walk, alloc, sources)?;
+    add_branch(value, schema, walk, alloc, sources)?;
+    add_dependents(value, schema, walk, alloc, sources)?;
+    add_reference(value, schema, walk, alloc, sources)?;
+    Ok(())
+}
+
+/// Adds schemas of a list, which all accept the value.
+#[cycle(validate)]
+#[inline(never)]
+fn add_listed<'d, 's>(
+    value: &JsonValue,
+    schemas: &'s [JsonValue],
+    walk: Walk<'d, 's>,
+    alloc: Global,
+    sources: &mut Vec<Source<'d, 's>>,
+) -> Result<(), CheckError>
+    ensures evaluated { OnOk result (Adds walk.entry
+        (λ a c. some_evaluate a (items_view schemas.now) (view value.now) c)
+        sources.old.items sources.new.items) }
+    ensures within { OnOk result (StaysWithin walk.entry sources.old.items sources.new.items) }
+{
+    for schema in schemas {
+        add_schema(value, schema, walk, alloc, sources)?;
+    }
+    Ok(())
+}
+
+/// Adds those of a list that accept the value.
+#[cycle(validate)]
+#[inline(never)]
+fn add_accepting<'d, 's>(
+    value: &JsonValue,
+    schemas: &'s [JsonValue],
+    walk: Walk<'d, 's>,
+    alloc: Global,
+    sources: &mut Vec<Source<'d, 's>>,
+) -> Result<(), CheckError>
+    ensures evaluated { OnOk result (Adds walk.entry
+        (λ a c. accepting_evaluate a (items_view schemas.now) (view value.now) c)
+        sources.old.items sources.new.items) }
+    ensures within { OnOk result (StaysWithin walk.entry sources.old.items sources.new.items) }
+{
+    for schema in schemas {
+        add_if_accepting(value, schema, walk, alloc, sources)?;
+    }
+    Ok(())
+}
+
+/// Adds a schema, if it accepts the value, and says whether it does.
+#[cycle(validate)]
+#[inline(never)]
+fn add_if_accepting<'d, 's>(
+    value: &JsonValue,
+    schema: &'s JsonValue,
+    walk: Walk<'d, 's>,
+    alloc: Global,
+    sources: &mut Vec<Source<'d, 's>>,
+) -> Result<bool, CheckError>
+    ensures accepted { IfOk result (λ is. Follows walk.entry is
+        (λ f. f (view schema.now) (view value.now))) }
+    ensures evaluated { IfOk result (λ is. Adds walk.entry
+        (λ a c. a.accepts (view schema.now) (view value.now)
+        && a.evaluates (view schema.now) (view value.now) c)
+        sources.old.items sources.new.items) }
+    ensures within { IfOk result (λ is.
+        StaysWithin walk.entry sources.old.items sources.new.items) }
+{
+    let accepted = is_accepted(value, schema, walk, alloc)?;
+    if !accepted {
+        return Ok(false);
+    }
+    add_schema(value, schema, walk, alloc, sources)?;
+    Ok(true)
+}
+
+/// Adds the schema of `if`, if it accepts the value, and the one that it chooses, which accepts it.
+#[cycle(validate)]
+#[inline(never)]
+fn add_branch<'d, 's>(
+    value: &JsonValue,
+    schema: &'s JsonValue,
+    walk: Walk<'d, 's>,
+    alloc: Global,
+    sources: &mut Vec<Source<'d, 's>>,
+) -> Result<(), CheckError>
+    ensures evaluated { OnOk result (Adds walk.entry
+        (λ a c. branch_evaluates a (view schema.now) (view value.now) c)
+        sources.old.items sources.new.items) }
+    ensures within { OnOk result (StaysWithin walk.entry sources.old.items sources.new.items) }
+{
+    let Some(test) = schema_at(schema, Keyword::If) else {
+        return Ok(());
+    };
+    let accepted = add_if_accepting(value, test, walk, alloc, sources)?;
+    let chosen = branch(accepted);
+    let Some(part) = schema_at(schema, chosen) else {
+        return Ok(());
+    };
+    add_schema(value, part, walk, alloc, sources)?;
+    Ok(())
+}
+
+/// Adds the schemas of `dependentSchemas` whose key the value has, which accept it.
+#[cycle(validate)]
+#[inline(never)]
+fn add_dependents<'d, 's>(
+    value: &JsonValue,
+    schema: &'s JsonValue,
+    walk: Walk<'d, 's>,
+    alloc: Global,
+    sources: &mut Vec<Source<'d, 's>>,
+) -> Result<(), CheckError>
+    ensures evaluated { OnOk result (Adds walk.entry
+        (λ a c. dependents_evaluate a (schema_map_at (view schema.now) kw.DependentSchemas)
+        (view value.now) c)
+        sources.old.items sources.new.items) }
+    ensures within { OnOk result (StaysWithin walk.entry sources.old.items sources.new.items) }
+{
+    let listed = schema_map_at(schema, Keyword::DependentSchemas, alloc)?;
+    let dependents = listed.as_slice();
+    for &(key, part) in dependents {
+        add_dependent(value, key.as_str(), part, walk, alloc, sources)?;
+    }
+    Ok(())
+}
+
+/// Adds a schema, if the value has the key on which it depends.
+#[cycle(validate)]
+#[inline(never)]
+fn add_dependent<'d, 's>(
+    value: &JsonValue,
+    key: &str,
+    schema: &'s JsonValue,
+    walk: Walk<'d, 's>,
+    alloc: Global,
+    sources: &mut Vec<Source<'d, 's>>,
+) -> Result<(), CheckError>
+    ensures evaluated { OnOk result (Adds walk.entry
+        (λ a c. is_some (tree_at_key (view value.now) (chars key.now))
+        && a.evaluates (view schema.now) (view value.now) c)
+        sources.old.items sources.new.items) }
+    ensures within { OnOk result (StaysWithin walk.entry sources.old.items sources.new.items) }
+{
+    if !has_key(value, key) {
+        return Ok(());
+    }
+    add_schema(value, schema, walk, alloc, sources)?;
+    Ok(())
+}
+
+/// Adds the schemas that `$ref` and `$dynamicRef` lead to, which accept the value.
+#[cycle(validate)]
+#[inline(never)]
+fn add_reference<'d, 's>(
+    value: &JsonValue,
+    schema: &'s JsonValue,
+    walk: Walk<'d, 's>,
+    alloc: Global,
+    sources: &mut Vec<Source<'d, 's>>,
+) -> Result<(), CheckError>
+    ensures evaluated { OnOk result (Adds walk.entry
+        (λ a c. reference_evaluates (view walk.entry.whole.now.root.now) a (view schema.now)
+        (view value.now) c)
+        sources.old.items sources.new.items) }
+    ensures within { OnOk result (StaysWithin walk.entry sources.old.items sources.new.items) }
+{
+    add_target(value, schema, Keyword::Ref, walk, alloc, sources)?;
+    add_target(value, schema, Keyword::DynamicRef, walk, alloc, sources)?;
+    Ok(())
+}
+
+/// Adds the schema that the reference leads to.
+#[cycle(validate)]
+#[inline(never)]
+fn add_target<'d, 's>(
+    value: &JsonValue,
+    schema: &'s JsonValue,
+    keyword: Keyword,
+    walk: Walk<'d, 's>,
+    alloc: Global,
+    sources: &mut Vec<Source<'d, 's>>,
+) -> Result<(), CheckError>
+    ensures evaluated { OnOk result (Adds walk.entry
+        (λ a c. target_evaluates (view walk.entry.whole.now.root.now) keyword a (view schema.now)
+        (view value.now) c)
+        sources.old.items sources.new.items) }
+    ensures within { OnOk result (StaysWithin walk.entry sources.old.items sources.new.items) }
+{
+    let Some(part) = referenced(schema, keyword, walk, alloc)? else {
+        return Ok(());
+    };
+    add_schema(value, part, walk, alloc, sources)?;
+    Ok(())
+}

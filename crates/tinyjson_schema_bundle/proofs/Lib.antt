@@ -1,0 +1,4 @@
+pub mod Marking
+pub mod Placing
+pub mod Pointing
+pub mod Scoping

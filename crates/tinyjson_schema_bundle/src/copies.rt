@@ -1,0 +1,281 @@
+//! Copies of resources, where what has led to a dynamic reference tells where it leads.
+ghost use Rattle.std.specs.Prelude.{◌≡◌, IfOk, OnOk, map, option_map};
+ghost use Rattle.std.specs.String.{string_bytes};
+ghost use Rattle.tinyjson.specs.View.{view, members_view, members_listed};
+ghost use Rattle.tinyjson_schema_keywords.specs.Applied.{schema_at};
+ghost use Rattle.tinyjson_schema_keywords.specs.declared.keyword.Keyword.TheVariants.{Defs};
+ghost use Rattle.tinyjson_schema_bundle.specs.Bundles.{all_marked, places_in};
+ghost use Rattle.tinyjson_schema_bundle.specs.Scopes.{reached_of, from_root, guided, home, letters};
+ghost use Rattle.tinyjson_schema_bundle.specs.Scopes.{letters_above, longest, longer, schema_there};
+ghost use Rattle.tinyjson_schema_bundle.specs.Scopes.{copy_by, copy_of, put_copies, defs_in};
+ghost use Rattle.tinyjson_schema_bundle.specs.Scopes.{with_defs, with_copies};
+
+use crate::bundle::{first_place, pointed, pointed_members, pointed_named, put_member, put_some};
+use crate::guide::Guide;
+use crate::mark::{Kind, Spot};
+use crate::scope::{State, home, is_in_document, is_within, place_in_list, place_of_base, reached};
+use std::alloc::{AllocError, Global};
+use std::collections::HashMap;
+use std::str;
+use tinyjson::{JsonValue, sorted_members};
+use tinyjson_schema_keywords::{Keyword, at_pointer, percent_decoded, schema_at, schema_map_at};
+use uri_reference::resolve;
+
+/// The letters that the keys of copies begin with: more than each key of `$defs` has bytes.
+pub fn letters(document: &JsonValue, alloc: Global) -> Result<String, AllocError>
+    ensures { IfOk result (λ s. string_bytes s ≡ letters (view document.now)) }
+{
+    let listed = schema_map_at(document, Keyword::Defs, alloc)?;
+    letters_above(longest_key(listed.as_slice()), alloc)
+}
+
+/// More letters than the count.
+fn letters_above(count: usize, alloc: Global) -> Result<String, AllocError>
+    ensures { IfOk result (λ s. string_bytes s ≡ letters_above count) }
+{
+    let mut letters = String::from_str(alloc, "z")?;
+    for _ in 0..count {
+        letters.push('z')?;
+    }
+    Ok(letters)
+}
+
+/// How many bytes the longest key has.
+fn longest_key(members: &[(&String, &JsonValue)]) -> usize
+    ensures { result ≡ longest (members_listed members.now) 0 }
+{
+    let mut most = 0;
+    for member in members {
+        let (key, _) = member;
+        most = longer(most, key.as_str().len());
+    }
+    most
+}
+
+fn longer(count: usize, other: usize) -> usize
+    ensures { result ≡ longer count other }
+{
+    if count < other { other } else { count }
+}
+
+/// The document with pointers, and with the copies in its `$defs`.
+pub fn with_copies(
+    document: &JsonValue,
+    guide: &Guide<'_>,
+    alloc: Global,
+) -> Result<JsonValue, AllocError>
+    requires root { reached_of guide.now.from.now ≡ from_root }
+    ensures { IfOk result (λ v. view v ≡ with_copies (places_in guide.now.places.now)
+        (all_marked guide.now.marks.now) guide.now.root.now guide.now.letters.now
+        guide.now.contested (map reached_of guide.now.copies.now) (view document.now)
+        (map reached_of guide.now.copies.now)) }
+{
+    let spot = Spot {
+        base: "",
+        place: "",
+    };
+    let whole = pointed(document, guide, spot, alloc)?;
+    if guide.copies.is_empty() {
+        return Ok(whole);
+    }
+    let defs = copied_defs(document, guide, alloc)?;
+    with_defs(whole, defs, alloc)
+}
+
+/// The schema with these as its `$defs`, if there are any.
+fn with_defs(
+    schema: JsonValue,
+    defs: Option<HashMap<String, JsonValue>>,
+    alloc: Global,
+) -> Result<JsonValue, AllocError>
+    ensures { IfOk result (λ v. view v
+        ≡ with_defs (option_map (λ m. members_view m.entries) defs) (view schema)) }
+{
+    let Some(defs) = defs else {
+        return Ok(schema);
+    };
+    match schema {
+        JsonValue::Object(mut members) => {
+            let defs = JsonValue::Object(defs);
+            put_member(&mut members, Keyword::Defs.name(), defs, alloc)?;
+            Ok(JsonValue::Object(members))
+        }
+        other => Ok(other),
+    }
+}
+
+/// The `$defs` of the document with pointers, with the copies; `None` if they are no object.
+fn copied_defs(
+    document: &JsonValue,
+    guide: &Guide<'_>,
+    alloc: Global,
+) -> Result<Option<HashMap<String, JsonValue>>, AllocError>
+    ensures { IfOk result (λ o. option_map (λ m. members_view m.entries) o ≡ option_map
+        (put_copies (copy_of (places_in guide.now.places.now) (all_marked guide.now.marks.now)
+        guide.now.root.now guide.now.letters.now guide.now.contested
+        (map reached_of guide.now.copies.now) (view document.now)) guide.now.letters.now 0
+        (map reached_of guide.now.copies.now))
+        (defs_in (guided guide.now) guide.now.root.now (schema_at (view document.now) Defs))) }
+{
+    let Some(mut defs) = defs_of(document, guide, alloc)? else {
+        return Ok(None);
+    };
+    put_copies(&mut defs, document, guide, alloc)?;
+    Ok(Some(defs))
+}
+
+/// The `$defs` of the document with pointers; `None` if they are no object.
+fn defs_of(
+    document: &JsonValue,
+    guide: &Guide<'_>,
+    alloc: Global,
+) -> Result<Option<HashMap<String, JsonValue>>, AllocError>
+    ensures { IfOk result (λ o. option_map (λ m. members_view m.entries) o
+        ≡ defs_in (guided guide.now) guide.now.root.now (schema_at (view document.now) Defs)) }
+{
+    let Some(defs) = schema_at(document, Keyword::Defs) else {
+        return Ok(Some(HashMap::new(alloc)));
+    };
+    let JsonValue::Object(schemas) = defs else {
+        return Ok(None);
+    };
+    let spot = Spot {
+        base: guide.root,
+        place: "/$defs",
+    };
+    let sorted = sorted_members(alloc, schemas)?;
+    Ok(Some(pointed_members(sorted.as_slice(), guide, spot, alloc)?))
+}
+
+/// Puts the copies.
+fn put_copies(
+    defs: &mut HashMap<String, JsonValue>,
+    document: &JsonValue,
+    guide: &Guide<'_>,
+    alloc: Global,
+) -> Result<(), AllocError>
+    ensures { OnOk result (members_view defs.new.entries ≡ put_copies
+        (copy_of (places_in guide.now.places.now) (all_marked guide.now.marks.now)
+        guide.now.root.now guide.now.letters.now guide.now.contested
+        (map reached_of guide.now.copies.now) (view document.now)) guide.now.letters.now 0
+        (map reached_of guide.now.copies.now) (members_view defs.old.entries)) }
+{
+    for (index, from) in guide.copies.iter().enumerate() {
+        let guide = Guide { from, ..*guide };
+        let copy = copy_of(document, &guide, alloc)?;
+        let key = format!(in alloc; "{}{index}", guide.letters)?;
+        put_some(defs, key.as_str(), copy, alloc)?;
+    }
+    Ok(())
+}
+
+/// A copy of the resource that was reached, with pointers.
+fn copy_of(
+    document: &JsonValue,
+    guide: &Guide<'_>,
+    alloc: Global,
+) -> Result<Option<JsonValue>, AllocError>
+    ensures { IfOk result (λ o. option_map view o ≡ copy_by (guided guide.now)
+        (home (all_marked guide.now.marks.now) guide.now.root.now
+        (string_bytes guide.now.from.now.entry)).0
+        (string_bytes guide.now.from.now.entry)
+        (schema_there (view document.now) (string_bytes guide.now.from.now.entry))) }
+{
+    let place = guide.from.entry.as_str();
+    let Some(schema) = schema_there(document, place, alloc)? else {
+        return Ok(None);
+    };
+    let JsonValue::Object(keywords) = schema else {
+        return Ok(None);
+    };
+    let (base, _) = home(place, guide);
+    let spot = Spot { base, place };
+    let sorted = sorted_members(alloc, keywords)?;
+    let members = pointed_named(sorted.as_slice(), guide, spot, alloc)?;
+    Ok(Some(JsonValue::Object(members)))
+}
+
+/// The schema at a place.
+fn schema_there<'s>(
+    document: &'s JsonValue,
+    place: &str,
+    alloc: Global,
+) -> Result<Option<&'s JsonValue>, AllocError>
+    ensures { IfOk result (λ r. option_map (λ x. view x.now) r
+        ≡ schema_there (view document.now) place.now) }
+{
+    let Some(decoded) = percent_decoded(place.as_bytes(), alloc)? else {
+        return Ok(None);
+    };
+    match str::from_utf8(decoded.as_slice()) {
+        Ok(pointer) => at_pointer(document, pointer, alloc),
+        Err(_) => Ok(None),
+    }
+}
+
+/// How many copies there may be. More would be pointed at where nothing is, and refused there.
+const MOST_COPIES: usize = 1000;
+
+/// What is to be copied, as references lead to it from the whole on. No clause says that it is all of that: a reference to
+/// what is not among them is refused at its place.
+pub fn copies_of(guide: &Guide<'_>, alloc: Global) -> Result<Vec<State>, AllocError> {
+    let mut copies = Vec::new(alloc);
+    if !guide.contested {
+        return Ok(copies);
+    }
+    gather_reached(guide, &mut copies, alloc)?;
+    for next in 0..MOST_COPIES {
+        if next >= copies.len() {
+            break;
+        }
+        let from = copies[next].try_clone(alloc)?;
+        let guide = Guide {
+            from: &from,
+            ..*guide
+        };
+        gather_reached(&guide, &mut copies, alloc)?;
+    }
+    Ok(copies)
+}
+
+/// What the references lead to from what was reached, if the document has it not itself.
+fn gather_reached(
+    guide: &Guide<'_>,
+    copies: &mut Vec<State>,
+    alloc: Global,
+) -> Result<(), AllocError> {
+    for mark in guide.marks {
+        let is_reference = matches!(mark.kind, Kind::Inside | Kind::Outside);
+        if is_reference && is_within(guide.from.entry.as_str(), mark.place.as_str()) {
+            let (base, _) = home(mark.place.as_str(), guide);
+            let target = resolve(alloc, base, mark.uri.as_str())?;
+            gather_target(target.as_str(), false, base, guide, copies, alloc)?;
+            gather_target(target.as_str(), true, base, guide, copies, alloc)?;
+        }
+    }
+    Ok(())
+}
+
+fn gather_target(
+    target: &str,
+    dynamic: bool,
+    base: &str,
+    guide: &Guide<'_>,
+    copies: &mut Vec<State>,
+    alloc: Global,
+) -> Result<(), AllocError> {
+    if copies.len() >= MOST_COPIES {
+        return Ok(());
+    }
+    let Some(place) = first_place(target, dynamic, base, guide, alloc)? else {
+        return Ok(());
+    };
+    let state = reached(place_of_base(base, guide), place.as_str(), guide, alloc)?;
+    if is_in_document(&state, place.as_str(), guide, alloc)?
+        || place_in_list(copies.as_slice(), &state) < copies.len()
+    {
+        return Ok(());
+    }
+    copies.push(state)?;
+    Ok(())
+}

@@ -1,0 +1,16 @@
+//! The schema resources of a document (JSON Schema 2020-12) made one: each reference by a URI, a name or a dynamic scope
+//! becomes a pointer from the root.
+//!
+//! ```
+//! let document = bundled(&tree, alloc)?;
+//! ```
+#![tactic(auto)]
+
+mod bundle;
+mod copies;
+mod guide;
+mod mark;
+mod place;
+mod scope;
+
+pub use bundle::bundled;

@@ -1,0 +1,12 @@
+-- What proofs on top need: the keywords of a schema by their names, the names of schemas, and loops over items and members.
+
+-- ---- names as bytes and as characters
+pub use Rattle.tinyjson_schema_keywords.proofs.Lookups.{at_literal, at_name, name_chars, same_name, text_bytes}
+-- ---- the anchors of a document
+pub use Rattle.tinyjson_schema_keywords.proofs.Naming.{anchors_had, no_plain_name, plain_name}
+-- ---- the members of a map in the order of their keys, and how deep they and items are
+pub use Rattle.tinyjson_schema_keywords.proofs.Listed.{Listed, listed_found, listed_sorted}
+pub use Rattle.tinyjson_schema_keywords.proofs.Depths.{items_depth_at, listed_depth}
+-- ---- one turn of a loop over a list, and its end
+pub use Rattle.tinyjson_schema_keywords.proofs.Turns.{drop_suc, drop_item, drop_end, turn_next, turn_stop, turn_end, count_next, count_end}
+pub use Rattle.tinyjson_schema_keywords.proofs.Turns.{nth_item}

@@ -1,0 +1,9 @@
+pub mod Callers
+pub mod Depths
+pub mod Forms
+pub mod Listed
+pub mod Lookups
+pub mod Naming
+pub mod References
+pub mod Turns
+pub mod Words

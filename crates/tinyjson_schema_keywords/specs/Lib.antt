@@ -1,0 +1,7 @@
+pub mod Anchors
+pub mod Applied
+pub mod Forms
+pub mod Names
+pub mod References
+pub mod Unknown
+pub mod Walks

@@ -1,0 +1,79 @@
+-- The names of the keywords.
+use Rattle.std.specs.Prelude.{ℕ, List, [], ◌∷◌, Option, Some, None, cond, codes}
+use Rattle.std.specs.Str.{bytes_eq}
+use Rattle.tinyjson_schema_keywords.specs.declared.keyword.Keyword.{Keyword}
+use Rattle.tinyjson_schema_keywords.specs.declared.keyword.Keyword.TheVariants as kw
+
+abbrev pub name : Keyword → List ℕ
+name kw.Schema = codes "$schema"
+name kw.Id = codes "$id"
+name kw.Comment = codes "$comment"
+name kw.Defs = codes "$defs"
+name kw.Ref = codes "$ref"
+name kw.Anchor = codes "$anchor"
+name kw.DynamicRef = codes "$dynamicRef"
+name kw.DynamicAnchor = codes "$dynamicAnchor"
+name kw.Vocabulary = codes "$vocabulary"
+name kw.AllOf = codes "allOf"
+name kw.AnyOf = codes "anyOf"
+name kw.OneOf = codes "oneOf"
+name kw.Not = codes "not"
+name kw.If = codes "if"
+name kw.Then = codes "then"
+name kw.Else = codes "else"
+name kw.DependentSchemas = codes "dependentSchemas"
+name kw.PrefixItems = codes "prefixItems"
+name kw.Items = codes "items"
+name kw.Contains = codes "contains"
+name kw.Properties = codes "properties"
+name kw.PatternProperties = codes "patternProperties"
+name kw.AdditionalProperties = codes "additionalProperties"
+name kw.PropertyNames = codes "propertyNames"
+name kw.UnevaluatedItems = codes "unevaluatedItems"
+name kw.UnevaluatedProperties = codes "unevaluatedProperties"
+name kw.Type = codes "type"
+name kw.Enum = codes "enum"
+name kw.Const = codes "const"
+name kw.MultipleOf = codes "multipleOf"
+name kw.Maximum = codes "maximum"
+name kw.ExclusiveMaximum = codes "exclusiveMaximum"
+name kw.Minimum = codes "minimum"
+name kw.ExclusiveMinimum = codes "exclusiveMinimum"
+name kw.MaxLength = codes "maxLength"
+name kw.MinLength = codes "minLength"
+name kw.Pattern = codes "pattern"
+name kw.MaxItems = codes "maxItems"
+name kw.MinItems = codes "minItems"
+name kw.UniqueItems = codes "uniqueItems"
+name kw.MaxContains = codes "maxContains"
+name kw.MinContains = codes "minContains"
+name kw.MaxProperties = codes "maxProperties"
+name kw.MinProperties = codes "minProperties"
+name kw.Required = codes "required"
+name kw.DependentRequired = codes "dependentRequired"
+name kw.Format = codes "format"
+name kw.ContentEncoding = codes "contentEncoding"
+name kw.ContentMediaType = codes "contentMediaType"
+name kw.ContentSchema = codes "contentSchema"
+name kw.Title = codes "title"
+name kw.Description = codes "description"
+name kw.Default = codes "default"
+name kw.Deprecated = codes "deprecated"
+name kw.ReadOnly = codes "readOnly"
+name kw.WriteOnly = codes "writeOnly"
+name kw.Examples = codes "examples"
+
+abbrev pub keywords : List Keyword
+keywords = kw.Schema ∷ kw.Id ∷ kw.Comment ∷ kw.Defs ∷ kw.Ref ∷ kw.Anchor ∷ kw.DynamicRef ∷ kw.DynamicAnchor ∷ kw.Vocabulary ∷
+    kw.AllOf ∷ kw.AnyOf ∷ kw.OneOf ∷ kw.Not ∷ kw.If ∷ kw.Then ∷ kw.Else ∷ kw.DependentSchemas ∷ kw.PrefixItems ∷
+    kw.Items ∷ kw.Contains ∷ kw.Properties ∷ kw.PatternProperties ∷ kw.AdditionalProperties ∷ kw.PropertyNames ∷
+    kw.UnevaluatedItems ∷ kw.UnevaluatedProperties ∷ kw.Type ∷ kw.Enum ∷ kw.Const ∷ kw.MultipleOf ∷ kw.Maximum ∷
+    kw.ExclusiveMaximum ∷ kw.Minimum ∷ kw.ExclusiveMinimum ∷ kw.MaxLength ∷ kw.MinLength ∷ kw.Pattern ∷ kw.MaxItems ∷
+    kw.MinItems ∷ kw.UniqueItems ∷ kw.MaxContains ∷ kw.MinContains ∷ kw.MaxProperties ∷ kw.MinProperties ∷
+    kw.Required ∷ kw.DependentRequired ∷ kw.Format ∷ kw.ContentEncoding ∷ kw.ContentMediaType ∷ kw.ContentSchema ∷
+    kw.Title ∷ kw.Description ∷ kw.Default ∷ kw.Deprecated ∷ kw.ReadOnly ∷ kw.WriteOnly ∷ kw.Examples ∷ []
+
+-- the first of the keywords with the name
+abbrev pub keyword_among : List Keyword → List ℕ → Option Keyword
+keyword_among [] key = None
+keyword_among (k ∷ ks) key = cond (bytes_eq (name k) key) (Some k) (keyword_among ks key)

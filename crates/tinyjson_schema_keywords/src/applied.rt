@@ -1,0 +1,104 @@
+//! The schemas that the keywords of a schema apply.
+ghost use Rattle.std.specs.Prelude.{◌≡◌, option_map, IfOk, is_some};
+ghost use Rattle.std.specs.Str.{chars};
+ghost use Rattle.tinyjson.specs.Index.{tree_at_key};
+ghost use Rattle.tinyjson.specs.Tree.{string};
+ghost use Rattle.tinyjson.specs.View.{view, text, items_view, members_listed};
+ghost use Rattle.tinyjson.specs.Soundness.{IsSorted};
+ghost use Rattle.tinyjson_schema_keywords.specs.Applied.{schema_at, schemas_at, schema_map_at};
+ghost use Rattle.tinyjson_schema_keywords.specs.Applied.{members_in, branch};
+
+use crate::keyword::Keyword;
+use std::alloc::{AllocError, Global};
+use tinyjson::{JsonValue, sorted_members};
+
+/// What an object has at a key.
+pub fn operand<'s>(schema: &'s JsonValue, name: &str) -> Option<&'s JsonValue>
+    ensures { option_map (λ x. view x.now) result
+        ≡ tree_at_key (view schema.now) (chars name.now) }
+{
+    match schema {
+        JsonValue::Object(keywords) => keywords.get(name),
+        _ => None,
+    }
+}
+
+/// The value of the schema's keyword, if it has it.
+pub fn schema_at(schema: &JsonValue, keyword: Keyword) -> Option<&JsonValue>
+    ensures { option_map (λ x. view x.now) result ≡ schema_at (view schema.now) keyword }
+{
+    operand(schema, keyword.name())
+}
+
+/// The schemas that a keyword has in a list.
+pub fn schemas_at(schema: &JsonValue, keyword: Keyword) -> &[JsonValue]
+    ensures { items_view result.now ≡ schemas_at (view schema.now) keyword }
+{
+    let Some(list) = schema_at(schema, keyword) else {
+        return &[];
+    };
+    match list {
+        JsonValue::Array(schemas) => schemas.as_slice(),
+        _ => &[],
+    }
+}
+
+/// The schemas that a keyword has at keys, in the order of these.
+pub fn schema_map_at(
+    schema: &JsonValue,
+    keyword: Keyword,
+    alloc: Global,
+) -> Result<Vec<(&String, &JsonValue)>, AllocError>
+    ensures listed { IfOk result
+        (λ listed. members_listed listed.items ≡ schema_map_at (view schema.now) keyword) }
+    ensures sorted { IfOk result (λ listed. IsSorted (members_listed listed.items)) }
+{
+    let Some(map) = schema_at(schema, keyword) else {
+        return Ok(Vec::new(alloc));
+    };
+    match map {
+        JsonValue::Object(schemas) => sorted_members(alloc, schemas),
+        _ => Ok(Vec::new(alloc)),
+    }
+}
+
+/// The members of an object, in the order of their keys; of another value none.
+pub fn listed_members(
+    value: &JsonValue,
+    alloc: Global,
+) -> Result<Vec<(&String, &JsonValue)>, AllocError>
+    ensures listed { IfOk result
+        (λ listed. members_listed listed.items ≡ members_in (view value.now)) }
+    ensures sorted { IfOk result (λ listed. IsSorted (members_listed listed.items)) }
+{
+    match value {
+        JsonValue::Object(members) => sorted_members(alloc, members),
+        _ => Ok(Vec::new(alloc)),
+    }
+}
+
+/// The key as a value.
+pub fn name_of(key: &String, alloc: Global) -> Result<JsonValue, AllocError>
+    ensures { IfOk result (λ name. view name ≡ string (text key.now)) }
+{
+    let text = String::from_str(alloc, key.as_str())?;
+    Ok(JsonValue::String(text))
+}
+
+/// Whether the value is an object that has the key.
+pub fn has_key(value: &JsonValue, key: &str) -> bool
+    ensures { result ≡ is_some (tree_at_key (view value.now) (chars key.now)) }
+{
+    operand(value, key).is_some()
+}
+
+/// The keyword that `if` chooses, by what its schema says.
+pub fn branch(is_accepted: bool) -> Keyword
+    ensures { result ≡ branch is_accepted }
+{
+    if is_accepted {
+        Keyword::Then
+    } else {
+        Keyword::Else
+    }
+}

@@ -1,0 +1,28 @@
+//! The keywords of JSON Schema 2020-12, and what they have in a schema: the forms of their values, the schemas that
+//! they apply, the names of schemas, and the schemas that references lead to.
+//!
+//! ```
+//! let items = schema_at(&schema, Keyword::Items);
+//! let unknown = unknown_words(&schema, alloc)?;
+//! ```
+#![tactic(auto)]
+
+mod anchor;
+mod applied;
+mod document;
+mod form;
+mod keyword;
+mod reference;
+mod unknown;
+mod walk;
+
+pub use anchor::{Anchor, anchored, anchors_of, is_plain_name, repeated};
+pub use applied::{
+    branch, has_key, listed_members, name_of, operand, schema_at, schema_map_at, schemas_at,
+};
+pub use document::{Document, Whole};
+pub use form::{Form, form_at, is_some_item};
+pub use keyword::{Keyword, keyword_of};
+pub use reference::{at_pointer, percent_decoded, read_pointer, referenced, target};
+pub use unknown::unknown_words;
+pub use walk::{CheckError, Walk};

@@ -1,0 +1,50 @@
+//! How far a check has come into schemas that apply one another.
+ghost use Rattle.std.specs.Prelude.{◌≡◌, MatchResult};
+ghost use Rattle.tinyjson_schema_keywords.specs.Walks.{IsDeeper};
+
+use crate::document::Whole;
+use std::alloc::{AllocError, AllocFailed};
+
+/// Why it is not known whether a value is valid.
+#[derive(Clone, Copy)]
+pub enum CheckError {
+    /// More schemas would be applied in one another than the caller allows.
+    TooDeep,
+    /// An allocation failed.
+    OutOfMemory,
+}
+
+impl From<AllocError> for CheckError {
+    fn from(_: AllocError) -> CheckError {
+        CheckError::OutOfMemory
+    }
+}
+
+impl<T: Drop> From<AllocFailed<T>> for CheckError {
+    fn from(_: AllocFailed<T>) -> CheckError {
+        CheckError::OutOfMemory
+    }
+}
+
+/// Where references lead, and how many schemas more may be applied in one another.
+#[derive(Clone, Copy)]
+pub struct Walk<'d, 's> {
+    pub whole: &'d Whole<'s>,
+    pub steps: usize,
+}
+
+impl<'d, 's> Walk<'d, 's> {
+    /// The walk inside a schema.
+    pub fn deeper(self) -> Result<Walk<'d, 's>, CheckError>
+        ensures { MatchResult result
+            (λ inner. IsDeeper self.entry inner) (λ _. self.entry.steps ≡ 0) }
+    {
+        match self.steps.checked_sub(1) {
+            Some(steps) => Ok(Walk {
+                whole: self.whole,
+                steps,
+            }),
+            None => Err(CheckError::TooDeep),
+        }
+    }
+}
