@@ -12,17 +12,16 @@ ghost use Rattle.jsonnorm.specs.declared.run.Options.{Options};
 
 pub mod fault;
 pub mod run;
+#[cfg(test)]
+mod tests;
 
 use fault::{RunFault, writing_error};
 use run::Options;
 use std::env::{self, Env};
-use std::io::{self, BufWriter, ErrorKind, Write};
+use std::io::{self, ErrorKind, Write};
 use std::process::ExitCode;
 
 const USAGE: &str = "usage: jsonnorm [-i] [-d N]";
-
-/// How many bytes of output are gathered before they are written.
-const OUTPUT_LEN: usize = 65_536;
 
 fn main(rt: HostRuntime) -> ExitCode {
     let ended = match asked(&rt) {
@@ -92,21 +91,14 @@ fn depth(word: &str) -> Option<usize>
     word.parse().ok()
 }
 
-/// From standard input to standard output, which is flushed once, after success. After a failure
-/// nothing more is written, though some bytes may be gathered.
+/// From standard input to standard output, which is flushed once, after success.
 fn normalize(rt: &(impl Input + Print + AllocGlobal), options: Options) -> Result<(), RunFault> {
     let alloc = rt.alloc();
-    let Ok(mut output) = BufWriter::with_capacity(alloc, OUTPUT_LEN, io::writer(rt)) else {
-        return Err(RunFault::OutOfMemory);
-    };
-    let mut input = rt.reader();
+    let (mut input, mut output) = (rt.reader(), io::writer(rt));
     let Options { indented, limit } = options;
-    let answer = match limit {
-        None => run::run(alloc, &mut input, &mut output, indented),
-        Some(limit) => run::run_limited(alloc, &mut input, &mut output, indented, limit),
-    };
-    let answer = answer.and_then(|()| output.flush().map_err(writing_error));
-    // Dropped, the gathered bytes would be written.
-    let (_output, _gathered) = output.into_parts();
-    answer
+    match limit {
+        None => run::run(alloc, &mut input, &mut output, indented)?,
+        Some(limit) => run::run_limited(alloc, &mut input, &mut output, indented, limit)?,
+    }
+    output.flush().map_err(writing_error)
 }

@@ -1,20 +1,18 @@
 //! From the bytes of a reader to a value's normal text in a writer.
-ghost use Rattle.std.specs.Prelude.{◌<◌, ◌∷◌, [], IfOk, None, Some, vec_len};
+ghost use Rattle.std.specs.Prelude.{◌<◌, IfOk, None, Some, vec_len};
 ghost use Rattle.std.specs.Str.{chars};
-ghost use Rattle.tinyjson.specs.Characters.{line_feed};
 ghost use Rattle.tinyjson.specs.Events.{TellsText};
 ghost use Rattle.tinyjson.specs.Tree.{Tree};
-ghost use Rattle.tinyjson.specs.Written.{WritesPrefix, WritesText};
+ghost use Rattle.tinyjson.specs.Written.{WritesPrefix};
 ghost use Rattle.tinyjson_normal.specs.Normal.{HasTree};
 ghost use Rattle.jsonnorm.specs.Input.{ReadsToEnd};
-ghost use Rattle.jsonnorm.specs.Run.{Runs, line_of, normal_text};
+ghost use Rattle.jsonnorm.specs.Run.{Runs, line_of};
 
 use crate::fault::{RunFault, refusal, writing_error};
 use std::alloc::{AllocError, Global};
 use std::io::{self, ErrorKind, Read, Write};
 use std::{mem, str};
 use tinyjson::JsonParseError;
-use tinyjson_lines::write_all;
 use tinyjson_normal::NormalText;
 
 /// How many bytes are asked for at once.
@@ -90,8 +88,8 @@ fn normalize<R: Read, W: Write>(
     drop(bytes);
     match parsed {
         Err(error) => Err(refusal(error)),
-        Ok(normal) => {
-            let written = write_line(alloc, output, &normal, options.indented);
+        Ok(mut normal) => {
+            let written = write_line(alloc, output, &mut normal, options.indented);
             // The program ends soon, and walking the numbers only to free them would cost time.
             mem::forget(normal);
             match written {
@@ -144,29 +142,15 @@ fn parse(alloc: Global, text: &str, limit: Option<usize>) -> Result<NormalText, 
 fn write_line<W: Write>(
     alloc: Global,
     output: &mut W,
-    normal: &NormalText,
+    normal: &mut NormalText,
     indented: bool,
 ) -> io::Result<()>
-    ensures { (t : Tree) → HasTree normal.now t →
+    ensures { (t : Tree) → HasTree normal.old t →
         WritesPrefix (W.contents output.old) (W.contents output.new) (line_of indented t) result }
 {
-    write_text(alloc, output, normal, indented)?;
-    write_all(output, b"\n")
-}
-
-fn write_text<W: Write>(
-    alloc: Global,
-    output: &mut W,
-    normal: &NormalText,
-    indented: bool,
-) -> io::Result<()>
-    ensures { (t : Tree) → HasTree normal.now t →
-        WritesText (W.contents output.old) (W.contents output.new)
-        (normal_text indented t) result }
-{
     if indented {
-        normal.format_to(alloc, output)
+        normal.format_line_to(alloc, output)
     } else {
-        normal.write_to(alloc, output)
+        normal.write_line_to(alloc, output)
     }
 }

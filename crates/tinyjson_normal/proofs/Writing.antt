@@ -29,7 +29,7 @@ use Rattle.tinyjson.specs.Indent.{indent_of}
 use Rattle.tinyjson_grammar.specs.Text.{text, items_text, members_text, quoted, before, after_colon, has_no_items, has_no_members, closing}
 use Rattle.tinyjson_output.specs.Buffer.{Output, Sent, SentPart, SendsFrom}
 use Rattle.tinyjson_output.specs.Written.{WrittenPart, WritesPrefix}
-use Rattle.tinyjson_output.proofs.Callers.{sent_flushes as flushes}
+use Rattle.tinyjson_output.proofs.Callers.{begins, sent_begins, sent_flushes as flushes, stops as part_stops}
 use Rattle.tinyjson_output.proofs.Callers.{closed, enc, three, two_bytes, sent_goes as goes, sent_stops as stops, sent_stop as stop}
 use Rattle.tinyjson_output.proofs.Callers.{
   sent_written_none as written_none,
@@ -404,14 +404,27 @@ pub left_moved : (i j : Option (Bor (List ℕ))) (a b : Bor Store) (rs : List Re
     → AreLeft (indent_of i) a.now rs xs → AreLeft (indent_of j) b.now rs xs
 left_moved i j a b rs xs e d h = subst (λ k. AreLeft (indent_of k) b.now rs xs) e (subst (λ c. AreLeft (indent_of i) c.now rs xs) d h)
 
--- all that is written, with nothing buffered before
-pub flushed : {T E : Type 0} (a b c : Option (List ℕ)) (p q xs : List ℕ) (r : Result T E) → p ≡ []
-    → Sent (a, p) (b, q) (enc (xs ++ [])) [] → WritesPrefix b c q r → WritesPrefix a c (enc xs) r
-flushed a b c p q xs r e h k =
-    flushes a b c q (enc xs) r (subst (λ z. Sent (a, z) (b, q) (enc xs) []) e
-    (subst (λ z. Sent (a, p) (b, q) (enc z) []) (append-nil xs) h)) k
+-- all that is written and the bytes behind it, with nothing buffered before
+sent_whole : (a b : Option (List ℕ)) (p q xs behind : List ℕ) → p ≡ [] → Sent (a, p) (b, q) (enc (xs ++ [])) []
+    → Sent (a, []) (b, q) (enc xs ++ behind) behind
+sent_whole a b p q xs behind e h =
+    goes {piece = enc xs} behind (subst (λ z. Sent (a, z) (b, q) (enc xs) []) e
+    (subst (λ z. Sent (a, p) (b, q) (enc z) []) (append-nil xs) h)) sent_begins
 
-pub part_flushed : (a b : Option (List ℕ)) (p q xs : List ℕ) → p ≡ [] → SentPart (a, p) (b, q) (enc (xs ++ []))
-    → WrittenPart a b (enc xs)
-part_flushed a b p q xs e h =
-    (subst (λ z. SentPart (a, z) (b, q) (enc xs)) e (subst (λ z. SentPart (a, p) (b, q) (enc z)) (append-nil xs) h)).part
+pub flushed : {T E : Type 0} (a b c d : Option (List ℕ)) (p q s xs behind : List ℕ) (r : Result T E) → p ≡ []
+    → Sent (a, p) (b, q) (enc (xs ++ [])) [] → Sent (b, q) (c, s) behind [] → WritesPrefix c d s r
+    → WritesPrefix a d (enc xs ++ behind) r
+flushed a b c d p q s xs behind r e h l k =
+    flushes a c d s (enc xs ++ behind) r (written_then behind [] (sent_whole a b p q xs behind e h) l) k
+
+-- or a part of the bytes behind it
+pub behind_flushed : (a b c : Option (List ℕ)) (p q s xs behind : List ℕ) → p ≡ [] → Sent (a, p) (b, q) (enc (xs ++ [])) []
+    → SentPart (b, q) (c, s) behind → WrittenPart a c (enc xs ++ behind)
+behind_flushed a b c p q s xs behind e h k = (stops_then behind (sent_whole a b p q xs behind e h) k).part
+
+-- or a part of what stands before them
+pub part_flushed : (a b : Option (List ℕ)) (p q xs behind : List ℕ) → p ≡ [] → SentPart (a, p) (b, q) (enc (xs ++ []))
+    → WrittenPart a b (enc xs ++ behind)
+part_flushed a b p q xs behind e h =
+    part_stops {piece = enc xs} behind (subst (λ z. SentPart (a, z) (b, q) (enc xs)) e
+    (subst (λ z. SentPart (a, p) (b, q) (enc z)) (append-nil xs) h)).part begins

@@ -1,10 +1,10 @@
 //! The arena, and the events that it is built by.
-ghost use Rattle.std.specs.Prelude.{[]};
+ghost use Rattle.std.specs.Prelude.{◌++◌, [], encode_utf8_all};
 ghost use Rattle.tinyjson.specs.Events.{literal_tree};
 ghost use Rattle.tinyjson.specs.Indent.{indent_of};
 ghost use Rattle.tinyjson.specs.Text.{text};
 ghost use Rattle.tinyjson.specs.Tree.{Tree};
-ghost use Rattle.tinyjson.specs.Written.{WritesText};
+ghost use Rattle.tinyjson.specs.Written.{WritesPrefix};
 ghost use Rattle.tinyjson_normal.specs.Holding.{Holds, IsTree};
 ghost use Rattle.tinyjson_normal.specs.Node.{Is};
 ghost use Rattle.tinyjson_normal.specs.declared.store.Store.{Store as Nodes};
@@ -15,7 +15,7 @@ use crate::walk::Walk;
 use std::alloc::{AllocError, Global};
 use std::io::{self, ErrorKind, Write};
 use tinyjson::{Events, JsonNumber};
-use tinyjson_output::flush;
+use tinyjson_output::{flush, write_bytes};
 
 /// Where the keys and the values of an open container begin among those that wait.
 #[derive(Clone, Copy)]
@@ -52,17 +52,18 @@ impl Arena {
         }
     }
 
-    /// Writes the text of the tree, compact or indented by a text, in UTF-8, by way of a buffer that is written
-    /// out at the end.
+    /// Writes the text of the tree, compact or indented by a text, in UTF-8, and the bytes behind it, by way of a
+    /// buffer that is written out at the end.
     pub(crate) fn write_to<'a, W: Write>(
         &'a self,
         alloc: Global,
         indent: Option<&'a str>,
+        behind: &[u8],
         out: &mut W,
     ) -> io::Result<()>
         ensures { (t : Tree) → IsTree self.now t →
-            WritesText (W.contents out.old) (W.contents out.new)
-            (text (indent_of indent.entry) 0 t) result }
+            WritesPrefix (W.contents out.old) (W.contents out.new)
+            (encode_utf8_all (text (indent_of indent.entry) 0 t) ++ behind.now) result }
     {
         let Some(root) = self.values.first() else {
             return Err(io::Error::from(ErrorKind::InvalidData));
@@ -70,6 +71,7 @@ impl Arena {
         let mut walk = Walk::new(alloc, &self.store, indent, self.deepest);
         walk.begin(out, *root)?;
         walk.finish(out)?;
+        write_bytes(out, &mut walk.buffer, behind)?;
         flush(out, &mut walk.buffer)
     }
 }

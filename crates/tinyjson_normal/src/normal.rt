@@ -1,7 +1,8 @@
 //! A text whose normal text is asked for.
-ghost use Rattle.std.specs.Prelude.{◌≡◌, ◌↔◌, None, Some, IfOk, IfSome, IsTrue, codes};
+ghost use Rattle.std.specs.Prelude.{◌≡◌, ◌↔◌, ◌++◌, ◌∷◌, [], None, Some, IfOk, IfSome, IsTrue, codes};
 ghost use Rattle.std.specs.Prelude.{encode_utf8_all, string_bytes};
 ghost use Rattle.std.specs.Str.{all_scalars, chars};
+ghost use Rattle.tinyjson.specs.Characters.{line_feed};
 ghost use Rattle.tinyjson.specs.Events.{TellsText};
 ghost use Rattle.tinyjson.specs.Indent.{indent_of};
 ghost use Rattle.tinyjson.specs.Text.{compact, indented, text};
@@ -20,9 +21,6 @@ use tinyjson_output::write_all;
 
 /// The indent of [`NormalText::format`].
 const INDENT: &str = "  ";
-
-/// How many bytes are written at once.
-const PIECE: usize = 4096;
 
 /// What is kept of a text.
 #[derive(Drop)]
@@ -94,7 +92,27 @@ impl NormalText {
         ensures { (t : Tree) → HasTree self.now t →
             WritesText (W.contents out.old) (W.contents out.new) (compact t) result }
     {
-        self.write(alloc, None, out)
+        self.write(alloc, None, b"", out)
+    }
+
+    /// Writes what [`NormalText::write_to`] writes and a line feed: a text that is kept as its compact text by one
+    /// call of the writer, if that takes all. The text is still the same afterwards.
+    ///
+    /// ```
+    /// let mut bytes = Vec::new(alloc);
+    /// NormalText::read(alloc, "[1.50e1, null]")?.write_line_to(alloc, &mut bytes)?;
+    /// assert_eq!(rt; bytes.as_slice(), b"[15,null]\n".as_slice());
+    /// ```
+    pub fn write_line_to<W: Write>(&mut self, alloc: Global, out: &mut W) -> io::Result<()>
+        ensures line { (t : Tree) → HasTree self.old t →
+            WritesPrefix (W.contents out.old) (W.contents out.new)
+            (encode_utf8_all (compact t) ++ line_feed ∷ []) result }
+        ensures text { (t : Tree) → HasTree self.old t → HasTree self.new t }
+    {
+        match &mut self.content {
+            Content::Text(bytes) => write_with_line_feed(out, bytes),
+            Content::Arena(arena) => arena.write_to(alloc, None, b"\n", out),
+        }
     }
 
     /// Writes the text of the tree indented with two spaces, in UTF-8, and flushes nothing: the bytes that
@@ -110,7 +128,22 @@ impl NormalText {
             WritesText (W.contents out.old) (W.contents out.new)
             (indented t (codes "  ") 0) result }
     {
-        self.write(alloc, Some(INDENT), out)
+        self.write(alloc, Some(INDENT), b"", out)
+    }
+
+    /// Writes what [`NormalText::format_to`] writes and a line feed.
+    ///
+    /// ```
+    /// let mut bytes = Vec::new(alloc);
+    /// NormalText::read(alloc, "[1.50e1, []]")?.format_line_to(alloc, &mut bytes)?;
+    /// assert_eq!(rt; bytes.as_slice(), b"[\n  15,\n  []\n]\n".as_slice());
+    /// ```
+    pub fn format_line_to<W: Write>(&self, alloc: Global, out: &mut W) -> io::Result<()>
+        ensures { (t : Tree) → HasTree self.now t →
+            WritesPrefix (W.contents out.old) (W.contents out.new)
+            (encode_utf8_all (indented t (codes "  ") 0) ++ line_feed ∷ []) result }
+    {
+        self.write(alloc, Some(INDENT), b"\n", out)
     }
 
     /// The compact text of the tree: what `stringify` of the text's value returns.
@@ -140,16 +173,22 @@ impl NormalText {
         self.written(alloc, Some(INDENT))
     }
 
-    /// Writes the text, compact or indented by a text.
-    fn write<W: Write>(&self, alloc: Global, indent: Option<&str>, out: &mut W) -> io::Result<()>
+    /// Writes the text, compact or indented by a text, and the bytes behind it.
+    fn write<W: Write>(
+        &self,
+        alloc: Global,
+        indent: Option<&str>,
+        behind: &[u8],
+        out: &mut W,
+    ) -> io::Result<()>
         ensures { (t : Tree) → HasTree self.now t →
-            WritesText (W.contents out.old) (W.contents out.new)
-            (text (indent_of indent.entry) 0 t) result }
+            WritesPrefix (W.contents out.old) (W.contents out.new)
+            (encode_utf8_all (text (indent_of indent.entry) 0 t) ++ behind.now) result }
     {
         match (&self.content, indent) {
-            (Content::Text(bytes), None) => write_whole(out, bytes),
-            (Content::Text(bytes), Some(_)) => write_indented(alloc, indent, out, bytes),
-            (Content::Arena(arena), _) => arena.write_to(alloc, indent, out),
+            (Content::Text(bytes), None) => write_both(out, bytes, behind),
+            (Content::Text(bytes), Some(_)) => write_indented(alloc, indent, behind, bytes, out),
+            (Content::Arena(arena), _) => arena.write_to(alloc, indent, behind, out),
         }
     }
 
@@ -160,7 +199,7 @@ impl NormalText {
             IfOk result (λ s. chars (string_bytes s) ≡ text (indent_of indent.entry) 0 t) }
     {
         let mut bytes = Vec::new(alloc);
-        let Ok(()) = self.write(alloc, indent, &mut bytes) else {
+        let Ok(()) = self.write(alloc, indent, b"", &mut bytes) else {
             return Err(JsonGenerateError);
         };
         match String::from_utf8(bytes) {
@@ -181,35 +220,45 @@ impl NormalText {
     }
 }
 
-/// Writes these bytes, and no others, so many at once that a writer which gathers them takes them in.
-fn write_whole<W: Write>(out: &mut W, bytes: &[u8]) -> io::Result<()>
-    ensures { WritesPrefix (W.contents out.old) (W.contents out.new) bytes.now result }
+/// Writes the bytes and a line feed, by one call if the writer takes all. The text has room for it, which the comma
+/// behind it had while it was built.
+fn write_with_line_feed<W: Write>(out: &mut W, text: &mut Vec<u8>) -> io::Result<()>
+    ensures line { WritesPrefix (W.contents out.old) (W.contents out.new)
+        (text.old.items ++ line_feed ∷ []) result }
+    ensures text { text.new.items ≡ text.old.items }
 {
-    let mut rest = bytes;
-    while !rest.is_empty() {
-        let count = rest.len().min(PIECE);
-        write_all(out, &rest[..count])?;
-        rest = &rest[count..];
-    }
-    Ok(())
+    text.push(b'\n')?;
+    let written = write_all(out, text);
+    text.pop();
+    written
 }
 
-/// Writes the text of the tree that a compact text has, indented by a text: it is read again.
+/// Writes the bytes, and those behind them.
+fn write_both<W: Write>(out: &mut W, bytes: &[u8], behind: &[u8]) -> io::Result<()>
+    ensures { WritesPrefix (W.contents out.old) (W.contents out.new)
+        (bytes.now ++ behind.now) result }
+{
+    write_all(out, bytes)?;
+    write_all(out, behind)
+}
+
+/// Writes the text of the tree that a compact text has, indented by a text, and the bytes behind it: it is read again.
 fn write_indented<W: Write>(
     alloc: Global,
     indent: Option<&str>,
-    out: &mut W,
+    behind: &[u8],
     bytes: &[u8],
+    out: &mut W,
 ) -> io::Result<()>
     ensures { (t : Tree) → bytes.now ≡ encode_utf8_all (compact t) → IsTree t →
-        WritesText (W.contents out.old) (W.contents out.new)
-        (text (indent_of indent.entry) 0 t) result }
+        WritesPrefix (W.contents out.old) (W.contents out.new)
+        (encode_utf8_all (text (indent_of indent.entry) 0 t) ++ behind.now) result }
 {
     let Ok(compact) = str::from_utf8(bytes) else {
         return Err(io::Error::from(ErrorKind::InvalidData));
     };
     match read_events(alloc, compact, Arena::new(alloc)) {
-        Ok(arena) => arena.write_to(alloc, indent, out),
+        Ok(arena) => arena.write_to(alloc, indent, behind, out),
         Err(_) => Err(io::Error::from(ErrorKind::OutOfMemory)),
     }
 }
