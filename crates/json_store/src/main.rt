@@ -5,14 +5,12 @@
 //! failed.
 #![tactic(auto)]
 
-pub mod store;
-
 use std::io::{self, BufReader, ErrorKind};
 use std::process::ExitCode;
 use std::str;
-use store::Store;
 use tinyjson_lines::{Cause, Refusal, content, read_line};
 use tinyjson_normal::NormalReader;
+use tinyjson_store::Store;
 
 fn main(rt: HostRuntime) -> ExitCode {
     match count_lines(&rt) {

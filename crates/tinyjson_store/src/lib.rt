@@ -1,0 +1,12 @@
+//! Counts of JSON values by their normal text: equal values share one count.
+//!
+//! ```
+//! let mut store = Store::new(alloc);
+//! store.add(alloc, &NormalText::read(alloc, r#"{"a": 1, "b": 2.0}"#)?)?;
+//! store.count(alloc, &NormalText::read(alloc, r#"{"b": 2, "a": 10e-1}"#)?)?; // 1
+//! ```
+#![tactic(auto)]
+
+mod store;
+
+pub use store::Store;
