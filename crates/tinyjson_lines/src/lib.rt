@@ -9,6 +9,7 @@ mod line;
 mod lines;
 mod refusal;
 
-pub use line::{write_all, write_line};
+pub use line::write_line;
 pub use lines::{content, read_line};
 pub use refusal::{Cause, Refusal};
+pub use tinyjson_output::write_all;

@@ -9,5 +9,5 @@ returns-in_err-words g c = MatchResult-from_err _ _ _ c.from_residual.ensures.0 
 
 pub returns : goal.returns
 returns g c =
-    subst (λ bs. WritesPrefix (g.E.Write.contents c.args.errors.now) (g.E.Write.contents c.write_all.new.output) bs c.write_all.result)
+    subst (λ bs. WritesPrefix (g.E.Write.contents c.args.errors.now) (g.E.Write.contents c.write_all.new.out) bs c.write_all.result)
     (c.as_bytes.ensures.value ∙ c.in_ok-words.ensures.ok) c.write_all.ensures

@@ -11,6 +11,6 @@ returns-in_err-path g c = MatchResult-from_err _ _ _ c.from_residual.ensures.0 (
 
 pub returns : goal.returns
 returns g c =
-    subst (λ bs. WritesPrefix (g.W.Write.contents c.args.output.now) (g.W.Write.contents c.write_all.new.output) bs c.write_all.result)
+    subst (λ bs. WritesPrefix (g.W.Write.contents c.args.output.now) (g.W.Write.contents c.write_all.new.out) bs c.write_all.result)
     (c.as_bytes.ensures.value ∙ (sym (encodes-chars _ (IsUtf8-string_bytes c.in_ok-path.path)) ∙ ap encode_utf8_all c.in_ok-path.ensures))
     c.write_all.ensures
