@@ -4,10 +4,10 @@ use Rattle.tinyjson_number.specs.Numeral.{power_width}
 use Rattle.tinyjson_grammar.specs.Syntax.{text}
 use Rattle.tinyjson_grammar.specs.Text as written
 use Rattle.tinyjson_grammar.proofs.Callers.Laws.{only_tree, written_text, from_text}
-use Rattle.tinyjson_laws.specs.Writing.{CompactReadsBack, IndentedReadsBack, SameCompact, SameIndented, WrittenOnce, CompactWithin}
+use Rattle.tinyjson_laws.specs.Writing.{CompactReadsBack, IndentedReadsBack, SameCompact, SameIndented, SameNormal, WrittenOnce, CompactWithin}
 use Rattle.tinyjson_laws.specs.Writing.{IndentedWithin, LimitKept, TextsAreUtf8, CompactIsUtf8, IndentedIsUtf8}
 use Rattle.tinyjson_laws.proofs.ReadingLaws.{tree_within, rewritten}
-use Rattle.tinyjson_grammar.proofs.Callers.{compact_text, one_compact}
+use Rattle.tinyjson_grammar.proofs.Callers.{compact_text, one_compact, text_sound}
 use Rattle.tinyjson.proofs.Callers as trees
 use Rattle.tinyjson.proofs.Callers.{encoded_utf8}
 use Rattle.tinyjson.proofs.Callers.Laws.{scalars_append}
@@ -21,6 +21,9 @@ indented_reads_back t indent i h = written_text power_width None (Some indent) 0
 
 pub same_compact : SameCompact
 same_compact t u h j = (one_compact t u h j, λ e. ap written.compact e)
+
+pub same_normal : SameNormal
+same_normal limit other xs ys t u h j = same_compact t u (text_sound limit xs t h) (text_sound other ys u j)
 
 pub same_indented : SameIndented
 same_indented t u indent i h j = (

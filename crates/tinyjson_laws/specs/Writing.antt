@@ -25,6 +25,12 @@ SameIndented =
     (t u : Tree) (indent : List ℕ) → AreWhite indent → IsTree t → IsTree u →
     (indented t indent 0 ≡ indented u indent 0) ↔ (t ≡ u)
 
+-- two texts have one compact text of their trees exactly if they have one tree
+abbrev pub SameNormal : Type 0
+SameNormal =
+    (limit other : Option ℕ) (xs ys : List ℕ) (t u : Tree) → IsText limit xs t → IsText other ys u →
+    (compact t ≡ compact u) ↔ (t ≡ u)
+
 -- reading and writing twice gives the text of once
 abbrev pub WrittenOnce : Type 0
 WrittenOnce =

@@ -4,6 +4,7 @@ ghost use Rattle.tinyjson_laws.specs.Writing.{
   IndentedReadsBack,
   SameCompact,
   SameIndented,
+  SameNormal,
   WrittenOnce,
   CompactWithin,
   IndentedWithin,
@@ -35,6 +36,12 @@ pub fn same_compact()
 #[tactic(auto, using(crate::proofs::WritingLaws::same_indented))]
 pub fn same_indented()
     ensures { SameIndented }
+{}
+
+/// Two texts have one normal text exactly if they have one value.
+#[tactic(auto, using(crate::proofs::WritingLaws::same_normal))]
+pub fn same_normal()
+    ensures { SameNormal }
 {}
 
 /// Reading a text and writing its tree, done twice, gives the text of once.
