@@ -3,10 +3,12 @@ ghost use Rattle.std.specs.Borrow.{Lends, LendsSo, sem};
 ghost use Rattle.std.specs.HashMap.{get_by_text};
 ghost use Rattle.std.specs.Prelude.{◌≡◌, ◌<◌, ⊤, IsSome, Some, OnSome, option_map, length};
 ghost use Rattle.std.specs.Prelude.{slice_get};
+ghost use Rattle.std.specs.Str.{chars};
 ghost use Rattle.std.specs.Vec.{with_item};
 ghost use Rattle.tinyjson.specs.Access.{array_part, object_part};
 ghost use Rattle.tinyjson.specs.Index.{item_at, member_at, with_item_at, IsItemAt, IsMemberAt};
-ghost use Rattle.tinyjson.specs.Index.{IsMapWith, IsWithMember};
+ghost use Rattle.tinyjson.specs.Index.{tree_at_key, IsMapWith, IsWithMember};
+ghost use Rattle.tinyjson.specs.View.{view};
 ghost use Rattle.tinyjson.specs.private.Rows.{array_row, object_row};
 ghost use Rattle.tinyjson.specs.contracts.value.JsonValue.{the_row};
 ghost use Rattle.tinyjson.specs.declared.value.JsonValue as made;
@@ -125,6 +127,25 @@ impl<'k> IndexMut<&'k str> for JsonValue {
         ensures value { IsMemberAt self.old key.now result.now }
     {
         found(member_mut(object_mut(self), key))
+    }
+}
+
+impl JsonValue {
+    /// The member at the key of an object, or `None` where the object has no such key or the value is
+    /// no object.
+    ///
+    /// ```
+    /// let value = JsonValue::from_str(alloc, r#"{"foo": true, "bar": 1}"#)?;
+    /// assert!(rt; value.member("foo") == Some(&JsonValue::Boolean(true)));
+    /// assert!(rt; value.member("baz").is_none());
+    /// assert!(rt; JsonValue::Null.member("foo").is_none());
+    /// ```
+    pub fn member(&self, key: &str) -> Option<&JsonValue>
+        ensures value { option_map (λ x. x.now) result ≡ member_at self.now key.now }
+        ensures tree { option_map (λ x. view x.now) result
+            ≡ tree_at_key (view self.now) (chars key.now) }
+    {
+        self.get::<HashMap<String, JsonValue>>()?.get(key)
     }
 }
 

@@ -41,6 +41,16 @@ fn parts(rt: HostRuntime) -> Result<(), Fail> {
 }
 
 #[test]
+fn members_that_are_there_or_not(rt: HostRuntime) -> Result<(), Fail> {
+    let alloc = rt.alloc();
+    let value = JsonValue::from_str(alloc, r#"{"foo": true, "bar": 1}"#)?;
+    assert!(rt; value.member("foo") == Some(&JsonValue::Boolean(true)));
+    assert!(rt; value.member("baz").is_none());
+    assert!(rt; JsonValue::Null.member("foo").is_none());
+    Ok(())
+}
+
+#[test]
 fn members_that_are_put(rt: HostRuntime) -> Result<(), Fail> {
     let alloc = rt.alloc();
     let mut members = HashMap::new(alloc);
