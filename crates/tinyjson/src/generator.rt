@@ -23,8 +23,12 @@ use std::io::{self, ErrorKind, Write};
 /// The keys of each object stand in the order of their UTF-8 bytes, so each value has one compact text.
 ///
 /// ```
-/// let mut generator = JsonGenerator::new(alloc, Vec::new(alloc)).indent("  ");
-/// generator.generate(&value)?;
+/// let v = JsonValue::from("hello, world".to_string(alloc)?);
+/// let mut buf = Vec::new(alloc);
+/// let mut generator = JsonGenerator::new(alloc, &mut buf);
+/// generator.generate(&v)?;
+///
+/// assert_eq!(rt; String::from_utf8(buf)?.as_str(), "\"hello, world\"");
 /// ```
 #[derive(Drop)]
 pub struct JsonGenerator<'indent, W: Write> {
@@ -59,12 +63,22 @@ impl<'indent, W: Write> JsonGenerator<'indent, W> {
     /// text, is JSON. The last call decides.
     ///
     /// ```
-    /// let value = JsonValue::from_str(alloc, "[null]")?;
-    /// let mut generator = JsonGenerator::new(alloc, Vec::new(alloc)).indent("\t");
-    /// generator.generate(&value)?;
+    /// let v = JsonValue::from(vec![in alloc;
+    ///     JsonValue::from(JsonNumber::from_i64(alloc, 1)?),
+    ///     JsonValue::from(JsonNumber::from_i64(alloc, 2)?),
+    ///     JsonValue::from(JsonNumber::from_i64(alloc, 3)?),
+    /// ]?);
+    /// let mut buf = Vec::new(alloc);
+    /// let mut generator = JsonGenerator::new(alloc, &mut buf).indent("        ");
+    /// generator.generate(&v)?;
+    ///
     /// assert_eq!(rt;
-    ///     generator.into_inner().as_slice(),
-    ///     b"[\n\tnull\n]".as_slice()
+    ///     String::from_utf8(buf)?.as_str(),
+    ///     "[
+    ///         1,
+    ///         2,
+    ///         3
+    /// ]"
     /// );
     /// ```
     pub fn indent(self, indent: &'indent str) -> Self
@@ -85,6 +99,33 @@ impl<'indent, W: Write> JsonGenerator<'indent, W> {
     /// the writer takes nothing; or one of kind `OutOfMemory` where there is no memory for sorting the
     /// members of an object that has two or more, or for more than 64 containers open at once. Then a
     /// prefix of the text is written, and the next call begins a new text. A value of any depth is written.
+    ///
+    /// ```
+    /// let v = JsonValue::from(vec![in alloc;
+    ///     JsonValue::from(JsonNumber::from_i64(alloc, 1)?),
+    ///     JsonValue::from(JsonNumber::from_i64(alloc, 2)?),
+    ///     JsonValue::from(JsonNumber::from_i64(alloc, 3)?),
+    /// ]?);
+    ///
+    /// let mut buf = Vec::new(alloc);
+    /// let mut generator = JsonGenerator::new(alloc, &mut buf);
+    /// generator.generate(&v)?;
+    /// assert_eq!(rt; String::from_utf8(buf)?.as_str(), "[1,2,3]");
+    ///
+    /// let mut buf = Vec::new(alloc);
+    /// // With an indent of two spaces
+    /// let mut generator = JsonGenerator::new(alloc, &mut buf).indent("  ");
+    /// generator.generate(&v)?;
+    ///
+    /// assert_eq!(rt;
+    ///     String::from_utf8(buf)?.as_str(),
+    ///     "[
+    ///   1,
+    ///   2,
+    ///   3
+    /// ]"
+    /// );
+    /// ```
     ///
     /// ```
     /// let mut generator = JsonGenerator::new(alloc, Vec::new(alloc));
@@ -121,9 +162,13 @@ const INDENT: &str = "  ";
 /// The compact text of a value.
 ///
 /// ```
-/// let value = JsonValue::from_str(alloc, r#"{"bool": true, "arr": [1, null]}"#)?;
-/// let text = stringify(alloc, &value)?;
-/// assert_eq!(rt; text.as_str(), r#"{"arr":[1,null],"bool":true}"#);
+/// let v = JsonValue::from(vec![in alloc;
+///     JsonValue::from(JsonNumber::from_i64(alloc, 1)?),
+///     JsonValue::from(JsonNumber::from_i64(alloc, 2)?),
+///     JsonValue::from(JsonNumber::from_i64(alloc, 3)?),
+/// ]?);
+/// let s = tinyjson::stringify(alloc, &v)?;
+/// assert_eq!(rt; s.as_str(), "[1,2,3]");
 /// ```
 pub fn stringify(alloc: Global, value: &JsonValue) -> JsonGenerateResult
     ensures { IfOk result (λ s. chars (string_bytes s) ≡ compact (view value.now)) }
@@ -134,8 +179,13 @@ pub fn stringify(alloc: Global, value: &JsonValue) -> JsonGenerateResult
 /// The text of a value, indented with two spaces.
 ///
 /// ```
-/// let value = JsonValue::from_str(alloc, "[null]")?;
-/// assert_eq!(rt; format(alloc, &value)?.as_str(), "[\n  null\n]");
+/// let v = JsonValue::from(vec![in alloc;
+///     JsonValue::from(JsonNumber::from_i64(alloc, 1)?),
+///     JsonValue::from(JsonNumber::from_i64(alloc, 2)?),
+///     JsonValue::from(JsonNumber::from_i64(alloc, 3)?),
+/// ]?);
+/// let s = tinyjson::format(alloc, &v)?;
+/// assert_eq!(rt; s.as_str(), "[\n  1,\n  2,\n  3\n]");
 /// ```
 pub fn format(alloc: Global, value: &JsonValue) -> JsonGenerateResult
     ensures { IfOk result (λ s. chars (string_bytes s) ≡ indented (view value.now) (codes "  ") 0) }
@@ -147,8 +197,13 @@ impl JsonValue {
     /// The compact text.
     ///
     /// ```
-    /// let value = JsonValue::from_str(alloc, "[1.50e1, null]")?;
-    /// assert_eq!(rt; value.stringify(alloc)?.as_str(), "[15,null]");
+    /// let v = JsonValue::from(vec![in alloc;
+    ///     JsonValue::from(JsonNumber::from_i64(alloc, 1)?),
+    ///     JsonValue::from(true),
+    ///     JsonValue::from("str".to_string(alloc)?),
+    /// ]?);
+    /// let s = v.stringify(alloc)?;
+    /// assert_eq!(rt; s.as_str(), "[1,true,\"str\"]");
     /// ```
     pub fn stringify(&self, alloc: Global) -> JsonGenerateResult
         ensures { IfOk result (λ s. chars (string_bytes s) ≡ compact (view self.now)) }
@@ -159,8 +214,20 @@ impl JsonValue {
     /// The text indented with two spaces.
     ///
     /// ```
-    /// let value = JsonValue::from_str(alloc, "[1.50e1, null]")?;
-    /// assert_eq!(rt; value.format(alloc)?.as_str(), "[\n  15,\n  null\n]");
+    /// let v = JsonValue::from(vec![in alloc;
+    ///     JsonValue::from(JsonNumber::from_i64(alloc, 1)?),
+    ///     JsonValue::from(true),
+    ///     JsonValue::from("str".to_string(alloc)?),
+    /// ]?);
+    /// let s = v.format(alloc)?;
+    /// assert_eq!(rt;
+    ///     s.as_str(),
+    ///     "[
+    ///   1,
+    ///   true,
+    ///   \"str\"
+    /// ]"
+    /// );
     /// ```
     pub fn format(&self, alloc: Global) -> JsonGenerateResult
         ensures { IfOk result (λ s. chars (string_bytes s) ≡ indented (view self.now)
@@ -172,9 +239,14 @@ impl JsonValue {
     /// Writes the compact text, with the errors of [`JsonGenerator::generate`].
     ///
     /// ```
+    /// let v = JsonValue::from(vec![in alloc;
+    ///     JsonValue::from(JsonNumber::from_i64(alloc, 1)?),
+    ///     JsonValue::from(true),
+    ///     JsonValue::from("str".to_string(alloc)?),
+    /// ]?);
     /// let mut bytes = Vec::new(alloc);
-    /// JsonValue::Boolean(true).write_to(alloc, &mut bytes)?;
-    /// assert_eq!(rt; bytes.as_slice(), b"true".as_slice());
+    /// v.write_to(alloc, &mut bytes)?;
+    /// assert_eq!(rt; String::from_utf8(bytes)?.as_str(), "[1,true,\"str\"]");
     /// ```
     pub fn write_to<W: Write>(&self, alloc: Global, w: &mut W) -> io::Result<()>
         ensures { WritesText (W.contents w.old) (W.contents w.new)
@@ -186,10 +258,21 @@ impl JsonValue {
     /// Writes the text indented with two spaces, with the errors of [`JsonGenerator::generate`].
     ///
     /// ```
-    /// let value = JsonValue::from_str(alloc, "[true]")?;
+    /// let v = JsonValue::from(vec![in alloc;
+    ///     JsonValue::from(JsonNumber::from_i64(alloc, 1)?),
+    ///     JsonValue::from(true),
+    ///     JsonValue::from("str".to_string(alloc)?),
+    /// ]?);
     /// let mut bytes = Vec::new(alloc);
-    /// value.format_to(alloc, &mut bytes)?;
-    /// assert_eq!(rt; bytes.as_slice(), b"[\n  true\n]".as_slice());
+    /// v.format_to(alloc, &mut bytes)?;
+    /// assert_eq!(rt;
+    ///     String::from_utf8(bytes)?.as_str(),
+    ///     "[
+    ///   1,
+    ///   true,
+    ///   \"str\"
+    /// ]"
+    /// );
     /// ```
     pub fn format_to<W: Write>(&self, alloc: Global, w: &mut W) -> io::Result<()>
         ensures { WritesText (W.contents w.old) (W.contents w.new)

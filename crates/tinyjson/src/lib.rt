@@ -5,6 +5,45 @@
 //! [`JsonValue`] of plain containers. A value goes back to text over any writer, with its keys in the
 //! order of their bytes, so each value has exactly one compact text.
 //!
+//! ```
+//! let s = r#"
+//!     {
+//!         "bool": true,
+//!         "arr": [1, null, "test"],
+//!         "nested": {
+//!             "blah": false,
+//!             "blahblah": 3.14
+//!         },
+//!         "unicode": "\u2764"
+//!     }
+//! "#;
+//!
+//! // Parse from strings
+//! let parsed = JsonValue::from_str(alloc, s)?;
+//!
+//! // Access to the inner value as a standard container
+//! let object: &HashMap<String, JsonValue> = parsed.get().expect(&rt, "an object");
+//! assert_eq!(rt; object.len(), 4);
+//!
+//! // Generate a JSON text, and one with an indent
+//! let compact = parsed.stringify(alloc)?;
+//! let indented = parsed.format(alloc)?;
+//!
+//! // Convert to a standard container
+//! let object = HashMap::<String, JsonValue>::try_from(parsed)?;
+//! assert!(rt; object.contains_key("nested"));
+//!
+//! // Create values from standard containers
+//! let mut m = HashMap::new(alloc);
+//! m.insert("foo".to_string(alloc)?, JsonValue::from(true))?;
+//! let mut v = JsonValue::from(m);
+//!
+//! // Access with the index operators, where the place is known to be there
+//! assert!(rt; v.member("foo").is_some());
+//! assert!(rt; v["foo"] == JsonValue::Boolean(true));
+//! v["foo"] = JsonValue::from("hello".to_string(alloc)?);
+//! ```
+//!
 //! | JSON    | Rattle                       |
 //! |---------|------------------------------|
 //! | Number  | `JsonNumber`                 |

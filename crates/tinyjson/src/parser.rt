@@ -36,8 +36,11 @@ pub type JsonParseResult = Result<JsonValue, JsonParseError>;
 /// [`JsonParser::parse`] reads a text from there.
 ///
 /// ```
-/// let mut parser = JsonParser::new(alloc, "[1, true]".chars());
-/// let value = parser.parse()?;
+/// let mut parser = JsonParser::new(alloc, "[1, 2, 3]".chars());
+/// let parsed = parser.parse()?;
+///
+/// // The same by one call
+/// let array = JsonValue::from_str(alloc, "[1, 2, 3]")?;
 /// ```
 #[derive(Drop)]
 pub struct JsonParser<I>
@@ -162,7 +165,8 @@ impl JsonValue {
     /// [`JsonValue::from_str_with_depth_limit`], or give their values to [`JsonValue::dismantle`].
     ///
     /// ```
-    /// let value = JsonValue::from_str(alloc, "{\"a\": 1.50e1}")?;
+    /// let array = JsonValue::from_str(alloc, "[1, 2, 3]")?;
+    /// assert!(rt; array.is_array());
     /// ```
     pub fn from_str(alloc: Global, s: &str) -> JsonParseResult
         ensures { ParsesText None (chars s.now) result }

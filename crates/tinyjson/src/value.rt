@@ -33,7 +33,22 @@ pub use tinyjson_grammar::JsonKind;
 /// 8 MB past some ten thousand levels. [`JsonValue::dismantle`] frees a value of any depth.
 ///
 /// ```
-/// let value = JsonValue::Array(vec![in alloc; JsonValue::Null, JsonValue::Boolean(true)]?);
+/// // Convert from raw values by `From`
+/// let value = JsonValue::from("this is string".to_string(alloc)?);
+///
+/// // Get a reference to the inner value
+/// let maybe_number: Option<&JsonNumber> = value.get();
+/// assert!(rt; maybe_number.is_none());
+/// let maybe_string: Option<&String> = value.get();
+/// assert!(rt; maybe_string.is_some());
+///
+/// // Check the type of the value
+/// assert!(rt; matches!(&value, JsonValue::String(_)));
+/// assert!(rt; value.is_string());
+///
+/// // Convert into raw values by `TryFrom`
+/// let original_value = String::try_from(value)?;
+/// assert_eq!(rt; original_value.as_str(), "this is string");
 /// ```
 #[derive(Debug, Drop)]
 pub enum JsonValue {
@@ -73,7 +88,10 @@ impl JsonValue {
     /// Whether this is a truth value.
     ///
     /// ```
-    /// assert!(rt; JsonValue::from(true).is_bool());
+    /// let v = JsonValue::from(true);
+    /// assert!(rt; v.is_bool());
+    /// let v = JsonValue::from(JsonNumber::from_i64(alloc, 1)?);
+    /// assert!(rt; !v.is_bool());
     /// ```
     pub fn is_bool(&self) -> bool
         ensures { result ≡ is_some (boolean_part self.now) }
@@ -84,7 +102,10 @@ impl JsonValue {
     /// Whether this is a number.
     ///
     /// ```
-    /// assert!(rt; JsonValue::from(JsonNumber::zero()).is_number());
+    /// let v = JsonValue::from(JsonNumber::from_i64(alloc, 1)?);
+    /// assert!(rt; v.is_number());
+    /// let v = JsonValue::from(false);
+    /// assert!(rt; !v.is_number());
     /// ```
     pub fn is_number(&self) -> bool
         ensures { result ≡ is_some (number_part self.now) }
@@ -95,7 +116,10 @@ impl JsonValue {
     /// Whether this is a string.
     ///
     /// ```
-    /// assert!(rt; JsonValue::from("foo".to_string(alloc)?).is_string());
+    /// let v = JsonValue::from("foo".to_string(alloc)?);
+    /// assert!(rt; v.is_string());
+    /// let v = JsonValue::from(JsonNumber::from_i64(alloc, 1)?);
+    /// assert!(rt; !v.is_string());
     /// ```
     pub fn is_string(&self) -> bool
         ensures { result ≡ is_some (string_part self.now) }
@@ -106,7 +130,10 @@ impl JsonValue {
     /// Whether this is null.
     ///
     /// ```
-    /// assert!(rt; JsonValue::from(()).is_null());
+    /// let v = JsonValue::from(());
+    /// assert!(rt; v.is_null());
+    /// let v = JsonValue::from(false);
+    /// assert!(rt; !v.is_null());
     /// ```
     pub fn is_null(&self) -> bool
         ensures { result ≡ is_some (null_part self.now) }
@@ -117,7 +144,10 @@ impl JsonValue {
     /// Whether this is an array.
     ///
     /// ```
-    /// assert!(rt; JsonValue::from(Vec::new(alloc)).is_array());
+    /// let v = JsonValue::from(Vec::new(alloc));
+    /// assert!(rt; v.is_array());
+    /// let v = JsonValue::from(JsonNumber::from_i64(alloc, 1)?);
+    /// assert!(rt; !v.is_array());
     /// ```
     pub fn is_array(&self) -> bool
         ensures { result ≡ is_some (array_part self.now) }
@@ -128,7 +158,10 @@ impl JsonValue {
     /// Whether this is an object.
     ///
     /// ```
-    /// assert!(rt; JsonValue::from(HashMap::new(alloc)).is_object());
+    /// let v = JsonValue::from(HashMap::new(alloc));
+    /// assert!(rt; v.is_object());
+    /// let v = JsonValue::from(Vec::new(alloc));
+    /// assert!(rt; !v.is_object());
     /// ```
     pub fn is_object(&self) -> bool
         ensures { result ≡ is_some (object_part self.now) }

@@ -10,6 +10,12 @@ pub use tinyjson_grammar::JsonParseErrorKind;
 /// An error of the parser: a kind, and the position after what was consumed.
 ///
 /// ```
+/// let parsed = JsonParser::new(alloc, "[1, 2, 3".chars()).parse();
+/// let error = parsed.expect_err(&rt, "an array with no end");
+/// assert!(rt; matches!(&error, JsonParseError { .. }));
+/// ```
+///
+/// ```
 /// if let Err(error) = JsonValue::from_str(alloc, "{\n\"a\" 1}") {
 ///     let words = error.to_string(alloc)?;
 ///     assert_eq!(rt;
@@ -55,6 +61,12 @@ impl JsonParseError {
     /// The line, from 1: one more than the line feeds that were consumed since the parser was made.
     ///
     /// ```
+    /// let parsed = JsonParser::new(alloc, "[1, 2, 3".chars()).parse();
+    /// let error = parsed.expect_err(&rt, "an array with no end");
+    /// assert_eq!(rt; error.line(), 1);
+    /// ```
+    ///
+    /// ```
     /// if let Err(error) = JsonValue::from_str(alloc, "[\n\n]]") {
     ///     assert!(rt; error.line() == 3);
     /// }
@@ -66,6 +78,12 @@ impl JsonParseError {
     }
 
     /// How many characters were consumed after the last line feed; 0 at the beginning of a line.
+    ///
+    /// ```
+    /// let parsed = JsonParser::new(alloc, "[1, 2, 3".chars()).parse();
+    /// let error = parsed.expect_err(&rt, "an array with no end");
+    /// assert_eq!(rt; error.column(), 8);
+    /// ```
     ///
     /// ```
     /// if let Err(error) = JsonValue::from_str(alloc, "[\n\n]]") {

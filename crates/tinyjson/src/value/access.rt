@@ -73,8 +73,12 @@ impl JsonValue {
     /// The part of this value that `T` sees.
     ///
     /// ```
-    /// let value = JsonValue::from("this is string".to_string(alloc)?);
-    /// assert!(rt; value.get::<String>().is_some());
+    /// let value = JsonValue::from_str(alloc, "[1, 2, 3]")?;
+    /// let vec: &Vec<JsonValue> = value.get().expect(&rt, "an array");
+    /// assert_eq!(rt; vec.len(), 3);
+    /// assert!(rt; vec[0] == JsonValue::from(JsonNumber::from_i64(alloc, 1)?));
+    ///
+    /// // A type of another kind
     /// assert!(rt; value.get::<JsonNumber>().is_none());
     /// ```
     pub fn get<T: InnerAsRef>(&self) -> Option<&T>
@@ -89,6 +93,17 @@ impl JsonValue {
     /// Where the write is to be proved, take this and not a `match` on a `&mut JsonValue`: after it
     /// the value is plainly `Object`, `Array` or the like of what was written, and a call on a part
     /// of a part, as below, says of the whole what its own contract says of the part.
+    ///
+    /// ```
+    /// let mut value = JsonValue::from_str(alloc, "[1, 2, 3]")?;
+    /// let vec: &mut Vec<JsonValue> = value.get_mut().expect(&rt, "an array");
+    /// assert_eq!(rt; vec.len(), 3);
+    /// vec[0] = JsonValue::from(false);
+    /// assert_eq!(rt; value.stringify(alloc)?.as_str(), "[false,2,3]");
+    ///
+    /// // A type of another kind
+    /// assert!(rt; value.get_mut::<JsonNumber>().is_none());
+    /// ```
     ///
     /// ```
     /// fn set_member(value: &mut JsonValue, key: &str, part: JsonValue) -> Option<JsonValue>

@@ -17,10 +17,9 @@ use std::fmt;
 /// It holds the whole value, so nothing is lost.
 ///
 /// ```
-/// if let Err(error) = String::try_from(JsonValue::from(true)) {
-///     assert!(rt; *error.value() == JsonValue::Boolean(true));
-///     assert!(rt; JsonValue::from(error) == JsonValue::Boolean(true));
-/// }
+/// let v = JsonValue::from(JsonNumber::from_i64(alloc, 1)?);
+/// let error = String::try_from(v).expect_err(&rt, "a number");
+/// assert!(rt; matches!(&error, UnexpectedValue { .. }));
 /// ```
 #[derive(Debug, Drop)]
 pub struct UnexpectedValue {
@@ -32,9 +31,9 @@ impl UnexpectedValue {
     /// The value that was not converted.
     ///
     /// ```
-    /// if let Err(error) = bool::try_from(JsonValue::Null) {
-    ///     assert!(rt; error.value().is_null());
-    /// }
+    /// let v = JsonValue::from(JsonNumber::from_i64(alloc, 1)?);
+    /// let error = String::try_from(v).expect_err(&rt, "a number");
+    /// assert!(rt; *error.value() == JsonValue::Number(JsonNumber::from_i64(alloc, 1)?));
     /// ```
     pub fn value(&self) -> &JsonValue
         ensures { result.now ≡ unexpected_value self.now }
@@ -64,6 +63,12 @@ impl fmt::Display for UnexpectedValue {
 impl Error for UnexpectedValue {}
 
 /// The value that the error holds.
+///
+/// ```
+/// let v = JsonValue::from(JsonNumber::from_i64(alloc, 1)?);
+/// let error = String::try_from(v).expect_err(&rt, "a number");
+/// assert!(rt; JsonValue::from(error) == JsonValue::Number(JsonNumber::from_i64(alloc, 1)?));
+/// ```
 impl From<UnexpectedValue> for JsonValue {
     ghost from_gives = { λ e v. v ≡ unexpected_value e };
 
@@ -75,7 +80,8 @@ impl From<UnexpectedValue> for JsonValue {
 /// The number.
 ///
 /// ```
-/// assert!(rt; JsonValue::from(JsonNumber::zero()).is_number());
+/// let v = JsonValue::from(JsonNumber::from_i64(alloc, 1)?);
+/// assert!(rt; v.is_number());
 /// ```
 impl From<JsonNumber> for JsonValue {
     ghost from_gives = { λ x v. v ≡ made.Number x };
@@ -88,7 +94,8 @@ impl From<JsonNumber> for JsonValue {
 /// The truth value.
 ///
 /// ```
-/// assert!(rt; JsonValue::from(true) == JsonValue::Boolean(true));
+/// let v = JsonValue::from(true);
+/// assert!(rt; v.is_bool());
 /// ```
 impl From<bool> for JsonValue {
     ghost from_gives = { λ x v. v ≡ made.Boolean x };
@@ -101,8 +108,8 @@ impl From<bool> for JsonValue {
 /// The `String` as a string value. A `&str` is made a `String` first, since that takes memory.
 ///
 /// ```
-/// let value = JsonValue::from("foo".to_string(alloc)?);
-/// assert!(rt; value.is_string());
+/// let v = JsonValue::from("foo".to_string(alloc)?);
+/// assert!(rt; v.is_string());
 /// ```
 impl From<String> for JsonValue {
     ghost from_gives = { λ x v. v ≡ made.String x };
@@ -115,7 +122,8 @@ impl From<String> for JsonValue {
 /// Null, which holds what `()` holds: nothing.
 ///
 /// ```
-/// assert!(rt; JsonValue::from(()).is_null());
+/// let v = JsonValue::from(());
+/// assert!(rt; v.is_null());
 /// ```
 impl From<()> for JsonValue {
     ghost from_gives = { λ _ v. v ≡ made.Null };
@@ -128,8 +136,11 @@ impl From<()> for JsonValue {
 /// The array of these items, in the memory that they came in.
 ///
 /// ```
-/// let value = JsonValue::from(vec![in alloc; JsonValue::Null]?);
-/// assert!(rt; value.is_array());
+/// let v = JsonValue::from(vec![in alloc;
+///     JsonValue::from(JsonNumber::from_i64(alloc, 1)?),
+///     JsonValue::from(true),
+/// ]?);
+/// assert!(rt; v.is_array());
 /// ```
 impl From<Vec<JsonValue>> for JsonValue {
     ghost from_gives = { λ x v. v ≡ made.Array x };
@@ -142,8 +153,11 @@ impl From<Vec<JsonValue>> for JsonValue {
 /// The object with these members, in the memory that they came in.
 ///
 /// ```
-/// let value = JsonValue::from(HashMap::new(alloc));
-/// assert!(rt; value.is_object());
+/// let mut m = HashMap::new(alloc);
+/// let foo = JsonNumber::from_i64(alloc, 1)?;
+/// m.insert("foo".to_string(alloc)?, JsonValue::from(foo))?;
+/// let v = JsonValue::from(m);
+/// assert!(rt; v.is_object());
 /// ```
 impl From<HashMap<String, JsonValue>> for JsonValue {
     ghost from_gives = { λ x v. v ≡ made.Object x };
@@ -156,7 +170,13 @@ impl From<HashMap<String, JsonValue>> for JsonValue {
 /// The number that the value is, or an error that holds a value of another kind.
 ///
 /// ```
-/// assert!(rt; JsonNumber::try_from(JsonValue::Boolean(true)).is_err());
+/// let v = JsonValue::from(JsonNumber::from_i64(alloc, 1)?);
+/// let r = JsonNumber::try_from(v);
+/// assert!(rt; r.is_ok());
+///
+/// let v = JsonValue::from(true);
+/// let r = JsonNumber::try_from(v);
+/// assert!(rt; r.is_err());
 /// ```
 impl TryFrom<JsonValue> for JsonNumber {
     type Error = UnexpectedValue;
@@ -177,7 +197,13 @@ impl TryFrom<JsonValue> for JsonNumber {
 /// The truth value that the value is, or an error that holds a value of another kind.
 ///
 /// ```
-/// assert!(rt; bool::try_from(JsonValue::Boolean(true)).is_ok_and(|b| b));
+/// let v = JsonValue::from(true);
+/// let r = bool::try_from(v);
+/// assert!(rt; r.is_ok());
+///
+/// let v = JsonValue::from(JsonNumber::from_i64(alloc, 1)?);
+/// let r = bool::try_from(v);
+/// assert!(rt; r.is_err());
 /// ```
 impl TryFrom<JsonValue> for bool {
     type Error = UnexpectedValue;
@@ -198,8 +224,13 @@ impl TryFrom<JsonValue> for bool {
 /// The text of the string that the value is, or an error that holds a value of another kind.
 ///
 /// ```
-/// let value = JsonValue::from("foo".to_string(alloc)?);
-/// assert!(rt; String::try_from(value).is_ok_and(|text| text.as_str() == "foo"));
+/// let v = JsonValue::from("foo".to_string(alloc)?);
+/// let r = String::try_from(v);
+/// assert!(rt; r.is_ok());
+///
+/// let v = JsonValue::from(JsonNumber::from_i64(alloc, 1)?);
+/// let r = String::try_from(v);
+/// assert!(rt; r.is_err());
 /// ```
 impl TryFrom<JsonValue> for String {
     type Error = UnexpectedValue;
@@ -220,7 +251,13 @@ impl TryFrom<JsonValue> for String {
 /// `()` of the value null, or an error that holds a value of another kind.
 ///
 /// ```
-/// assert!(rt; <()>::try_from(JsonValue::Null).is_ok());
+/// let v = JsonValue::from(());
+/// let r = <()>::try_from(v);
+/// assert!(rt; r.is_ok());
+///
+/// let v = JsonValue::from(JsonNumber::from_i64(alloc, 1)?);
+/// let r = <()>::try_from(v);
+/// assert!(rt; r.is_err());
 /// ```
 impl TryFrom<JsonValue> for () {
     type Error = UnexpectedValue;
@@ -241,8 +278,13 @@ impl TryFrom<JsonValue> for () {
 /// The items of the array that the value is, or an error that holds a value of another kind.
 ///
 /// ```
-/// let value = JsonValue::from(vec![in alloc; JsonValue::Null]?);
-/// assert!(rt; Vec::<JsonValue>::try_from(value).is_ok_and(|items| items.len() == 1));
+/// let v = JsonValue::from(vec![in alloc; JsonValue::from(true)]?);
+/// let r = Vec::<JsonValue>::try_from(v);
+/// assert!(rt; r.is_ok());
+///
+/// let v = JsonValue::from(JsonNumber::from_i64(alloc, 1)?);
+/// let r = Vec::<JsonValue>::try_from(v);
+/// assert!(rt; r.is_err());
 /// ```
 impl TryFrom<JsonValue> for Vec<JsonValue> {
     type Error = UnexpectedValue;
@@ -263,8 +305,20 @@ impl TryFrom<JsonValue> for Vec<JsonValue> {
 /// The members of the object that the value is, or an error that holds a value of another kind.
 ///
 /// ```
-/// let value = JsonValue::from(HashMap::new(alloc));
-/// assert!(rt; HashMap::<String, JsonValue>::try_from(value).is_ok());
+/// let mut m = HashMap::new(alloc);
+/// let foo = JsonNumber::from_i64(alloc, 42)?;
+/// m.insert("foo".to_string(alloc)?, JsonValue::from(foo))?;
+/// let v = JsonValue::from(m);
+/// let r = HashMap::<String, JsonValue>::try_from(v);
+/// assert!(rt; r.is_ok());
+/// assert_eq!(rt;
+///     JsonValue::from(r?).stringify(alloc)?.as_str(),
+///     r#"{"foo":42}"#
+/// );
+///
+/// let v = JsonValue::from(JsonNumber::from_i64(alloc, 1)?);
+/// let r = HashMap::<String, JsonValue>::try_from(v);
+/// assert!(rt; r.is_err());
 /// ```
 impl TryFrom<JsonValue> for HashMap<String, JsonValue> {
     type Error = UnexpectedValue;

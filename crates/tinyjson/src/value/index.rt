@@ -30,6 +30,29 @@ use std::ops::{Index, IndexMut};
 ///     assert!(rt; value[1] == JsonValue::Boolean(true));
 /// }
 /// ```
+///
+/// The same by a function of the caller's:
+///
+/// ```
+/// fn has_item(value: &JsonValue, index: usize) -> bool
+///     ensures { IsTrue result ↔ IsSome (item_at value.now index) }
+/// {
+///     value
+///         .get::<Vec<JsonValue>>()
+///         .is_some_and(|items| index < items.len())
+/// }
+/// ```
+///
+/// ```
+/// let items = vec![in alloc;
+///     JsonValue::from(JsonNumber::from_i64(alloc, 1)?),
+///     JsonValue::from(true),
+/// ]?;
+/// let v = JsonValue::from(items);
+/// assert!(rt; has_item(&v, 1));
+/// let b = &v[1];
+/// assert!(rt; *b == JsonValue::Boolean(true));
+/// ```
 impl Index<usize> for JsonValue {
     type Output = JsonValue;
 
@@ -45,25 +68,52 @@ impl Index<usize> for JsonValue {
 
 /// The member at the key of an object.
 ///
-/// The caller shows that the value is an object that has the key; `get` and `contains_key` are the
-/// test. A part of a part is tested step by step, as below. A chain such as `value["arr"][1]` can be
-/// proved only where the test is a function whose contract says that the place is there: a test written
-/// in place speaks of its own result of `value["arr"]`, not of the one that is indexed.
+/// The caller shows that the value is an object that has the key; [`JsonValue::member`] is the test.
 ///
 /// ```
-/// let value = JsonValue::from(members);
-/// if value
-///     .get::<HashMap<String, JsonValue>>()
-///     .is_some_and(|m| m.contains_key("arr"))
+/// let mut m = HashMap::new(alloc);
+/// let foo = JsonNumber::from_i64(alloc, 1)?;
+/// m.insert("foo".to_string(alloc)?, JsonValue::from(foo))?;
+/// let v = JsonValue::from(m);
+/// assert!(rt; v.member("foo").is_some());
+/// let i = &v["foo"];
+/// assert!(rt; *i == JsonValue::Number(JsonNumber::from_i64(alloc, 1)?));
+/// ```
+///
+/// A chain of keys and indices needs tests that are functions of their own, whose contracts say that the
+/// place is there. A test in place speaks of its own result of `json["foo"]`, and not of the one that is
+/// indexed.
+///
+/// ```
+/// fn has_member(value: &JsonValue, key: &str) -> bool
+///     ensures { IsTrue result ↔ IsSome (member_at value.now key.now) }
 /// {
-///     let arr = &value["arr"];
-///     if arr
-///         .get::<Vec<JsonValue>>()
-///         .is_some_and(|items| items.len() == 2)
-///     {
-///         assert!(rt; arr[1] == JsonValue::Boolean(true));
-///     }
+///     value.member(key).is_some()
 /// }
+/// ```
+///
+/// ```
+/// let mut json = JsonValue::from_str(
+///     alloc,
+///     r#"
+/// {
+///   "foo": {
+///     "bar": [
+///       { "target": 42 }
+///     ]
+///   }
+/// }
+/// "#,
+/// )?;
+///
+/// assert!(rt; has_member(&json, "foo"));
+/// assert!(rt; has_member(&json["foo"], "bar"));
+/// assert!(rt; has_item(&json["foo"]["bar"], 0));
+/// assert!(rt; has_member(&json["foo"]["bar"][0], "target"));
+///
+/// // Access with the index operators
+/// let target_value = json["foo"]["bar"][0]["target"].get::<JsonNumber>();
+/// assert!(rt; target_value.is_some_and(|n| n.to_i64() == Some(42)));
 /// ```
 impl<'k> Index<&'k str> for JsonValue {
     type Output = JsonValue;
@@ -85,13 +135,14 @@ impl<'k> Index<&'k str> for JsonValue {
 /// was written, take [`JsonValue::replace_item`].
 ///
 /// ```
-/// let mut value = JsonValue::from(vec![in alloc; JsonValue::Null]?);
-/// if value
-///     .get::<Vec<JsonValue>>()
-///     .is_some_and(|items| items.len() == 1)
-/// {
-///     value[0] = JsonValue::from(true);
-/// }
+/// let items = vec![in alloc;
+///     JsonValue::from(JsonNumber::from_i64(alloc, 1)?),
+///     JsonValue::from(true),
+/// ]?;
+/// let mut v = JsonValue::from(items);
+/// assert!(rt; has_item(&v, 1));
+/// let b = &mut v[1];
+/// assert!(rt; *b == JsonValue::Boolean(true));
 /// ```
 impl IndexMut<usize> for JsonValue {
     fn index_mut(&mut self, index: usize) -> &mut JsonValue
@@ -111,13 +162,47 @@ impl IndexMut<usize> for JsonValue {
 /// written, take [`JsonValue::replace_member`].
 ///
 /// ```
-/// let mut value = JsonValue::from(members);
-/// if value
-///     .get::<HashMap<String, JsonValue>>()
-///     .is_some_and(|m| m.contains_key("foo"))
+/// let mut m = HashMap::new(alloc);
+/// let foo = JsonNumber::from_i64(alloc, 1)?;
+/// m.insert("foo".to_string(alloc)?, JsonValue::from(foo))?;
+/// let mut v = JsonValue::from(m);
+/// assert!(rt; v.member("foo").is_some());
+/// v["foo"] = JsonValue::Number(JsonNumber::from_text(alloc, "3.14")?);
+/// assert!(rt; v.member("foo").is_some());
+/// assert!(rt; v["foo"] == JsonValue::Number(JsonNumber::from_text(alloc, "3.14")?));
+/// ```
+///
+/// A place below others, with the function `has_member` of [`Index`] and `has_item` beside it:
+///
+/// ```
+/// let mut json = JsonValue::from_str(
+///     alloc,
+///     r#"
 /// {
-///     value["foo"] = JsonValue::from(true);
+///   "foo": {
+///     "bar": [
+///       { "target": 42 }
+///     ]
+///   }
 /// }
+/// "#,
+/// )?;
+///
+/// assert!(rt; has_member(&json, "foo"));
+/// assert!(rt; has_member(&json["foo"], "bar"));
+/// assert!(rt; has_item(&json["foo"]["bar"], 0));
+/// assert!(rt; has_member(&json["foo"]["bar"][0], "target"));
+///
+/// // Access with the index operators
+/// let target_value = json["foo"]["bar"][0]["target"].get::<JsonNumber>();
+/// assert!(rt; target_value.is_some_and(|n| n.to_i64() == Some(42)));
+///
+/// // Modify with the index operators
+/// json["foo"]["bar"][0]["target"] = JsonValue::Boolean(false);
+/// assert_eq!(rt;
+///     json.stringify(alloc)?.as_str(),
+///     r#"{"foo":{"bar":[{"target":false}]}}"#
+/// );
 /// ```
 impl<'k> IndexMut<&'k str> for JsonValue {
     fn index_mut(&mut self, key: &'k str) -> &mut JsonValue

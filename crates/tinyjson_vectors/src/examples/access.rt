@@ -34,9 +34,22 @@ fn parts(rt: HostRuntime) -> Result<(), Fail> {
     }
     assert!(rt; value == JsonValue::Boolean(false));
 
-    let value = JsonValue::from("this is string".to_string(alloc)?);
-    assert!(rt; value.get::<String>().is_some());
+    let value = JsonValue::from_str(alloc, "[1, 2, 3]")?;
+    let vec: &Vec<JsonValue> = value.get().expect(&rt, "an array");
+    assert_eq!(rt; vec.len(), 3);
+    assert!(rt; vec[0] == JsonValue::from(JsonNumber::from_i64(alloc, 1)?));
+
+    // A type of another kind
     assert!(rt; value.get::<JsonNumber>().is_none());
+
+    let mut value = JsonValue::from_str(alloc, "[1, 2, 3]")?;
+    let vec: &mut Vec<JsonValue> = value.get_mut().expect(&rt, "an array");
+    assert_eq!(rt; vec.len(), 3);
+    vec[0] = JsonValue::from(false);
+    assert_eq!(rt; value.stringify(alloc)?.as_str(), "[false,2,3]");
+
+    // A type of another kind
+    assert!(rt; value.get_mut::<JsonNumber>().is_none());
     Ok(())
 }
 

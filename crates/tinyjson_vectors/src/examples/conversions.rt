@@ -2,57 +2,115 @@
 
 use std::collections::HashMap;
 use std::test::Fail;
-use tinyjson::{JsonNumber, JsonValue};
-
-#[test]
-fn content_goes_in_and_comes_back(rt: HostRuntime) -> Result<(), Fail> {
-    let alloc = rt.alloc();
-    assert!(rt; JsonValue::from(JsonNumber::zero()).is_number());
-    assert!(rt; JsonValue::from(true) == JsonValue::Boolean(true));
-    assert!(rt; JsonValue::from(()).is_null());
-    assert!(rt; JsonNumber::try_from(JsonValue::Boolean(true)).is_err());
-    assert!(rt; bool::try_from(JsonValue::Boolean(true)).is_ok_and(|b| b));
-    assert!(rt; <()>::try_from(JsonValue::Null).is_ok());
-    Ok(())
-}
+use tinyjson::{JsonNumber, JsonValue, UnexpectedValue};
 
 #[test]
 fn content_that_goes_in(rt: HostRuntime) -> Result<(), Fail> {
     let alloc = rt.alloc();
-    let value = JsonValue::from("foo".to_string(alloc)?);
-    assert!(rt; value.is_string());
+    let v = JsonValue::from(JsonNumber::from_i64(alloc, 1)?);
+    assert!(rt; v.is_number());
 
-    let value = JsonValue::from(vec![in alloc; JsonValue::Null]?);
-    assert!(rt; value.is_array());
+    let v = JsonValue::from(true);
+    assert!(rt; v.is_bool());
 
-    let value = JsonValue::from(HashMap::new(alloc));
-    assert!(rt; value.is_object());
+    let v = JsonValue::from("foo".to_string(alloc)?);
+    assert!(rt; v.is_string());
 
-    let value = JsonValue::from("foo".to_string(alloc)?);
-    assert!(rt; String::try_from(value).is_ok_and(|text| text.as_str() == "foo"));
+    let v = JsonValue::from(());
+    assert!(rt; v.is_null());
+
+    let v = JsonValue::from(vec![in alloc;
+        JsonValue::from(JsonNumber::from_i64(alloc, 1)?),
+        JsonValue::from(true),
+    ]?);
+    assert!(rt; v.is_array());
+
+    let mut m = HashMap::new(alloc);
+    let foo = JsonNumber::from_i64(alloc, 1)?;
+    m.insert("foo".to_string(alloc)?, JsonValue::from(foo))?;
+    let v = JsonValue::from(m);
+    assert!(rt; v.is_object());
     Ok(())
 }
 
 #[test]
-fn items_that_come_back(rt: HostRuntime) -> Result<(), Fail> {
+fn scalars_that_come_back(rt: HostRuntime) -> Result<(), Fail> {
     let alloc = rt.alloc();
-    let value = JsonValue::from(vec![in alloc; JsonValue::Null]?);
-    assert!(rt; Vec::<JsonValue>::try_from(value).is_ok_and(|items| items.len() == 1));
+    let v = JsonValue::from(JsonNumber::from_i64(alloc, 1)?);
+    let r = JsonNumber::try_from(v);
+    assert!(rt; r.is_ok());
 
-    let value = JsonValue::from(HashMap::new(alloc));
-    assert!(rt; HashMap::<String, JsonValue>::try_from(value).is_ok());
+    let v = JsonValue::from(true);
+    let r = JsonNumber::try_from(v);
+    assert!(rt; r.is_err());
+
+    let v = JsonValue::from(true);
+    let r = bool::try_from(v);
+    assert!(rt; r.is_ok());
+
+    let v = JsonValue::from(JsonNumber::from_i64(alloc, 1)?);
+    let r = bool::try_from(v);
+    assert!(rt; r.is_err());
+
+    let v = JsonValue::from(());
+    let r = <()>::try_from(v);
+    assert!(rt; r.is_ok());
+
+    let v = JsonValue::from(JsonNumber::from_i64(alloc, 1)?);
+    let r = <()>::try_from(v);
+    assert!(rt; r.is_err());
+    Ok(())
+}
+
+#[test]
+fn texts_and_containers_that_come_back(rt: HostRuntime) -> Result<(), Fail> {
+    let alloc = rt.alloc();
+    let v = JsonValue::from("foo".to_string(alloc)?);
+    let r = String::try_from(v);
+    assert!(rt; r.is_ok());
+
+    let v = JsonValue::from(JsonNumber::from_i64(alloc, 1)?);
+    let r = String::try_from(v);
+    assert!(rt; r.is_err());
+
+    let v = JsonValue::from(vec![in alloc; JsonValue::from(true)]?);
+    let r = Vec::<JsonValue>::try_from(v);
+    assert!(rt; r.is_ok());
+
+    let v = JsonValue::from(JsonNumber::from_i64(alloc, 1)?);
+    let r = Vec::<JsonValue>::try_from(v);
+    assert!(rt; r.is_err());
+
+    let mut m = HashMap::new(alloc);
+    let foo = JsonNumber::from_i64(alloc, 42)?;
+    m.insert("foo".to_string(alloc)?, JsonValue::from(foo))?;
+    let v = JsonValue::from(m);
+    let r = HashMap::<String, JsonValue>::try_from(v);
+    assert!(rt; r.is_ok());
+    assert_eq!(rt;
+        JsonValue::from(r?).stringify(alloc)?.as_str(),
+        r#"{"foo":42}"#
+    );
+
+    let v = JsonValue::from(JsonNumber::from_i64(alloc, 1)?);
+    let r = HashMap::<String, JsonValue>::try_from(v);
+    assert!(rt; r.is_err());
     Ok(())
 }
 
 #[test]
 fn values_that_come_back(rt: HostRuntime) -> Result<(), Fail> {
     let alloc = rt.alloc();
-    if let Err(error) = String::try_from(JsonValue::from(true)) {
-        assert!(rt; *error.value() == JsonValue::Boolean(true));
-        assert!(rt; JsonValue::from(error) == JsonValue::Boolean(true));
-    }
-    if let Err(error) = bool::try_from(JsonValue::Null) {
-        assert!(rt; error.value().is_null());
-    }
+    let v = JsonValue::from(JsonNumber::from_i64(alloc, 1)?);
+    let error = String::try_from(v).expect_err(&rt, "a number");
+    assert!(rt; matches!(&error, UnexpectedValue { .. }));
+
+    let v = JsonValue::from(JsonNumber::from_i64(alloc, 1)?);
+    let error = String::try_from(v).expect_err(&rt, "a number");
+    assert!(rt; *error.value() == JsonValue::Number(JsonNumber::from_i64(alloc, 1)?));
+
+    let v = JsonValue::from(JsonNumber::from_i64(alloc, 1)?);
+    let error = String::try_from(v).expect_err(&rt, "a number");
+    assert!(rt; JsonValue::from(error) == JsonValue::Number(JsonNumber::from_i64(alloc, 1)?));
     Ok(())
 }

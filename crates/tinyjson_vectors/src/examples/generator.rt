@@ -3,18 +3,27 @@
 use std::string::ToString;
 use std::test::Fail;
 use tinyjson::{
-    JsonGenerateError, JsonGenerateResult, JsonGenerator, JsonValue, format, stringify,
+    JsonGenerateError, JsonGenerateResult, JsonGenerator, JsonNumber, JsonValue, stringify,
 };
 
 #[test]
-fn texts_of_values(rt: HostRuntime) -> Result<(), Fail> {
+fn texts_of_numbers(rt: HostRuntime) -> Result<(), Fail> {
     let alloc = rt.alloc();
-    let value = JsonValue::from_str(alloc, r#"{"bool": true, "arr": [1, null]}"#)?;
-    let text = stringify(alloc, &value)?;
-    assert_eq!(rt; text.as_str(), r#"{"arr":[1,null],"bool":true}"#);
+    let v = JsonValue::from(vec![in alloc;
+        JsonValue::from(JsonNumber::from_i64(alloc, 1)?),
+        JsonValue::from(JsonNumber::from_i64(alloc, 2)?),
+        JsonValue::from(JsonNumber::from_i64(alloc, 3)?),
+    ]?);
+    let s = tinyjson::stringify(alloc, &v)?;
+    assert_eq!(rt; s.as_str(), "[1,2,3]");
 
-    let value = JsonValue::from_str(alloc, "[null]")?;
-    assert_eq!(rt; format(alloc, &value)?.as_str(), "[\n  null\n]");
+    let v = JsonValue::from(vec![in alloc;
+        JsonValue::from(JsonNumber::from_i64(alloc, 1)?),
+        JsonValue::from(JsonNumber::from_i64(alloc, 2)?),
+        JsonValue::from(JsonNumber::from_i64(alloc, 3)?),
+    ]?);
+    let s = tinyjson::format(alloc, &v)?;
+    assert_eq!(rt; s.as_str(), "[\n  1,\n  2,\n  3\n]");
     Ok(())
 }
 
@@ -31,56 +40,119 @@ fn answers_of_writing(rt: HostRuntime) -> Result<(), Fail> {
 }
 
 #[test]
-fn text_of_a_value(rt: HostRuntime) -> Result<(), Fail> {
+fn compact_texts(rt: HostRuntime) -> Result<(), Fail> {
     let alloc = rt.alloc();
-    let value = JsonValue::from_str(alloc, "[1.50e1, null]")?;
-    assert_eq!(rt; value.stringify(alloc)?.as_str(), "[15,null]");
+    let v = JsonValue::from(vec![in alloc;
+        JsonValue::from(JsonNumber::from_i64(alloc, 1)?),
+        JsonValue::from(true),
+        JsonValue::from("str".to_string(alloc)?),
+    ]?);
+    let s = v.stringify(alloc)?;
+    assert_eq!(rt; s.as_str(), "[1,true,\"str\"]");
 
-    let value = JsonValue::from_str(alloc, "[1.50e1, null]")?;
-    assert_eq!(rt; value.format(alloc)?.as_str(), "[\n  15,\n  null\n]");
+    let v = JsonValue::from(vec![in alloc;
+        JsonValue::from(JsonNumber::from_i64(alloc, 1)?),
+        JsonValue::from(true),
+        JsonValue::from("str".to_string(alloc)?),
+    ]?);
+    let mut bytes = Vec::new(alloc);
+    v.write_to(alloc, &mut bytes)?;
+    assert_eq!(rt; String::from_utf8(bytes)?.as_str(), "[1,true,\"str\"]");
     Ok(())
 }
 
 #[test]
-fn texts_to_writers(rt: HostRuntime) -> Result<(), Fail> {
+fn indented_texts(rt: HostRuntime) -> Result<(), Fail> {
     let alloc = rt.alloc();
-    let value = JsonValue::from_str(alloc, "[true]")?;
-    let mut bytes = Vec::new(alloc);
-    value.format_to(alloc, &mut bytes)?;
-    assert_eq!(rt; bytes.as_slice(), b"[\n  true\n]".as_slice());
+    let v = JsonValue::from(vec![in alloc;
+        JsonValue::from(JsonNumber::from_i64(alloc, 1)?),
+        JsonValue::from(true),
+        JsonValue::from("str".to_string(alloc)?),
+    ]?);
+    let s = v.format(alloc)?;
+    assert_eq!(rt;
+        s.as_str(),
+        "[
+  1,
+  true,
+  \"str\"
+]"
+    );
 
+    let v = JsonValue::from(vec![in alloc;
+        JsonValue::from(JsonNumber::from_i64(alloc, 1)?),
+        JsonValue::from(true),
+        JsonValue::from("str".to_string(alloc)?),
+    ]?);
     let mut bytes = Vec::new(alloc);
-    JsonValue::Boolean(true).write_to(alloc, &mut bytes)?;
-    assert_eq!(rt; bytes.as_slice(), b"true".as_slice());
+    v.format_to(alloc, &mut bytes)?;
+    assert_eq!(rt;
+        String::from_utf8(bytes)?.as_str(),
+        "[
+  1,
+  true,
+  \"str\"
+]"
+    );
     Ok(())
 }
 
 #[test]
 fn texts_of_generators(rt: HostRuntime) -> Result<(), Fail> {
     let alloc = rt.alloc();
-    let value = JsonValue::from_str(alloc, "[true]")?;
-    let mut generator = JsonGenerator::new(alloc, Vec::new(alloc)).indent("  ");
-    generator.generate(&value)?;
-    assert_eq!(rt;
-        generator.into_inner().as_slice(),
-        b"[\n  true\n]".as_slice()
-    );
+    let v = JsonValue::from("hello, world".to_string(alloc)?);
+    let mut buf = Vec::new(alloc);
+    let mut generator = JsonGenerator::new(alloc, &mut buf);
+    generator.generate(&v)?;
 
-    let mut generator = JsonGenerator::new(alloc, Vec::new(alloc));
-    generator.generate(&JsonValue::Null)?;
-    assert_eq!(rt; generator.into_inner().as_slice(), b"null".as_slice());
+    assert_eq!(rt; String::from_utf8(buf)?.as_str(), "\"hello, world\"");
+
+    let v = JsonValue::from(vec![in alloc;
+        JsonValue::from(JsonNumber::from_i64(alloc, 1)?),
+        JsonValue::from(JsonNumber::from_i64(alloc, 2)?),
+        JsonValue::from(JsonNumber::from_i64(alloc, 3)?),
+    ]?);
+    let mut buf = Vec::new(alloc);
+    let mut generator = JsonGenerator::new(alloc, &mut buf).indent("        ");
+    generator.generate(&v)?;
+
+    assert_eq!(rt;
+        String::from_utf8(buf)?.as_str(),
+        "[
+        1,
+        2,
+        3
+]"
+    );
     Ok(())
 }
 
 #[test]
-fn texts_indented_with_a_tab(rt: HostRuntime) -> Result<(), Fail> {
+fn texts_without_and_with_an_indent(rt: HostRuntime) -> Result<(), Fail> {
     let alloc = rt.alloc();
-    let value = JsonValue::from_str(alloc, "[null]")?;
-    let mut generator = JsonGenerator::new(alloc, Vec::new(alloc)).indent("\t");
-    generator.generate(&value)?;
+    let v = JsonValue::from(vec![in alloc;
+        JsonValue::from(JsonNumber::from_i64(alloc, 1)?),
+        JsonValue::from(JsonNumber::from_i64(alloc, 2)?),
+        JsonValue::from(JsonNumber::from_i64(alloc, 3)?),
+    ]?);
+
+    let mut buf = Vec::new(alloc);
+    let mut generator = JsonGenerator::new(alloc, &mut buf);
+    generator.generate(&v)?;
+    assert_eq!(rt; String::from_utf8(buf)?.as_str(), "[1,2,3]");
+
+    let mut buf = Vec::new(alloc);
+    // With an indent of two spaces
+    let mut generator = JsonGenerator::new(alloc, &mut buf).indent("  ");
+    generator.generate(&v)?;
+
     assert_eq!(rt;
-        generator.into_inner().as_slice(),
-        b"[\n\tnull\n]".as_slice()
+        String::from_utf8(buf)?.as_str(),
+        "[
+  1,
+  2,
+  3
+]"
     );
     Ok(())
 }
@@ -92,6 +164,10 @@ fn texts_one_after_another(rt: HostRuntime) -> Result<(), Fail> {
     generator.generate(&JsonValue::Null)?;
     generator.generate(&JsonValue::Boolean(true))?;
     assert_eq!(rt; generator.into_inner().as_slice(), b"nulltrue".as_slice());
+
+    let mut generator = JsonGenerator::new(alloc, Vec::new(alloc));
+    generator.generate(&JsonValue::Null)?;
+    assert_eq!(rt; generator.into_inner().as_slice(), b"null".as_slice());
 
     let generator = JsonGenerator::new(alloc, Vec::<u8>::new(alloc));
     assert!(rt; generator.into_inner().is_empty());

@@ -5,7 +5,8 @@ use std::io::{self, ErrorKind};
 use std::string::ToString;
 use std::test::Fail;
 use tinyjson::{
-    JsonParseErrorKind, JsonParseResult, JsonParser, JsonValue, check, check_with_depth_limit,
+    JsonParseError, JsonParseErrorKind, JsonParseResult, JsonParser, JsonValue, check,
+    check_with_depth_limit,
 };
 
 fn read(alloc: Global, text: &str) -> io::Result<JsonValue> {
@@ -26,12 +27,16 @@ fn texts(rt: HostRuntime) -> Result<(), Fail> {
 #[test]
 fn values_of_texts(rt: HostRuntime) -> Result<(), Fail> {
     let alloc = rt.alloc();
-    let mut parser = JsonParser::new(alloc, "[1, true]".chars());
-    let value = parser.parse()?;
-    assert_eq!(rt; value.stringify(alloc)?.as_str(), "[1,true]");
+    let mut parser = JsonParser::new(alloc, "[1, 2, 3]".chars());
+    let parsed = parser.parse()?;
 
-    let value = JsonValue::from_str(alloc, "{\"a\": 1.50e1}")?;
-    assert_eq!(rt; value.stringify(alloc)?.as_str(), r#"{"a":15}"#);
+    // The same by one call
+    let array = JsonValue::from_str(alloc, "[1, 2, 3]")?;
+    assert!(rt; parsed == array);
+    assert_eq!(rt; parsed.stringify(alloc)?.as_str(), "[1,2,3]");
+
+    let array = JsonValue::from_str(alloc, "[1, 2, 3]")?;
+    assert!(rt; array.is_array());
     Ok(())
 }
 
@@ -86,6 +91,23 @@ fn errors(rt: HostRuntime) -> Result<(), Fail> {
             "Parse error at line:2, col:5: ':' is expected after key of object but actually found '1'"
         );
     }
+    Ok(())
+}
+
+#[test]
+fn errors_at_the_end(rt: HostRuntime) -> Result<(), Fail> {
+    let alloc = rt.alloc();
+    let parsed = JsonParser::new(alloc, "[1, 2, 3".chars()).parse();
+    let error = parsed.expect_err(&rt, "an array with no end");
+    assert!(rt; matches!(&error, JsonParseError { .. }));
+
+    let parsed = JsonParser::new(alloc, "[1, 2, 3".chars()).parse();
+    let error = parsed.expect_err(&rt, "an array with no end");
+    assert_eq!(rt; error.line(), 1);
+
+    let parsed = JsonParser::new(alloc, "[1, 2, 3".chars()).parse();
+    let error = parsed.expect_err(&rt, "an array with no end");
+    assert_eq!(rt; error.column(), 8);
     Ok(())
 }
 

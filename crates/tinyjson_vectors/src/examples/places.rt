@@ -30,41 +30,6 @@ fn items(rt: HostRuntime) -> Result<(), Fail> {
 }
 
 #[test]
-fn members(rt: HostRuntime) -> Result<(), Fail> {
-    let alloc = rt.alloc();
-    let value = JsonValue::from(vec![in alloc; JsonValue::Null, JsonValue::Boolean(true)]?);
-    let members = one_member(alloc, "arr", value)?;
-    let value = JsonValue::from(members);
-    if value
-        .get::<HashMap<String, JsonValue>>()
-        .is_some_and(|m| m.contains_key("arr"))
-    {
-        let arr = &value["arr"];
-        if arr
-            .get::<Vec<JsonValue>>()
-            .is_some_and(|items| items.len() == 2)
-        {
-            assert!(rt; arr[1] == JsonValue::Boolean(true));
-        }
-    }
-    Ok(())
-}
-
-#[test]
-fn items_for_writing(rt: HostRuntime) -> Result<(), Fail> {
-    let alloc = rt.alloc();
-    let mut value = JsonValue::from(vec![in alloc; JsonValue::Null]?);
-    if value
-        .get::<Vec<JsonValue>>()
-        .is_some_and(|items| items.len() == 1)
-    {
-        value[0] = JsonValue::from(true);
-    }
-    assert_eq!(rt; value.stringify(alloc)?.as_str(), "[true]");
-    Ok(())
-}
-
-#[test]
 fn items_that_are_replaced(rt: HostRuntime) -> Result<(), Fail> {
     let alloc = rt.alloc();
     let value = JsonValue::from(vec![in alloc; JsonValue::from(true)]?);
@@ -77,21 +42,6 @@ fn items_that_are_replaced(rt: HostRuntime) -> Result<(), Fail> {
         assert!(rt; old.is_null());
     }
     assert!(rt; array == value);
-    Ok(())
-}
-
-#[test]
-fn members_for_writing(rt: HostRuntime) -> Result<(), Fail> {
-    let alloc = rt.alloc();
-    let members = one_member(alloc, "foo", JsonValue::Null)?;
-    let mut value = JsonValue::from(members);
-    if value
-        .get::<HashMap<String, JsonValue>>()
-        .is_some_and(|m| m.contains_key("foo"))
-    {
-        value["foo"] = JsonValue::from(true);
-    }
-    assert_eq!(rt; value.stringify(alloc)?.as_str(), r#"{"foo":true}"#);
     Ok(())
 }
 

@@ -6,6 +6,28 @@ use std::test::Fail;
 use tinyjson::{JsonKind, JsonNumber, JsonValue};
 
 #[test]
+fn a_value_and_its_content(rt: HostRuntime) -> Result<(), Fail> {
+    let alloc = rt.alloc();
+    // Convert from raw values by `From`
+    let value = JsonValue::from("this is string".to_string(alloc)?);
+
+    // Get a reference to the inner value
+    let maybe_number: Option<&JsonNumber> = value.get();
+    assert!(rt; maybe_number.is_none());
+    let maybe_string: Option<&String> = value.get();
+    assert!(rt; maybe_string.is_some());
+
+    // Check the type of the value
+    assert!(rt; matches!(&value, JsonValue::String(_)));
+    assert!(rt; value.is_string());
+
+    // Convert into raw values by `TryFrom`
+    let original_value = String::try_from(value)?;
+    assert_eq!(rt; original_value.as_str(), "this is string");
+    Ok(())
+}
+
+#[test]
 fn values_and_kinds(rt: HostRuntime) -> Result<(), Fail> {
     let alloc = rt.alloc();
     let value = JsonValue::Array(vec![in alloc; JsonValue::Null, JsonValue::Boolean(true)]?);
@@ -14,6 +36,7 @@ fn values_and_kinds(rt: HostRuntime) -> Result<(), Fail> {
     let copy = value.try_clone(alloc)?;
     assert!(rt; copy == value);
 
+    assert!(rt; JsonValue::Null.kind() == JsonKind::Null);
     assert!(rt; JsonValue::Boolean(true).kind() == JsonKind::Boolean);
     assert_eq!(rt; JsonKind::Boolean.to_string(alloc)?.as_str(), "boolean");
 
@@ -23,14 +46,41 @@ fn values_and_kinds(rt: HostRuntime) -> Result<(), Fail> {
 }
 
 #[test]
-fn kinds_of_values(rt: HostRuntime) -> Result<(), Fail> {
+fn kinds_of_scalars(rt: HostRuntime) -> Result<(), Fail> {
     let alloc = rt.alloc();
-    assert!(rt; JsonValue::Null.kind() == JsonKind::Null);
-    assert!(rt; JsonValue::from(true).is_bool());
-    assert!(rt; JsonValue::from(JsonNumber::zero()).is_number());
-    assert!(rt; JsonValue::from("foo".to_string(alloc)?).is_string());
-    assert!(rt; JsonValue::from(()).is_null());
-    assert!(rt; JsonValue::from(Vec::new(alloc)).is_array());
-    assert!(rt; JsonValue::from(HashMap::new(alloc)).is_object());
+    let v = JsonValue::from(true);
+    assert!(rt; v.is_bool());
+    let v = JsonValue::from(JsonNumber::from_i64(alloc, 1)?);
+    assert!(rt; !v.is_bool());
+
+    let v = JsonValue::from(JsonNumber::from_i64(alloc, 1)?);
+    assert!(rt; v.is_number());
+    let v = JsonValue::from(false);
+    assert!(rt; !v.is_number());
+
+    let v = JsonValue::from("foo".to_string(alloc)?);
+    assert!(rt; v.is_string());
+    let v = JsonValue::from(JsonNumber::from_i64(alloc, 1)?);
+    assert!(rt; !v.is_string());
+
+    let v = JsonValue::from(());
+    assert!(rt; v.is_null());
+    let v = JsonValue::from(false);
+    assert!(rt; !v.is_null());
+    Ok(())
+}
+
+#[test]
+fn kinds_of_containers(rt: HostRuntime) -> Result<(), Fail> {
+    let alloc = rt.alloc();
+    let v = JsonValue::from(Vec::new(alloc));
+    assert!(rt; v.is_array());
+    let v = JsonValue::from(JsonNumber::from_i64(alloc, 1)?);
+    assert!(rt; !v.is_array());
+
+    let v = JsonValue::from(HashMap::new(alloc));
+    assert!(rt; v.is_object());
+    let v = JsonValue::from(Vec::new(alloc));
+    assert!(rt; !v.is_object());
     Ok(())
 }
