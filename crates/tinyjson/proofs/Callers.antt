@@ -7,6 +7,7 @@ pub use Rattle.tinyjson.proofs.Values.Entries.{same_text, text_eq}
 pub use Rattle.tinyjson.proofs.Values.Depths.{item_less_deep, member_less_deep, item_count_view, nth_past}
 pub use Rattle.tinyjson.proofs.Values.Loops.{members_view_IsSorted, find_done, find_more, IsRest, rest_begins, rest_next, rest_distinct}
 pub use Rattle.tinyjson.proofs.Values.Loops.{rest_ends}
+pub use Rattle.tinyjson.proofs.Values.Items.{IsLeft, left_begins, left_next, left_ends, none_left}
 pub use Rattle.tinyjson.specs.Access.Laws.{put_of_array, put_of_object}
 pub use Rattle.tinyjson.proofs.Values.Index.{items_view_set, tree_with_item, tree_with_member}
 pub use Rattle.tinyjson_grammar.proofs.Callers.{find_below, find_put, find_remove, found_first, key_same, sorted_put, sorted_remove}
@@ -22,11 +23,12 @@ pub use Rattle.tinyjson_output.proofs.Callers.{Appends-trans, Appends_nothing, A
 pub use Rattle.tinyjson_output.proofs.Callers.{written_take, written_same, written_then, stop, stops, stops_then, fails}
 use Rattle.std.proofs.Common.{◌≡◌, ◌≢◌, ℕ, zero, suc, Bool, true, false, ◌&&◌, cond, bytes_eq, nat_lt, List, [], ◌∷◌, ◌++◌, Option, Some}
 use Rattle.std.proofs.Common.{None, option_map, unwrap_or, is_some, Ok, Err, String, string_bytes, Vec, Global, refl, sym, ap, ◌∙◌, subst}
+use Rattle.std.proofs.Common.{Bor, ◌⊎◌, inl, inr}
 use Rattle.std.proofs.Common.{rules, arith, append-nil}
 use Rattle.std.proofs.lemmas.Bool.{and_parts}
 use Rattle.std.proofs.lemmas.Bool.Decides.{nat_tests, same_from_decides}
 use Rattle.std.proofs.lemmas.Slice.Eq.{bytes_eq-Decides}
-use Rattle.std.proofs.lemmas.Str.{chars-IsAscii, IsUtf8-from_ascii, encodes-chars}
+use Rattle.std.proofs.lemmas.Str.{chars-IsAscii, IsUtf8-from_ascii, encodes-chars, encodes-IsAscii}
 use Rattle.std.specs.HashMap.{get, get_by_text, Updates, UpdatesBy}
 use Rattle.std.specs.Io.KnownBytes.{Appends}
 use Rattle.std.specs.List.{AllByRecursion, IsDistinct}
@@ -35,6 +37,7 @@ use Rattle.std.specs.Prelude.{IsSome, slice_get, option_and_then}
 use Rattle.std.specs.Str.{IsAscii, IsUtf8, chars, encode_utf8_all}
 use Rattle.std.specs.String.{string_eq, string_eq_equiv}
 use Rattle.tinyjson.proofs.Values.Entries.{find_members_of}
+use Rattle.tinyjson.specs.Access.Laws.{put_of_boolean, put_of_number, put_of_string}
 use Rattle.tinyjson.proofs.Values.View.{view_lookup, members_view_updates, members_view_removes, members_view_writes}
 use Rattle.tinyjson.specs.Access.{JsonMap, number_in, boolean_in, string_in, null_in, array_in, object_in, number_part, boolean_part}
 use Rattle.tinyjson.specs.Access.{string_part, null_part, array_part, object_part, is_null, is_boolean, is_number, is_string, is_array}
@@ -54,6 +57,8 @@ use Rattle.tinyjson_output.specs.Written.{Written}
 use Rattle.tinyjson.specs.declared.parser.error.JsonParseError.{JsonParseError}
 use Rattle.tinyjson_grammar.specs.declared.error.JsonParseErrorKind.TheVariants as refusal
 use Rattle.tinyjson.specs.declared.value.JsonValue.{JsonValue, JsonValue-F, out-JsonValue, map-JsonValue, fold_out-JsonValue, the_lemmas}
+use Rattle.tinyjson.specs.declared.value.JsonValue.{roll-JsonValue, roll-out-JsonValue}
+use Rattle.tinyjson.specs.declared.value.JsonValue.TheVariants.{rolls-Null}
 use Rattle.tinyjson.specs.declared.value.JsonValue.TheVariants as made
 use Rattle.tinyjson_number.specs.Decimal.{Decimal}
 use Rattle.tinyjson_number.specs.declared.number.JsonNumber.{JsonNumber}
@@ -143,6 +148,13 @@ object_held : (o : JsonValue-F JsonValue) (ms : Members) → seen o ≡ object m
 object_held (JsonValue-F.Object m) ms h = (m, refl, cc)
 object_held _ ms h = cc
 
+null_level : (o : JsonValue-F JsonValue) → null_in o ≡ Some tt → o ≡ JsonValue-F.Null
+null_level JsonValue-F.Null h = refl
+null_level _ h = cc
+
+null_made : (v : JsonValue) → null_part v ≡ Some tt → v ≡ made.Null
+null_made v h = sym (roll-out-JsonValue v) ∙ (ap roll-JsonValue (null_level (out-JsonValue v) h) ∙ rolls-Null)
+
 -- a value whose tree is null
 pub null_from_tree : (v : JsonValue) → view v ≡ null → null_part v ≡ Some tt
 null_from_tree v h = null_held (out-JsonValue v) (sym (view_seen v) ∙ h)
@@ -169,7 +181,19 @@ pub object_from_tree : (v : JsonValue) (ms : Members) → view v ≡ object ms �
     × (members_view m.entries ≡ ms)
 object_from_tree v ms h = object_held (out-JsonValue v) ms (sym (view_seen v) ∙ h)
 
--- a value that is no object, or no array, has the tree of none
+-- a value that is not of a variant has the tree of none
+pub no_null : (v : JsonValue) → (v ≡ made.Null → ⊥) → view v ≡ null → ⊥
+no_null v other h = other (null_made v (null_from_tree v h))
+
+pub no_boolean : (v : JsonValue) → ((b : Bool) → v ≡ made.Boolean b → ⊥) → (b : Bool) → view v ≡ boolean b → ⊥
+no_boolean v other b h = other b (sym (put_of_boolean v b (boolean_from_tree v b h)))
+
+pub no_number : (v : JsonValue) → ((n : JsonNumber) → v ≡ made.Number n → ⊥) → (d : Decimal) → view v ≡ number d → ⊥
+no_number v other d h = let f = number_from_tree v d h in other f.0 (sym (put_of_number v f.0 f.1))
+
+pub no_string : (v : JsonValue) → ((s : String Global) → v ≡ made.String s → ⊥) → (cs : List ℕ) → view v ≡ string cs → ⊥
+no_string v other cs h = let f = string_from_tree v cs h in other f.0 (sym (put_of_string v f.0 f.1))
+
 pub no_object : (v : JsonValue) → ((m : JsonMap) → v ≡ made.Object m → ⊥) → (ms : Members) → view v ≡ object ms → ⊥
 no_object v other ms h = let f = object_from_tree v ms h in other f.0 (sym (put_of_object v f.0 f.1))
 
@@ -236,6 +260,22 @@ IsAscii_literal (c ∷ cs) h (suc i) = IsAscii_literal cs (and_parts (nat_lt c 1
 pub chars_literal : (bs : List ℕ) → are_ascii bs ≡ true → chars bs ≡ bs
 chars_literal bs h = chars-IsAscii bs (IsAscii_literal bs h)
 
+-- a key that is compared with a literal by its bytes, as `is_key (string_bytes k) (codes "port") (IsUtf8-string_bytes k) refl`
+pub is_key : (bs name : List ℕ) → IsUtf8 bs → are_ascii name ≡ true → bytes_eq bs name ≡ bytes_eq (chars bs) name
+is_key bs name u a = by (bytes_eq bs name) (bytes_eq (chars bs) name) refl refl
+  where
+    by : (x y : Bool) → bytes_eq bs name ≡ x → bytes_eq (chars bs) name ≡ y → x ≡ y
+    by true y e f = sym ((bytes_eq-Decides (chars bs) name).1 (ap chars ((bytes_eq-Decides bs name).0 e) ∙ chars_literal name a)) ∙ f
+    by false true e f =
+        let same : bs ≡ name = sym (encodes-chars bs u)
+        ∙ (ap encode_utf8_all ((bytes_eq-Decides (chars bs) name).0 f) ∙ encodes-IsAscii name (IsAscii_literal name a)) in
+        sym e ∙ (bytes_eq-Decides bs name).1 same
+    by false false e f = refl
+
+-- two keys that compare as unequal, as `keys_apart (codes "host") (codes "port") refl`
+pub keys_apart : (k l : List ℕ) → bytes_eq k l ≡ false → k ≢ l
+keys_apart k l e h = let same = (bytes_eq-Decides k l).1 h in cc
+
 -- ---- an item by its index, a member by its key
 
 -- among the items of a vector: there or not
@@ -280,6 +320,27 @@ pub find_get_literal : (m : JsonMap) (bs : List ℕ) → are_ascii bs ≡ true
     → find bs (members_view m.entries) ≡ option_map view (get_by_text m bs)
 find_get_literal m bs h = ap (λ k. find k (members_view m.entries)) (sym (chars_literal bs h))
     ∙ find_get m bs (IsUtf8-from_ascii bs (IsAscii_literal bs h))
+
+-- what an array lends at an index
+pub lent_item : (v : JsonValue) (l : Vec JsonValue Global) (i : ℕ) → array_part v ≡ Some l
+    → (r : Option (Bor JsonValue)) → option_map (λ x. x.now) r ≡ slice_get l.items i
+    → option_map (λ x. view x.now) r ≡ tree_at (view v) i
+lent_item v l i held r got = view_ref r ∙ (ap (option_map view) got ∙ (sym (nth_items_view l.items i)
+    ∙ ap (λ t. tree_at t i) (sym (array_tree v l held))))
+
+-- what an object lends at a key
+pub lent_member : (v : JsonValue) (m : JsonMap) (bs : List ℕ) → IsUtf8 bs → object_part v ≡ Some m
+    → (r : Option (Bor JsonValue)) → option_map (λ x. x.now) r ≡ get_by_text m bs
+    → option_map (λ x. view x.now) r ≡ tree_at_key (view v) (chars bs)
+lent_member v m bs u held r got = view_ref r ∙ (ap (option_map view) got ∙ (sym (find_get m bs u)
+    ∙ ap (λ t. tree_at_key t (chars bs)) (sym (object_tree v m held))))
+
+-- at a literal key
+pub lent_literal : (v : JsonValue) (m : JsonMap) (bs : List ℕ) → are_ascii bs ≡ true → object_part v ≡ Some m
+    → (r : Option (Bor JsonValue)) → option_map (λ x. x.now) r ≡ get_by_text m bs
+    → option_map (λ x. view x.now) r ≡ tree_at_key (view v) bs
+lent_literal v m bs h held r got = lent_member v m bs (IsUtf8-from_ascii bs (IsAscii_literal bs h)) held r got
+    ∙ ap (tree_at_key (view v)) (chars_literal bs h)
 
 -- a tree that is there is one of a value
 pub value_from_tree : (o : Option JsonValue) (t : Tree) → option_map view o ≡ Some t → (v : JsonValue) × (o ≡ Some v) × (view v ≡ t)
@@ -408,6 +469,22 @@ find_remove_same k ms = find_remove k k ms ∙ ap (λ b. cond b None (find k ms)
 -- another member after `remove`
 pub find_remove_other : (q k : List ℕ) (ms : Members) → q ≢ k → find q (remove k ms) ≡ find q ms
 find_remove_other q k ms h = find_remove q k ms ∙ ap (λ b. cond b None (find q ms)) (bytes_differ q k (bytes_eq q k) refl h)
+
+-- what is found after `remove` was there, at another key
+pub found_before_remove : (q k : List ℕ) (ms : Members) (t : Tree) → find q (remove k ms) ≡ Some t → (q ≢ k) × (find q ms ≡ Some t)
+found_before_remove q k ms t h = by (bytes_eq q k) refl (sym (find_remove q k ms) ∙ h)
+  where
+    by : (b : Bool) → bytes_eq q k ≡ b → cond b None (find q ms) ≡ Some t → (q ≢ k) × (find q ms ≡ Some t)
+    by true e g = cc
+    by false e g = (keys_apart q k e, g)
+
+-- what was there is found after `remove`, but at its key
+pub found_after_remove : (q k : List ℕ) (ms : Members) (t : Tree) → find q ms ≡ Some t → (q ≡ k) ⊎ (find q (remove k ms) ≡ Some t)
+found_after_remove q k ms t h = by (bytes_eq q k) refl
+  where
+    by : (b : Bool) → bytes_eq q k ≡ b → (q ≡ k) ⊎ (find q (remove k ms) ≡ Some t)
+    by true e = inl ((bytes_eq-Decides q k).0 e)
+    by false e = inr (find_remove q k ms ∙ ap (λ b. cond b None (find q ms)) e ∙ h)
 
 -- ---- a part that is put back where it was found
 

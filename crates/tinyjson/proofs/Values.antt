@@ -9,3 +9,4 @@ pub mod Trees
 pub mod Index
 pub mod Loops
 pub mod Depths
+pub mod Items

@@ -1,6 +1,6 @@
 -- A small use of each lemma of `Rattle.tinyjson.proofs.Callers` that no program of this repository needs.
 use Rattle.std.proofs.Common.{◌≡◌, ◌≢◌, ℕ, Bool, true, false, cond, bytes_eq, List, [], ◌∷◌, ◌++◌, Option, Some, None, IsSome, option_map}
-use Rattle.std.proofs.Common.{codes, All, String, string_bytes, Vec, Global, refl, sym, ap, ◌∙◌}
+use Rattle.std.proofs.Common.{codes, All, String, string_bytes, Vec, Global, Bor, ◌+◌, ◌⊎◌, refl, sym, ap, ◌∙◌}
 use Rattle.std.proofs.lemmas.Slice.Eq.{bytes_eq-Decides}
 use Rattle.std.specs.Char.{IsScalar}
 use Rattle.std.specs.HashMap.{get, get_by_text, Updates, UpdatesBy}
@@ -9,16 +9,19 @@ use Rattle.std.specs.List.{IsDistinct}
 use Rattle.std.specs.Map.{lookup, keys_of}
 use Rattle.std.specs.Str.{IsUtf8, chars, encode_utf8_all}
 use Rattle.std.specs.String.{string_eq}
+use Rattle.std.specs.Prelude.{slice_get}
 use Rattle.std.specs.Vec.{with_item}
+use Rattle.std.specs.Vec.Iter.{into_iter_items, into_iter_len}
+use Rattle.std.specs.declared.vec.IntoIter.{IntoIter}
 use Rattle.tinyjson.proofs.Callers as callers
 use Rattle.tinyjson.proofs.Callers.{Entry, begins}
 use Rattle.tinyjson.specs.Access.{JsonMap, number_part, boolean_part, string_part, null_part, array_part, object_part}
 use Rattle.tinyjson_grammar.specs.Grammar.{IsAccepted}
 use Rattle.tinyjson.specs.Index.{item_at, member_at, tree_at, tree_at_key, with_last, with_tree_at, with_tree_at_key}
-use Rattle.tinyjson.specs.Number.{JsonNumber}
+use Rattle.tinyjson.specs.Number.{JsonNumber, zero_decimal}
 use Rattle.tinyjson_grammar.specs.Soundness.{IsSorted}
 use Rattle.tinyjson_grammar.specs.Text.{compact}
-use Rattle.tinyjson_grammar.specs.Tree.{Tree, boolean, array, Members, put, find, remove}
+use Rattle.tinyjson_grammar.specs.Tree.{Tree, null, boolean, number, string, array, Members, put, find, remove}
 use Rattle.tinyjson.specs.View.{view, text, items_view, members_view}
 use Rattle.tinyjson_output.specs.Written.{Written, WrittenPart}
 use Rattle.tinyjson.specs.declared.value.JsonValue.{JsonValue}
@@ -31,6 +34,21 @@ null_has_no_item i = ap (λ t. tree_at t i) callers.view_Null
 
 pub true_is_seen : view (made.Boolean true) ≡ boolean true
 true_is_seen = callers.view_Boolean true
+
+-- ---- the tree of a value that is not of a variant
+
+module _ (v : JsonValue) where
+  pub other_than_null : (v ≡ made.Null → ⊥) → view v ≢ null
+  other_than_null other h = callers.no_null v other h
+
+  pub other_than_true : ((b : Bool) → v ≡ made.Boolean b → ⊥) → view v ≢ boolean true
+  other_than_true other h = callers.no_boolean v other true h
+
+  pub other_than_zero : ((n : JsonNumber) → v ≡ made.Number n → ⊥) → view v ≢ number zero_decimal
+  other_than_zero other h = callers.no_number v other zero_decimal h
+
+  pub other_than_error : ((s : String Global) → v ≡ made.String s → ⊥) → view v ≢ string (codes "error")
+  other_than_error other h = callers.no_string v other (codes "error") h
 
 -- ---- of two values with one tree the other has the same part
 
@@ -77,6 +95,43 @@ one_more_entry done e h = callers.members_view_last done e [] h
 pub entry_at : (es : List Entry) (k : List ℕ) (t : Tree) → find k (members_view es) ≡ Some t → callers.HasEntry es k t
 entry_at es k t h = callers.entry_from_find es k t h
 
+-- ---- what is lent
+
+module _ (v : JsonValue) (r : Option (Bor JsonValue)) where
+  pub lent_first : (l : Vec JsonValue Global) → array_part v ≡ Some l → option_map (λ x. x.now) r ≡ slice_get l.items 0
+      → option_map (λ x. view x.now) r ≡ tree_at (view v) 0
+  lent_first l held got = callers.lent_item v l 0 held r got
+
+  pub lent_at : (m : JsonMap) (k : String Global) → object_part v ≡ Some m → option_map (λ x. x.now) r ≡ get_by_text m (string_bytes k)
+      → option_map (λ x. view x.now) r ≡ tree_at_key (view v) (text k)
+  lent_at m k held got = callers.lent_member v m (string_bytes k) (callers.IsUtf8-string_bytes k) held r got
+
+  pub lent_port : (m : JsonMap) → object_part v ≡ Some m → option_map (λ x. x.now) r ≡ get_by_text m (codes "port")
+      → option_map (λ x. view x.now) r ≡ tree_at_key (view v) (codes "port")
+  lent_port m held got = callers.lent_literal v m (codes "port") refl held r got
+
+-- ---- keys
+
+pub port_compared : (k : String Global) → bytes_eq (string_bytes k) (codes "port") ≡ bytes_eq (text k) (codes "port")
+port_compared k = callers.is_key (string_bytes k) (codes "port") (callers.IsUtf8-string_bytes k) refl
+
+pub host_is_no_port : codes "host" ≢ codes "port"
+host_is_no_port = callers.keys_apart (codes "host") (codes "port") refl
+
+-- ---- a loop over a vector that is taken by value
+
+pub one_turn : (v : JsonValue) (it more : IntoIter JsonValue Global) → into_iter_items it ≡ v ∷ [] → into_iter_len it ≡ 1
+    → into_iter_items it ≡ v ∷ into_iter_items more → into_iter_len more + 1 ≡ into_iter_len it → callers.IsLeft (v ∷ []) more
+one_turn v it more items count step less =
+    callers.left_next (v ∷ []) it more v (callers.left_begins (v ∷ []) it items count) step less
+
+module _ (vs : List JsonValue) (it : IntoIter JsonValue Global) (left : callers.IsLeft vs it) (end : into_iter_len it ≡ 0) where
+  pub nothing_left : into_iter_items it ≡ []
+  nothing_left = callers.none_left vs it left end
+
+  pub all_is_done : vs ≡ left.done
+  all_is_done = callers.left_ends vs it left end
+
 -- ---- after a change
 
 pub inserted_is_found : (m n : JsonMap) (k : String Global) (v : JsonValue) → Updates string_eq m n k (Some v)
@@ -93,6 +148,14 @@ module _ (m n : JsonMap) (k : String Global) (change : UpdatesBy string_eq (λ q
 
   pub others_stay : (q : List ℕ) → q ≢ text k → find q (members_view n.entries) ≡ find q (members_view m.entries)
   others_stay q apart = ap (find q) left ∙ callers.find_remove_other q (text k) (members_view m.entries) apart
+
+pub still_there : (q : List ℕ) (ms : Members) (t : Tree) → find q (remove (codes "port") ms) ≡ Some t
+    → (q ≢ codes "port") × (find q ms ≡ Some t)
+still_there q ms t h = callers.found_before_remove q (codes "port") ms t h
+
+pub port_or_there : (q : List ℕ) (ms : Members) (t : Tree) → find q ms ≡ Some t
+    → (q ≡ codes "port") ⊎ (find q (remove (codes "port") ms) ≡ Some t)
+port_or_there q ms t h = callers.found_after_remove q (codes "port") ms t h
 
 -- a member that is removed and put again
 pub put_again : (k : List ℕ) (u : Tree) (ms : Members) → IsSorted ms → find k ms ≡ Some u → put k u (remove k ms) ≡ ms
