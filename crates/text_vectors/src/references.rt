@@ -64,6 +64,23 @@ fn the_examples_of_the_rfc(rt: HostRuntime) -> Result<(), Fail> {
     Ok(())
 }
 
+/// The same from a base of more than 300 characters, whose host is longer.
+#[test]
+fn a_long_base(rt: HostRuntime) -> Result<(), Fail> {
+    let alloc = rt.alloc();
+    let host = "a".repeat(alloc, 300)?;
+    let base = format!(in alloc; "http://{host}/b/c/d;p?q")?;
+    for &(reference, expected) in ROWS {
+        let expected = match expected.strip_prefix("http://a") {
+            Some(rest) => format!(in alloc; "http://{host}{rest}")?,
+            None => expected.to_string(alloc)?,
+        };
+        let target = resolve(alloc, base.as_str(), reference)?;
+        assert!(rt; target.as_str() == expected.as_str(), "{reference}: {target}");
+    }
+    Ok(())
+}
+
 #[test]
 fn the_example_of_the_crate(rt: HostRuntime) -> Result<(), Fail> {
     let alloc = rt.alloc();
