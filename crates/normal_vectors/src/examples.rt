@@ -36,6 +36,9 @@ fn written_to(rt: HostRuntime) -> Result<(), Fail> {
     let mut bytes = Vec::new(alloc);
     NormalText::read(alloc, "[1.50e1, null]")?.write_to(alloc, &mut bytes)?;
     assert_eq!(rt; bytes.as_slice(), b"[15,null]".as_slice());
+    let mut bytes = Vec::new(alloc);
+    NormalText::read(alloc, "[1.50e1, null]")?.write_line_to(alloc, &mut bytes)?;
+    assert_eq!(rt; bytes.as_slice(), b"[15,null]\n".as_slice());
     Ok(())
 }
 
@@ -45,6 +48,9 @@ fn formatted_to(rt: HostRuntime) -> Result<(), Fail> {
     let mut bytes = Vec::new(alloc);
     NormalText::read(alloc, "[1.50e1, []]")?.format_to(alloc, &mut bytes)?;
     assert_eq!(rt; bytes.as_slice(), b"[\n  15,\n  []\n]".as_slice());
+    let mut bytes = Vec::new(alloc);
+    NormalText::read(alloc, "[1.50e1, []]")?.format_line_to(alloc, &mut bytes)?;
+    assert_eq!(rt; bytes.as_slice(), b"[\n  15,\n  []\n]\n".as_slice());
     Ok(())
 }
 
