@@ -1,5 +1,13 @@
-"""Queries and values for `json_path`: what RFC 9535 selects, with normalized paths, and the texts that are no query."""
+"""Rows of `json_path`: the values that a query selects, or their normalized paths (RFC 9535)."""
+
+import itertools
 import json
+
+from faults import BROKEN, FOLDER, INVALID, WRITING, Faults
+from running import printed, program, reported, run_of, run_small
+from values import CONTROLS, LONG, NESTED, NOT_UTF8, QUOTED, normal
+
+FAULTS = Faults("json_path", is_stopping=True)
 
 # The document of RFC 9535, 1.5.
 BOOKS = """
@@ -362,3 +370,197 @@ OUT_OF_RANGE = [
 # The messages of such texts and queries.
 NO_QUERY = "the query: no query of RFC 9535 at character %d"
 NO_POWER = "the query: a number whose power of ten is out of range at character %d"
+
+# What is told where a query selects nothing.
+NO_NODE = reported(1, "json_path", "the query selects no node")
+
+# The bounds and the steps of slices that are compared with Python's.
+BOUNDS = (None, *range(-4, 5))
+STEPS = (None, -3, -2, -1, 1, 2, 3)
+
+# How many segments, selectors and operators a long query has, how many selectors of each kind a long union, and a
+# value under so many brackets.
+MANY = 20_000
+UNION = 10_000
+UNDER = b"[" * 100_000 + b"0,7" + b"]" * 100_000
+
+
+# Where a 65th expression would begin in the others.
+TOO_DEEP = "the query: more than 64 expressions in each other at character %d"
+
+
+def nested(before, inner, after):
+    """A filter in another, 64 and 65 times, of a value with one more level for each: its item is selected."""
+    query = lambda levels: ["$" + before * levels + inner + after * levels]
+    yield query(64), b"[" * 64 + b'{"a":1}' + b"]" * 64, printed(b"[" * 63 + b'{"a":1}' + b"]" * 63)
+    yield query(65), b"1", reported(2, "json_path", TOO_DEEP % len("$" + before * 64 + "[?"))
+
+
+# Deep and long values and queries, and other arguments.
+LONG_PATHS = [
+    # Filters in one another: tests, negations and both sides of comparisons.
+    *nested("[?@", ".a", "]"),
+    *nested("[?!@", ".a", "]"),
+    *nested("[?@.b||!@.b&&@", ".a", "]"),
+    *nested("[?count(@", "", ")>0]"),
+    *nested("[?0<count(@", "", ")]"),
+    *nested("[?value(@", "", ")!=0]"),
+    (["$" + "[?@" * 64 + ".a" + "]" * 63 + "x"], b"1", reported(2, "json_path", NO_QUERY % 258)),
+    (["$" + "[?!(0==length(value(@" * 21 + ")))]" * 21], b"[" * 21 + b'{"a":1}' + b"]" * 21, printed(b"[" * 20 + b'{"a":1}' + b"]" * 20)),
+    (["$" + "[?!match('a',value(@" * 32 + "))]" * 32], b"[" * 32 + b'{"a":1}' + b"]" * 32, printed(b"[" * 31 + b'{"a":1}' + b"]" * 31)),
+    *(
+        (["$[?" + sign * levels + "@.a" + ")" * levels + "]"], b"[%s]" % given, expected)
+        for sign, given in (("(", b'{"a":1}'), ("!(", b'{"b":1}'))
+        for levels, expected in (
+            (63, printed(given)),
+            (64, reported(2, "json_path", TOO_DEEP % len("$[?" + sign * 64))),
+        )
+    ),
+    *(
+        (["$[?" + "length(" * levels + "'abc'" + ")" * levels + " != 2]"], b"[1]", expected)
+        for levels, expected in (
+            (63, printed(b"1")),
+            (64, reported(2, "json_path", TOO_DEEP % 451)),
+        )
+    ),
+    # Long chains of operators, and long unions of each kind of selector.
+    (["$[?" + "@.b||" * MANY + "@.a]"], b'[{"a":1},{"c":1}]', printed(b'{"a":1}')),
+    (["$[?" + "@.a&&" * MANY + "@.b]"], b'[{"a":1},{"a":1,"b":2}]', printed(b'{"a":1,"b":2}')),
+    (["$[?" + "!@.b&&@.a==1||" * (UNION // 2) + "@.b]"], b'[{"b":1},{"a":2}]', printed(b'{"b":1}')),
+    *(
+        (["$[%s]" % ",".join([selector] * UNION)], given, printed(*[b"1"] * UNION))
+        for selector, given in (("*", b"[1.0]"), ("'a'", b'{"a":1}'), ("0:1", b"[1,2]"), ("?@>0", b"[1,0]"), ("?@==1||@==2", b"[1]"))
+    ),
+    # Descendants of deep values, with filters that look at a child and at all below.
+    (["$..*"], b"[" * 1_000 + b"]" * 1_000, printed(*[b"[" * i + b"]" * i for i in range(999, 0, -1)])),
+    # The bottom is below each node that descendants above it select.
+    (["$..[0]..[1]"], b"[" * 1_000 + b"1,7" + b"]" * 1_000, printed(*[b"7"] * 999)),
+    (["$..*..*..b"], b"[" * 200 + b"]" * 200, NO_NODE),
+    (["$[?count(@..*)==99998]"], NESTED, printed(NESTED[1:-1])),
+    (["$..[?@.a]"], NESTED, NO_NODE),
+    (["$..[?@.a]"], b"[" * 100_000 + b'{"a":1}' + b"]" * 100_000, printed(b'{"a":1}')),
+    (["$..[?@..b]"], b"[" * 100 + b"]" * 100, NO_NODE),
+    (["$[?@..b]"], NESTED, NO_NODE),
+    # Regular expressions in the query and in the value, at the limits of both and above.
+    *(
+        row
+        for pattern, expected in (
+            ("(" * 200 + "a" + ")" * 200, printed(b'"a"')),
+            ("(" * 201 + "a" + ")" * 201, reported(4, "json_path", "the groups of a regular expression are too deep")),
+            ("a{0,10000}", printed(b'"a"')),
+            ("a{10001}", reported(4, "json_path", "a regular expression is too large")),
+            ("(ab){4000}", reported(4, "json_path", "a regular expression is too large")),
+        )
+        for row in (
+            (["$[?match(@, '%s')]" % pattern], b'["a"]', expected),
+            (["$.a[?search(@, $.p)]"], b'{"a":["a"],"p":"%s"}' % pattern.encode(), expected),
+        )
+    ),
+    (["$[?match(@, 'a{10001}')]"], b"[1]", NO_NODE),
+    (["$[?" + "(" * 62 + "search(@, '" + "(" * 200 + "b" + ")" * 200 + "')" + ")" * 62 + "]"], b'["abc"]', printed(b'"abc"')),
+    (["$[?" + "(" * 63 + "match(@, 'a')" + ")" * 63 + "]"], b"[1]", reported(2, "json_path", TOO_DEEP % 72)),
+    # Each of many patterns, which are kept, and one of the value for each item; none takes long, nor does a long text.
+    (["$[?" + "||".join("match(@,'a%d')" % i for i in range(5_000)) + "]"], b'["a4999","a0","a5000"]', printed(b'"a4999"', b'"a0"')),
+    (["$[?match(@, 'x{900}')]"], b"[" + b"1," * MANY + b'"x",' * 900 + b'"%s"]' % (b"x" * 900), printed(b'"%s"' % (b"x" * 900))),
+    (["$[?search(@, '(x+x+)+y')]"], b'["%s","%sy"]' % (b"x" * 100_000, b"x" * 1_000), printed(b'"%sy"' % (b"x" * 1_000))),
+    (["$"], NESTED, printed(NESTED)),
+    (["$..[1]"], NESTED, NO_NODE),
+    (["$..[1]"], UNDER, printed(b"7")),
+    (["-p", "$..[1]"], UNDER, printed(b"$" + b"[0]" * 99_999 + b"[1]")),
+    (["$..b"], b'{"a":' * 100_000 + b"1" + b"}" * 100_000, NO_NODE),
+    (["$" + "[0]" * MANY], NESTED, printed(b"[" * (100_000 - MANY) + b"]" * (100_000 - MANY))),
+    (["$[0" + ",0" * MANY + "]"], b"[1.0]", printed(*[b"1"] * (MANY + 1))),
+    (["-p", "$[*]"], b"[" + b"1," * MANY + b"1]", printed(*[b"$[%d]" % i for i in range(MANY + 1)])),
+    (["$." + "x" * 100_000], b'{"%s":[1.0]}' % (b"x" * 100_000), printed(b"[1]")),
+    (["$[*]"], b"[" + LONG + b",0]", printed(LONG, b"0")),
+    (["$"], b"[1,]", reported(3, "json_path", "Parse error at line:1, col:3: Invalid character: ]")),
+    *(
+        (words, b"1", reported(2, "json_path", "usage: json_path [-p] QUERY"))
+        for words in ([], ["-p", "$", "$"], ["$", "-p"], ["-q", "$"], ["$", "$"], [NOT_UTF8], ["-p", NOT_UTF8])
+    ),
+    (["-p"], b"1", reported(2, "json_path", NO_QUERY % 0)),
+]
+
+# The arguments, the input, and the answer.
+ROWS = [
+    # Control characters are shown by their code points.
+    (["$.a"], b'{"a":"' + CONTROLS + b'"}', printed(b'"' + QUOTED + b'"')),
+    (["\n\x1b[2J"], b"{}", reported(2, "json_path", NO_QUERY % 0)),
+    (["$"], b"\x1b", reported(3, "json_path", "Parse error at line:1, col:0: Invalid character: U+001B")),
+]
+
+# The arguments, an input, and the statuses and words where the input is not UTF-8, can't be read, and where the output can't be written.
+STREAMS = [(["$"], b"1", (3, INVALID), (4, FOLDER), (4, WRITING))]
+
+# The arguments, an input, what is printed of it, and the statuses and words where a read and where a write fails.
+FAILING = [(["$[*]"], b"[" + LONG + b", 1.0]", LONG + b"\n1\n", (4, BROKEN), (4, WRITING))]
+
+# Where each request for memory is refused: a value in which queries select, queries with each selector, and one that selects nothing.
+SOME = b'{"a\\n":[1.5,{"b":["x",{"a":{}}]}],"c":[[2,3],4]}'
+REFUSED_MEMORY = [
+    (["$"], SOME),
+    (["$..['a\\n',\"b\"][0,*]"], SOME),
+    (["-p", "$..*"], SOME),
+    (["-p", "$['c'][::-1,0][-1:]"], SOME),
+    (["$..d"], SOME),
+    (["$.c[?@[0] < 2.50 || @['x'] == null || @ > $.c[0][1] && 'x' != @]"], SOME),
+    (
+        [
+            "$.c[?length(@) == count(@.*) && !(value(@[1]) != 3) && "
+            "(match('ab', '[a-c]+') && search('x', $['a\\n'][1].b[0]))]"
+        ],
+        SOME,
+    ),
+]
+
+
+def selected(document, query, parts):
+    """Both runs with the query: the arguments, the input, and the answer."""
+    values, places = [normal(json.loads(value)) for value, _ in parts], [path.encode() for _, path in parts]
+    for words, lines in (([query], values), (["-p", query], places)):
+        yield words, document.encode(), printed(*lines) if lines else NO_NODE
+
+
+def sliced(count):
+    """A query of many slices of an array of so many items, as Python selects them."""
+    slices = list(itertools.product(BOUNDS, BOUNDS, STEPS))
+    shown = (":".join("" if part is None else str(part) for part in one) for one in slices)
+    items = list(range(count))
+    chosen = [(str(i), f"$[{i}]") for one in slices for i in items[slice(*one)]]
+    yield from selected(json.dumps(items), f"$[{','.join(shown)}]", chosen)
+
+
+def answers():
+    """Each row, with its arguments, its input and the answer."""
+    for document, queries in SELECTED:
+        for row in queries:
+            yield from ((row, *it) for it in selected(document, *row))
+    for count in range(5):
+        yield from ((it, *it) for it in sliced(count))
+    for rows, words in ((REFUSED, NO_QUERY), (OUT_OF_RANGE, NO_POWER)):
+        for row in rows:
+            query, place = row
+            yield row, [query], b"[1,]", reported(2, "json_path", words % place)
+    yield from ((row, *row) for row in LONG_PATHS)
+
+
+def check_rows(checks):
+    """What is selected, on a small stack."""
+    for row, words, given, expected in answers():
+        name = f"json_path: {[word[:60] for word in words]} {given[:60]}"
+        checks.row(name, expected, run_small, program("json_path"), words, given, at=row)
+    for row in ROWS:
+        words, given, expected = row
+        checks.row(f"json_path: {words} {given}", expected, run_of, program("json_path"), words, given, at=row)
+
+
+def check_faults(checks):
+    FAULTS.streams(checks, STREAMS)
+    FAULTS.failing(checks, FAILING)
+
+
+def check_memory(checks):
+    FAULTS.refusing(checks, REFUSED_MEMORY)
+
+
+PARTS = (check_rows, check_faults, check_memory)

@@ -1,4 +1,4 @@
-"""Texts that are read and texts that are refused, with what `check-program` expects of each.
+"""Texts that are read and texts that are refused, with what is expected of each.
 
 The values are those of RFC 8259, of the documentation and the tests of the original crate, and of tables made by hand. A refusal is a
 line, a column (how many characters of the line were read), a kind, and what its words show.
@@ -79,6 +79,9 @@ DOCUMENT_INDENTED = """{
   },
   "unicode": "❤"
 }"""
+
+# Small texts, of which each request for memory is refused.
+SMALL = [DOCUMENT.encode(), b"[1,]", b'"\\ud800"', b'{"a":{"b":[1.5]},"c" 1}', b'{"a":[1,[2]],"a":3}', b"{[1,[2]]:3}"]
 
 # A text and the compact text of its value.
 READ = [

@@ -1,6 +1,24 @@
-"""Cases of `json_patch`: values, patches, and what is printed or told (RFC 6902)."""
+"""Rows of `json_patch`: a text with a patch applied (RFC 6902)."""
 
 import json
+import os
+import resource
+
+from faults import BROKEN, FOLDER, INVALID, WRITING, Faults
+from places import TOP
+from running import printed, program, reported, run_of
+from values import LONG, NOT_UTF8
+
+FAULTS = Faults("json_patch")
+
+# A file of operations, a value that they change, and that one then.
+OPERATIONS = f"{TOP}/crates/json_patch/data/patch.json"
+PATCHED = b'{"author":{"givenName":"John"},"tags":["example"],"title":"Goodbye!"}'
+CHANGED = b'{"name":"John","tags":["example",1],"title":"Hello!"}'
+
+# The memory and the seconds of processor that a patch of many operations has.
+MEMORY = 1 << 30
+SECONDS = 3
 
 NO_PLACE = "'path' names no place for a value"
 NO_TARGET = "'path' names no value"
@@ -391,3 +409,97 @@ MANY_OPERATIONS = [
 
 # Forty copies of the whole to its end: more than fits.
 DOUBLED = patch(*[("copy", "/-", "")] * 40)
+
+USAGE = reported(2, "json_patch", "usage: json_patch PATCH-FILE")
+
+
+def told(words):
+    """The answer of `json_patch` to a file that is no patch."""
+    return reported(2, "json_patch", f"the patch: {words}")
+
+
+# The value, the patch, and the answer.
+ROWS = [
+    # The patch is read first.
+    (b"[1,]", b"{}", told("it is no array")),
+    (b"{", b"[1,]", told("Parse error at line:1, col:3: Invalid character: ]")),
+    (b"[1,]", b"[]", reported(3, "json_patch", "Parse error at line:1, col:3: Invalid character: ]")),
+    (b"1", b"", told("Parse error at line:1, col:0: Unexpected EOF")),
+    (b"1", NOT_UTF8, told("stream did not contain valid UTF-8")),
+    (b"1", b"[" * (LEVELS + 1), told("Parse error at line:1, col:1000: Nesting is too deep at '['")),
+]
+
+# The arguments, the input, and the answer.
+ARGUMENTS = [
+    *((words, b"1", USAGE) for words in ([], [OPERATIONS, OPERATIONS], [NOT_UTF8])),
+    (["/none"], b"1", told("No such file or directory (os error 2)")),
+    (["/"], b"1", told("Is a directory (os error 21)")),
+    # Control characters are shown by their code points.
+    ([OPERATIONS], b"\x1b", reported(3, "json_patch", "Parse error at line:1, col:0: Invalid character: U+001B")),
+]
+
+# The arguments, an input, and the statuses and words where the input is not UTF-8, can't be read, and where the output can't be written.
+STREAMS = [([OPERATIONS], PATCHED, (3, INVALID), (4, FOLDER), (4, WRITING))]
+
+# The arguments, an input, what is printed of it, and the statuses and words where a read and where a write fails.
+FAILING = [([OPERATIONS], PATCHED[:-1] + b',"z":%s}' % LONG, b'%s,"z":%s}\n' % (CHANGED[:-1], LONG), (4, BROKEN), (4, WRITING))]
+
+# Where each request for memory is refused.
+SOME = b'{"title":"Goodbye!","author":{"givenName":"John","a":[1.5]},"tags":["example",{"b":"x"}]}'
+REFUSED_MEMORY = [([OPERATIONS], SOME), ([OPERATIONS], b'{"title":"Goodbye!"}')]
+
+
+def patched(folder, given, operations, **how):
+    """The answer to a patch, from a file."""
+    path = os.path.join(folder, "operations")
+    with open(path, "wb") as file:
+        file.write(operations)
+    return run_of(program("json_patch"), [path], given, **how)
+
+
+def answers():
+    """Each row, with its value, its patch and the answer."""
+    for row in APPLIED + LONG_APPLIED:
+        given, operations, result = row
+        yield row, given.encode(), operations.encode(), printed(result.encode())
+    for row in FAILED:
+        given, operations, number, reason = row
+        yield row, given.encode(), operations.encode(), reported(1, "json_patch", f"operation {number}: {reason}")
+    for row in MALFORMED + LONG_MALFORMED:
+        operations, words = row
+        yield row, b"1", operations.encode(), told(words)
+    yield from ((row, *row) for row in ROWS)
+
+
+def check_rows(checks):
+    for row, given, operations, expected in answers():
+        name = f"json_patch: {operations[:60]} {given[:60]}"
+        checks.row(name, expected, patched, checks.folder, given, operations, at=row)
+    for row in ARGUMENTS:
+        words, given, expected = row
+        checks.row(f"json_patch: {words} {given}", expected, run_of, program("json_patch"), words, given, at=row)
+
+
+def check_many(checks):
+    """Patches of many operations, in time and in memory."""
+    for row in MANY_OPERATIONS:
+        given, operations, result = row
+        name, begun = f"json_patch: {operations[:60]}, many", os.times().children_user
+        if checks.wants(name, given, operations):
+            answer = patched(checks.folder, given.encode(), operations.encode())
+            seconds = os.times().children_user - begun
+            checks.check(name, answer, printed(result.encode()), at=row)
+            checks.check(f"{name}, {seconds:.1f} s", seconds < SECONDS, True, at=row)
+    limited = lambda: resource.setrlimit(resource.RLIMIT_AS, (MEMORY, MEMORY))
+    name, no_memory = "json_patch: doubled in little memory", reported(4, "json_patch", "out of memory")
+    if checks.needs_memory(name):
+        checks.check(name, patched(checks.folder, b"[1]", DOUBLED.encode(), preexec_fn=limited), no_memory)
+
+
+def check_faults(checks):
+    FAULTS.streams(checks, STREAMS)
+    FAULTS.failing(checks, FAILING)
+    FAULTS.refusing(checks, REFUSED_MEMORY)
+
+
+PARTS = (check_rows, check_many, check_faults)

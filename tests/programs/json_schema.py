@@ -1,4 +1,20 @@
-"""Cases of `json_schema`: schemas, values, and what is valid (JSON Schema 2020-12)."""
+"""Rows of `json_schema`: a value, or each line of some, checked against a schema (JSON Schema 2020-12)."""
+
+import json
+import os
+
+from faults import BROKEN, FOLDER, FULL, INVALID, Faults
+from places import TOP
+from running import program, reported, run_of, run_small
+from values import LONG, NOT_UTF8, normal
+
+FAULTS = Faults("json_schema", status=1, is_stopping=True)
+
+# Files of schemas: one of members and items, the same with names that are no keywords, and one of which what has led to a dynamic
+# reference tells where it leads.
+SCHEMA = f"{TOP}/crates/json_schema/data/schema.json"
+UNKNOWN_WORDS = f"{TOP}/crates/json_schema/data/unknown.json"
+SCOPES_FILE = f"{TOP}/crates/json_schema/data/scopes.json"
 
 # The schema, values that are valid, and values that are not, each with the place in it and the keyword's.
 KEYWORDS = [
@@ -709,3 +725,245 @@ BY_LINES = [
     ('{"items":{"properties":{"a":{"minimum":0}}}}', b'[{"a":0}]\n[{},{"a":-1}]', [(2, "/1/a", "/items/properties/a/minimum")], [], 1),
     ('{"minimum":0}', b"0\n" * 20_000 + b"-1\n" + b"1", [(20_001, "", "/minimum")], [], 1),
 ]
+
+# What is printed of a value that is not valid, and told of a schema that can't be applied.
+UNMET = "the value does not meet the schema at this place"
+NOT_APPLIED = "the schema: can't be applied at \"%s\""
+ABOVE_LIMITS = "the schema: the pattern at \"%s\" is too deep or too large"
+
+# How many containers of a schema and of a value may be open.
+LEVELS = 100
+
+
+def judged(places):
+    """The answer of `json_schema`, which is given the place in the value and the keyword's, or that there is none."""
+    return (0, b"", b"") if places is None else (1, unit_of(*places), b"")
+
+
+def unit_of(instance, keyword, **line):
+    """The line that is printed of a value that is not valid."""
+    unit = {"error": UNMET, "instanceLocation": instance, "keywordLocation": keyword, **line, "valid": False}
+    return normal(unit) + b"\n"
+
+
+def told(lines):
+    """What `json_schema` tells on standard error."""
+    return b"".join(f"json_schema: {line}\n".encode() for line in lines)
+
+
+def grouped(depth):
+    """A pattern with so many groups in one another."""
+    return "(" * depth + "a" + ")" * depth
+
+
+# Patterns above the limits of `i_regexp`, which are 200 groups open at once and a size of 10,000; also as keys.
+LARGE_PATTERNS = [
+    ('{"pattern":"%s"}' % grouped(201), "/pattern"),
+    ('{"properties":{"a":{"pattern":"%s"}}}' % grouped(201), "/properties/a/pattern"),
+    ('{"pattern":"a{10001}"}', "/pattern"),
+    ('{"allOf":[true,{"pattern":"^a{10000}b$"}]}', "/allOf/1/pattern"),
+    ('{"items":{"not":{"pattern":"x|(ab){4000}"}}}', "/items/not/pattern"),
+    ('{"$defs":{"a/b":{"pattern":"(a{101}){101}"}}}', "/$defs/a~1b/pattern"),
+    ('{"patternProperties":{"a":true,"a{10001}":true}}', "/patternProperties/a{10001}"),
+    ('{"patternProperties":{"%s":5}}' % grouped(201), "/patternProperties/%s" % grouped(201)),
+    ('{"prefixItems":[{"patternProperties":{"a{9999}/~":{}}}]}', "/prefixItems/0/patternProperties/a{9999}~1~0"),
+    # The first place that is refused is told.
+    ('{"pattern":"a{10001}","type":"any"}', "/pattern"),
+    ('{"patternProperties":{"a{10001}":true,"b(":true}}', "/patternProperties/a{10001}"),
+]
+
+TOO_MANY = reported(3, "json_schema", "too many schemas are applied in one another")
+
+# Schemas that lead to themselves, where a part of the value is judged by what more than 200 in one another say.
+CUT_OFF = [
+    '{"items":{"allOf":[{"not":{"not":{"$ref":"#"}}}]}}',
+    '{"items":{"not":{"allOf":[{"$ref":"#"}]}}}',
+    '{"items":{"anyOf":[{"allOf":[{"$ref":"#"}]},true]}}',
+    '{"items":{"oneOf":[{"allOf":[{"$ref":"#"}]},true]}}',
+    '{"items":{"oneOf":[{"allOf":[{"$ref":"#"}]},false]}}',
+    '{"items":{"if":{"allOf":[{"$ref":"#"}]},"then":true,"else":true}}',
+    '{"contains":{"allOf":[{"$ref":"#"}]},"minContains":0}',
+    '{"contains":{"allOf":[{"$ref":"#"}]},"maxContains":0}',
+    '{"unevaluatedItems":{"anyOf":[true,{"allOf":[{"$ref":"#"}]}],"unevaluatedItems":true}}',
+    '{"anyOf":[true,{"contains":{"allOf":[{"$ref":"#"}]},"minContains":0}],"unevaluatedItems":true}',
+    '{"items":{"if":{"allOf":[{"$ref":"#"}]},"then":true,"else":true,"unevaluatedItems":true}}',
+]
+
+
+
+def doubling(count):
+    """A schema in which each of so many names is settled by one of two resources, one after the other."""
+    defs = {f"l{count}": {"$id": f"l{count}"}}
+    for i in range(count):
+        defs[f"l{i}"] = {"$id": f"l{i}", "anyOf": [{"$ref": f"a{i}"}, {"$ref": f"b{i}"}]}
+        for name, kind in (("a", "integer"), ("b", "string")):
+            names = {"n": {"$dynamicAnchor": f"n{i}", "type": kind}}
+            defs[f"{name}{i}"] = {"$id": f"{name}{i}", "$defs": names, "prefixItems": [{"$dynamicRef": f"#n{i}"}], "items": {"$ref": f"l{i + 1}"}}
+    return json.dumps({"$ref": "l0", "$defs": defs})
+
+
+def lists(count):
+    """A schema with lists of so many kinds of items: what has led to the list tells which."""
+    kinds = {f"k{i:04}": {"$id": f"k{i:04}", "$ref": "list", "$defs": {"item": {"$dynamicAnchor": "item", "const": i}}} for i in range(count)}
+    generic = {"$id": "list", "items": {"$dynamicRef": "#item"}, "$defs": {"item": {"$dynamicAnchor": "item"}}}
+    return json.dumps({"prefixItems": [{"$ref": name} for name in kinds], "$defs": {**kinds, "list": generic}})
+
+
+# Deep and long schemas and values, each on a stack of 256 KB.
+LONG_SCHEMAS = [
+    ('{"items":' * (LEVELS - 1) + "{}" + "}" * (LEVELS - 1), "[" * LEVELS + "]" * LEVELS, judged(None)),
+    (
+        '{"items":' * LEVELS + "false" + "}" * LEVELS,
+        "[" * LEVELS + "1" + "]" * LEVELS,
+        judged(("/0" * LEVELS, "/items" * LEVELS)),
+    ),
+    ('{"not":' * LEVELS + "false" + "}" * LEVELS, "1", judged(("", "/not"))),
+    ('{"allOf":[' * (LEVELS // 2) + "false" + "]}" * (LEVELS // 2), "1", judged(("", "/allOf/0" * (LEVELS // 2)))),
+    ('{"items":{"$ref":"#"}}', "[" * LEVELS + "]" * LEVELS, judged(None)),
+    # One schema for the whole, and three for each array in it: 199 where 67 are in one another, of 200.
+    ('{"items":{"allOf":[{"$ref":"#"}]}}', "[" * 67 + "]" * 67, judged(None)),
+    ('{"items":{"allOf":[{"$ref":"#"}]}}', "[" * 68 + "]" * 68, TOO_MANY),
+    # The same by names.
+    ('{"$dynamicAnchor":"a","items":{"allOf":[{"$dynamicRef":"#a"}]}}', "[" * 67 + "]" * 67, judged(None)),
+    ('{"$anchor":"a","items":{"allOf":[{"$ref":"#a"}]}}', "[" * 68 + "]" * 68, TOO_MANY),
+    ('{"items":' * (LEVELS - 1) + '{"$anchor":"a","type":"null"}' + "}" * (LEVELS - 1), "[" * LEVELS + "]" * LEVELS, judged(("/0" * (LEVELS - 1), "/items" * (LEVELS - 1) + "/type"))),
+    ('{"$defs":{%s},"$ref":"#a19999"}' % ",".join(f'"{i}":{{"$anchor":"a{i}","const":{i}}}' for i in range(20_000)), "19999", judged(None)),
+    ('{"$defs":{%s},"$anchor":"a19999"}' % ",".join(f'"{i}":{{"$anchor":"a{i}"}}' for i in range(20_000)), "1", reported(2, "json_schema", NOT_APPLIED % "/$anchor")),
+    # Resources in one another, many of them, and many references to one.
+    ('{"$id":"a/b","items":' * (LEVELS - 1) + '{"$id":"c","type":"null"}' + "}" * (LEVELS - 1), "[" * LEVELS + "]" * LEVELS, judged(("/0" * (LEVELS - 1), "/items" * (LEVELS - 1) + "/type"))),
+    ('{"$defs":{%s},"$ref":"u19999#"}' % ",".join(f'"{i}":{{"$id":"u{i}","const":{i}}}' for i in range(20_000)), "19999", judged(None)),
+    ('{"$defs":{"a":{"$id":"a","$defs":{"b":{"$anchor":"b","minimum":0}}}},"prefixItems":[%s]}' % ",".join(['{"$ref":"a#b"}'] * 20_000), "[%s-1]" % ("0," * 19_999), judged(("/19999", "/prefixItems/19999/$ref/minimum"))),
+    # Twice as many scopes with each name, and as many scopes as there may be copies, or one more.
+    (doubling(5), '[1,["a"]]', judged(None)),
+    (lists(1_000), json.dumps([[i] for i in range(1_000)]), judged(None)),
+    (lists(1_000), json.dumps([[0]] * 1_000), judged(("/1/0", "/prefixItems/1/$ref/$ref/items/$dynamicRef/const"))),
+    (lists(1_001), "1", reported(2, "json_schema", NOT_APPLIED % "/$defs/k1000/$ref")),
+    # The same in members whose keys have a pattern.
+    ('{"patternProperties":{"^a$":{"allOf":[{"$ref":"#"}]}}}', '{"a":' * 66 + "{}" + "}" * 66, judged(None)),
+    ('{"patternProperties":{"^a$":{"allOf":[{"$ref":"#"}]}}}', '{"a":' * 67 + "{}" + "}" * 67, TOO_MANY),
+    ('{"patternProperties":{"a":' * 49 + "false" + "}}" * 49, '{"a":' * 49 + "1" + "}" * 49, judged(("/a" * 49, "/patternProperties/a" * 49))),
+    # The same in items that no other keyword evaluates.
+    ('{"unevaluatedItems":{"allOf":[{"$ref":"#"}]}}', "[" * 67 + "]" * 67, judged(None)),
+    ('{"unevaluatedItems":{"allOf":[{"$ref":"#"}]}}', "[" * 68 + "]" * 68, TOO_MANY),
+    # Schemas in one another that evaluate, and many members and items.
+    ('{"allOf":[' * 49 + '{"properties":{"a":true}}' + '],"unevaluatedProperties":false}' * 49, '{"a":1}', judged(None)),
+    ('{"allOf":[' * 49 + '{"properties":{"a":true}}' + '],"unevaluatedProperties":false}' * 49, '{"a":1,"b":1}', judged(("/b", "/allOf/0" * 48 + "/unevaluatedProperties"))),
+    ('{"anyOf":[{"patternProperties":{"^k":{"type":"integer"}}},{"required":["k0"]}],"unevaluatedProperties":false}', "{%s}" % ",".join(f'"k{i}":0' for i in range(20_000)), judged(None)),
+    ('{"anyOf":[{"prefixItems":[true]},{"contains":{"const":0}}],"unevaluatedItems":{"const":1}}', "[%s,2]" % ",".join(["0,1"] * 20_000), judged(("/40000", "/unevaluatedItems/const"))),
+    # Nothing is judged by a schema that was not looked at, whatever stands around it.
+    *((schema, "[" * LEVELS + "]" * LEVELS, TOO_MANY) for schema in CUT_OFF),
+    ('{"contains":' * LEVELS + "true" + "}" * LEVELS, "[" * LEVELS + "1" + "]" * LEVELS, judged(None)),
+    ('{"items":' * (LEVELS + 1) + "{}" + "}" * (LEVELS + 1), "1", reported(2, "json_schema", "the schema: Parse error at line:1, col:900: Nesting is too deep at '{'")),
+    ("{}", "[" * 100_000, reported(3, "json_schema", "Parse error at line:1, col:100: Nesting is too deep at '['")),
+    ('{"items":{"minimum":0}}', "[" + "0," * 20_000 + "-1]", judged(("/20000", "/items/minimum"))),
+    ('{"enum":[%s]}' % ",".join(map(str, range(20_000))), "19999", judged(None)),
+    ('{"pattern":"^(x+x+)+y"}', '"' + "x" * 20_000 + '"', judged(("", "/pattern"))),
+    # At the limits of patterns.
+    ('{"pattern":"^%s$"}' % grouped(200), '"a"', judged(None)),
+    ('{"pattern":"^a{10000}$"}', '"%s"' % ("a" * 10_000), judged(None)),
+    ('{"patternProperties":{"%s":true,"a{9999}b":true},"additionalProperties":false}' % grouped(200), '{"a":1,"b":1}', judged(("/b", "/additionalProperties"))),
+    ('{"items":' * (LEVELS - 1) + '{"pattern":"%s"}' % grouped(200) + "}" * (LEVELS - 1), "[" * (LEVELS - 1) + '"b"' + "]" * (LEVELS - 1), judged(("/0" * (LEVELS - 1), "/items" * (LEVELS - 1) + "/pattern"))),
+    ('{"items":' * (LEVELS - 1) + '{"pattern":"%s"}' % grouped(201) + "}" * (LEVELS - 1), "1", reported(2, "json_schema", ABOVE_LIMITS % ("/items" * (LEVELS - 1) + "/pattern"))),
+    ('{"patternProperties":{"^k":true,"9$":{"maximum":0}},"additionalProperties":false}', "{%s}" % ",".join(f'"k{i}":0' for i in range(20_000)), judged(None)),
+    ('{"uniqueItems":true}', "[%s]" % ",".join(map(str, range(20_000))), judged(None)),
+    ('{"uniqueItems":true}', "[%s,0]" % ",".join(map(str, range(20_000))), judged(("", "/uniqueItems"))),
+    ('{"required":[%s]}' % ",".join(f'"{i}"' for i in range(20_000)), "[]", judged(None)),
+    ('{"required":[%s,"0"]}' % ",".join(f'"{i}"' for i in range(20_000)), "[]", reported(2, "json_schema", NOT_APPLIED % "/required")),
+    ("[1,]", "1", reported(2, "json_schema", "the schema: Parse error at line:1, col:3: Invalid character: ]")),
+    (NOT_UTF8, "1", reported(2, "json_schema", "the schema: stream did not contain valid UTF-8")),
+]
+
+USAGE = reported(2, "json_schema", "usage: json_schema [-l] SCHEMA-FILE")
+
+# The arguments, the input, and the answer.
+ROWS = [
+    *(
+        (words, b"1", USAGE)
+        for words in ([], [SCHEMA, SCHEMA], [NOT_UTF8], ["-l"], [SCHEMA, "-l"], ["-L", SCHEMA], ["-l", SCHEMA, SCHEMA])
+    ),
+    (["/none"], b"1", reported(2, "json_schema", "the schema: No such file or directory (os error 2)")),
+    (["/"], b"1", reported(2, "json_schema", "the schema: Is a directory (os error 21)")),
+    ([SCHEMA], b"[1,]", reported(3, "json_schema", "Parse error at line:1, col:3: Invalid character: ]")),
+    # Control characters are shown by their code points.
+    ([SCHEMA], b"[\x1b]", reported(3, "json_schema", "Parse error at line:1, col:1: Invalid character: U+001B")),
+]
+
+# The arguments, an input, and the statuses and words where the input is not UTF-8, can't be read, and where the output can't be written.
+STREAMS = [
+    ([SCHEMA], b"1", (3, INVALID), (4, FOLDER), (4, FULL)),
+    (["-l", SCHEMA], b"1", (3, "line 1: not UTF-8"), (4, FOLDER), (4, FULL)),
+]
+
+# The arguments, an input, what is printed of it, and the statuses and words where a read and where a write fails.
+LINES, REPORTS = b"1\n" * 5_000, b"".join(unit_of("", "/type", line=i + 1) for i in range(5_000))
+FAILING = [
+    ([SCHEMA], b"[" + LONG + b"]", unit_of("", "/type"), (4, BROKEN), (4, BROKEN)),
+    (["-l", SCHEMA], LINES, REPORTS, (4, BROKEN), (4, BROKEN)),
+]
+
+# Where each read is interrupted: what reads by lines reads again.
+INTERRUPTED = [(["-l", SCHEMA], LINES, REPORTS)]
+
+# Where each request for memory is refused.
+REFUSED_MEMORY = [
+    ([SCHEMA], b'{"id":1,"tags":["x",3]}'),
+    (["-l", UNKNOWN_WORDS], b'{"id":1,"tags":["x",3]}\n[1,]\n{"id":1,"tags":[]}\n"\xff\n{}'),
+    ([SCOPES_FILE], b'{"x":[1],"y":["a",2]}'),
+]
+
+
+def answers():
+    """Each row, with its schema, a value and the answer."""
+    for row in KEYWORDS + REFERENCES + ANCHORS + RESOURCES + DYNAMIC:
+        schema, valid, others = row
+        yield from ((row, schema, value, judged(None)) for value in valid)
+        yield from ((row, schema, value, judged(places)) for value, *places in others)
+    for rows, words in (
+        (REFUSED + REFUSED_REFERENCES + REFUSED_ANCHORS + REFUSED_RESOURCES, NOT_APPLIED),
+        (LARGE_PATTERNS, ABOVE_LIMITS),
+    ):
+        for row in rows:
+            schema, place = row
+            yield row, schema, "1", reported(2, "json_schema", words % place)
+    for row in UNKNOWN:
+        schema, words = row
+        yield row, schema, "1", (0, b"", told(f'the schema: "{word}" is no keyword' for word in words))
+    yield from ((row, *row) for row in LONG_SCHEMAS)
+
+
+def checked(folder, schema, words, given):
+    """The answer by a schema, from a file, on a small stack."""
+    path = os.path.join(folder, "schema")
+    with open(path, "wb") as file:
+        file.write(schema.encode() if isinstance(schema, str) else schema)
+    return run_small(program("json_schema"), [*words, path], given)
+
+
+def check_rows(checks):
+    for row, schema, value, expected in answers():
+        name = f"json_schema: {schema[:60]} {value[:60]}"
+        checks.row(name, expected, checked, checks.folder, schema, [], value.encode(), at=row)
+    for row in ROWS:
+        words, given, expected = row
+        checks.row(f"json_schema: {words} {given}", expected, run_of, program("json_schema"), words, given, at=row)
+
+
+def check_lines(checks):
+    for row in BY_LINES:
+        schema, given, reports, lines, status = row
+        output = b"".join(unit_of(instance, keyword, line=line) for line, instance, keyword in reports)
+        name, expected = f"json_schema: -l {schema[:60]} {given[:60]}", (status, output, told(lines))
+        checks.row(name, expected, checked, checks.folder, schema, ["-l"], given, at=row)
+
+
+def check_faults(checks):
+    FAULTS.streams(checks, STREAMS)
+    FAULTS.failing(checks, FAILING)
+    FAULTS.interrupted(checks, INTERRUPTED)
+
+
+def check_memory(checks):
+    FAULTS.refusing(checks, REFUSED_MEMORY)
+
+
+PARTS = (check_rows, check_lines, check_faults, check_memory)

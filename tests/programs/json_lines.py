@@ -1,0 +1,129 @@
+"""Rows of `json_lines`: the normal form of each line.
+
+Many texts of one line each are given to it at once, which it reads and writes as `jsonnorm` does.
+"""
+
+import texts
+import whole
+from faults import BROKEN, FOLDER, FULL, Faults
+from running import program, printed, reported, run_of
+from values import CONTROLS, LONG, NESTED, NOT_UTF8, QUOTED
+
+FAULTS = Faults("json_lines", is_stopping=True)
+
+
+def told(output, *lines):
+    """The answer of `json_lines -k`, which prints this and tells of these lines."""
+    return 1, output, b"".join(b"json_lines: line %s\n" % line for line in lines)
+
+
+# The lines, and the answer.
+LINES = [
+    (b"", printed()),
+    (b'{"b":1, "a":[1.0]}\r\n"x"', printed(b'{"a":[1],"b":1}', b'"x"')),
+    (b"1\n[1,]\n2\n", reported(1, "json_lines", "line 2, col 3: Invalid character: ]", b"1\n")),
+    (b"1\n\n", reported(1, "json_lines", "line 2, col 0: Unexpected EOF", b"1\n")),
+    (b"[1\n", reported(1, "json_lines", "line 1, col 2: Unexpected EOF")),
+    (b"1\n \r", reported(1, "json_lines", "line 2, col 2: Unexpected EOF", b"1\n")),
+    (b'1\n"\xff"\n[', reported(1, "json_lines", "line 2: not UTF-8", b"1\n")),
+    (NESTED, printed(NESTED)),
+    (b"[1.0]\n" * 20_000, printed(*[b"[1]"] * 20_000)),
+    (b"1 \n" * 20_000 + b"x", reported(1, "json_lines", "line 20001, col 0: Invalid character: x", b"1\n" * 20_000)),
+    (LONG + b"\n2", printed(LONG, b"2")),
+]
+
+# The words, the lines, and the answer.
+ALL_LINES = [
+    (["-k"], b"", printed()),
+    (["-k"], b"1\n 2.0", printed(b"1", b"2")),
+    (["-k"], b"1\n[1,]\n2\n", told(b"1\n2\n", b"2, col 3: Invalid character: ]")),
+    (["-k"], b"\n\n1\n\n", told(b"1\n", *(b"%d, col 0: Unexpected EOF" % n for n in (1, 2, 4)))),
+    (["-k"], b'[\n"\xc3\n1\n\xff', told(b"1\n", b"1, col 1: Unexpected EOF", b"2: not UTF-8", b"4: not UTF-8")),
+    (["-k"], b"x\n" * 20_000, told(b"", *(b"%d, col 0: Invalid character: x" % (n + 1) for n in range(20_000)))),
+    (["-d", "1"], b"[]\n[[]]\n[]", reported(1, "json_lines", "line 2, col 1: Nesting is too deep at '['", b"[]\n")),
+    (["-d", "0"], b"1\n{}", reported(1, "json_lines", "line 2, col 0: Nesting is too deep at '{'", b"1\n")),
+    (["-k", "-d", "1"], b"[[]]\n[]\n", told(b"[]\n", b"1, col 1: Nesting is too deep at '['")),
+    (["-d", "1", "-k"], b"[[]]\n[]\n", told(b"[]\n", b"1, col 1: Nesting is too deep at '['")),
+    *[
+        (words, b"1", (2, b"", b"usage: json_lines [-k] [-d N]\n"))
+        for words in (["-x"], ["-k", "-k"], ["-d"], ["-d", "+1"], ["-d", "1234567890"], ["-d", ""], ["x", "-k"], [NOT_UTF8])
+    ],
+]
+
+# Control characters are shown by their code points.
+CLEAN = [
+    ([], b'"' + CONTROLS + b'"', printed(b'"' + QUOTED + b'"')),
+    ([], b"1\x1b[2J", reported(1, "json_lines", "line 1, col 2: Expected EOF but got character 'U+001B'")),
+    (["-k"], b'"\r', reported(1, "json_lines", "line 1, col 2: String cannot contain control character U+000D")),
+    ([], b"[\xc2\x9b", reported(1, "json_lines", "line 1, col 1: Invalid character: U+009B")),
+]
+
+# The arguments, an input, and the statuses and words where the input is not UTF-8, can't be read, and where the output can't be written.
+STREAMS = [([], b"1", (1, "line 1: not UTF-8"), (4, FOLDER), (4, FULL))]
+
+# The arguments, an input, what is printed of it, and the statuses and words where a read and where a write fails.
+FAILING = [([], b"[1.0]\n" * 5_000, b"[1]\n" * 5_000, (4, BROKEN), (4, BROKEN))]
+
+# Where each read is interrupted.
+INTERRUPTED = [([], b"[1.0]\n" * 15_000, b"[1]\n" * 15_000)]
+
+# Where each request for memory is refused: small texts as lines, an object of many members, and a limit that refuses the first line.
+LINE = texts.SMALL[0].replace(b"\n", b" ")
+WIDE = b"{" + b",".join(b'"k%d":[0]' % (i * 7 % 66) for i in range(66)) + b"}"
+REFUSED_MEMORY = [
+    ([], b'{"b":[1.5],"a":"x"}\n[1,]\n'),
+    ([], LINE),
+    (["-d", "1"], LINE),
+    *(([], text) for text in texts.SMALL[1:]),
+    ([], WIDE),
+]
+
+
+def check_rows(checks):
+    for row in LINES:
+        given, expected = row
+        checks.row(f"json_lines: {given[:60]}", expected, run_of, program("json_lines"), [], given, at=row)
+    for row in (*ALL_LINES, *CLEAN):
+        words, given, expected = row
+        checks.row(f"json_lines: {words} {given[:60]}", expected, run_of, program("json_lines"), words, given, at=row)
+
+
+def check_group(checks, name, rows):
+    """Texts of a line each, up to the first wrong answer, each with the line that is written or told."""
+    name, rows = f"json_lines: {name}", list(rows)
+    if not checks.wants(name):
+        return
+    every, rows = len(rows), checks.some(rows)
+    checks.skipped += every - len(rows)
+    status, output, errors = run_of(program("json_lines"), ["-k"], "".join(f"{row[0]}\n" for row in rows).encode())
+    outputs, refusals = iter(output.split(b"\n")), iter(errors.split(b"\n"))
+    for number, row in enumerate(rows, 1):
+        text, *expected = row
+        if len(expected) == 1:
+            answer, wanted = next(outputs, None), expected[0].encode()
+        else:
+            answer, (_, column, *why) = next(refusals, None), expected
+            wanted = f"json_lines: line {number}, col {column}: {texts.words_of(*why)}".encode()
+        checks.check(f"{name}: {text[:40]!r} .. {text[-20:]!r}", (answer,), (wanted,), at=row)
+        if answer != wanted:
+            return
+    is_refused = any(len(row) > 2 for row in rows)
+    checks.check(f"{name}: the end", (status, *outputs, *refusals), (int(is_refused), b"", b""))
+
+
+def check_groups(checks):
+    for name, rows in whole.groups():
+        check_group(checks, name, rows)
+
+
+def check_faults(checks):
+    FAULTS.streams(checks, STREAMS)
+    FAULTS.failing(checks, FAILING)
+    FAULTS.interrupted(checks, INTERRUPTED)
+
+
+def check_memory(checks):
+    FAULTS.refusing(checks, REFUSED_MEMORY)
+
+
+PARTS = (check_groups, check_rows, check_faults, check_memory)

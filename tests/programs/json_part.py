@@ -1,0 +1,114 @@
+"""Rows of `json_part`: the part of a text at a pointer (RFC 6901).
+
+With the pointer to all of it, it reads a value and writes all of it: so the texts of `jsonnorm` and of `json_lines` are read by it too.
+"""
+
+import json
+
+import whole
+from faults import BROKEN, FOLDER, INVALID, WRITING, Faults
+from running import printed, program, reported, run_of
+from values import CONTROLS, LONG, NESTED, NOT_UTF8, QUOTED, normal
+
+VALUE_READER = whole.Reader("json_part", [""], 3)
+FAULTS = Faults("json_part", is_stopping=True)
+
+
+def said(status, words):
+    return reported(status, "json_part", words)
+
+
+# RFC 6901, section 5.
+DOCUMENT = {"foo": ["bar", "baz"], "": 0, "a/b": 1, "c%d": 2, "e^f": 3, "g|h": 4, "i\\j": 5, 'k"l': 6, " ": 7, "m~n": 8}
+POINTERS = [
+    ("", DOCUMENT),
+    ("/foo", ["bar", "baz"]),
+    ("/foo/0", "bar"),
+    ("/", 0),
+    ("/a~1b", 1),
+    ("/c%d", 2),
+    ("/e^f", 3),
+    ("/g|h", 4),
+    ("/i\\j", 5),
+    ('/k"l', 6),
+    ("/ ", 7),
+    ("/m~0n", 8),
+]
+NO_PART = ["/foo/00", "/foo/01", "/foo/-", "/foo/2", "/foo/+1", "/x", "/foo/0/a", "//"]
+NO_SLASH = ["foo", "~2"]
+BAD_ESCAPE = ["/~", "/~2", "/a/~~0", "/~/"]
+NO_POINTER = [
+    (NO_PART, said(1, "the pointer names no part")),
+    (NO_SLASH, said(2, "the pointer begins with no '/'")),
+    (BAD_ESCAPE, said(2, "a '~' is followed by neither '0' nor '1'")),
+]
+TEXT = json.dumps(DOCUMENT, indent=4).encode()
+
+# The arguments, the input, and the answer.
+ROWS = [
+    ([""], NESTED, printed(NESTED)),
+    (["/12"], json.dumps(list(range(100, 120))).encode(), printed(b"112")),
+    (["/0" * 1_000], b"[" * 1_000 + b"7" + b"]" * 1_000, printed(b"7")),
+    (["/" + "x" * 100_000], b'{"%s": [1.0]}' % (b"x" * 100_000), printed(b"[1]")),
+    ([""], LONG, printed(LONG)),
+    # The pointer is read first.
+    (["x"], b"[1,]", said(2, "the pointer begins with no '/'")),
+    *((words, TEXT, said(2, "usage: json_part POINTER")) for words in ([], ["", ""], [NOT_UTF8])),
+    ([""], b"[1,]", said(3, "Parse error at line:1, col:3: Invalid character: ]")),
+    # Control characters are shown by their code points.
+    (["/a"], b'{"a":"' + CONTROLS + b'"}', printed(b'"' + QUOTED + b'"')),
+    (["/\n\x1b[2J"], b"{}", said(1, "the pointer names no part")),
+    (["\n\x1b[2J"], b"{}", said(2, "the pointer begins with no '/'")),
+    ([""], b"\x1b", said(3, "Parse error at line:1, col:0: Invalid character: U+001B")),
+]
+
+# The arguments, an input, and the statuses and words where the input is not UTF-8, can't be read, and where the output can't be written.
+STREAMS = [([""], b"1", (3, INVALID), (4, FOLDER), (4, WRITING))]
+
+# The arguments, an input, what is printed of it, and the statuses and words where a read and where a write fails.
+FAILING = [([""], b"[" + LONG + b", 1.0]", b"[" + LONG + b",1]\n", (4, BROKEN), (4, WRITING))]
+
+# Where each request for memory is refused.
+REFUSED_MEMORY = [(["/a~1b/0"], b'{"a/b":[[1.5,"x"]]}')]
+
+
+def check_rows(checks):
+    for row in POINTERS:
+        pointer, part = row
+        checks.row(f"json_part: {pointer}", printed(normal(part)), run_of, program("json_part"), [pointer], TEXT, at=row)
+    for row in NO_POINTER:
+        pointers, expected = row
+        for pointer in pointers:
+            checks.row(f"json_part: {pointer}", expected, run_of, program("json_part"), [pointer], TEXT, at=row)
+    for row in ROWS:
+        words, given, expected = row
+        name = f"json_part: {[word[:60] for word in words]} {given[:60]}"
+        checks.row(name, expected, run_of, program("json_part"), words, given, at=row)
+
+
+def check_groups(checks):
+    """The texts that `json_lines` accepts, those of a group as the items of one value."""
+    for name, rows in whole.groups():
+        accepted = [row for row in checks.some(list(rows)) if len(row) == 2]
+        text, compact = whole.as_items(accepted) if accepted else (b"[]", b"[]")
+        VALUE_READER.check(checks, f"{name}, as the items of a value", text, compact)
+
+
+def check_faults(checks):
+    FAULTS.streams(checks, STREAMS)
+    FAULTS.failing(checks, FAILING)
+    FAULTS.refusing(checks, REFUSED_MEMORY)
+
+
+PARTS = (
+    check_groups,
+    check_rows,
+    check_faults,
+    VALUE_READER.check_inputs,
+    VALUE_READER.check_sizes,
+    VALUE_READER.check_wide,
+    VALUE_READER.check_large,
+    VALUE_READER.check_nested,
+    VALUE_READER.check_deep_members,
+    VALUE_READER.check_deep_memory,
+)

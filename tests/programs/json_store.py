@@ -1,0 +1,54 @@
+"""Rows of `json_store`: of each line how many equal values have come so far."""
+
+from faults import BROKEN, FOLDER, FULL, Faults
+from running import printed, program, reported, run_of
+from values import CONTROLS, LONG, NESTED, QUOTED
+
+FAULTS = Faults("json_store")
+
+# The lines, and the answer.
+LINES = [
+    (b"", printed()),
+    (b'{"a": 1, "b": [2.0]}\n[]\r\n{"b": [20e-1], "a": 1}', printed(b'1 {"a":1,"b":[2]}', b"1 []", b'2 {"a":1,"b":[2]}')),
+    (b"1\n[1,]\n2\n", reported(1, "json_store", "line 2, col 3: Invalid character: ]", b"1 1\n")),
+    (b"1.0\n1\n\n", reported(1, "json_store", "line 3, col 0: Unexpected EOF", b"1 1\n2 1\n")),
+    (b'1\n"\xff"\n[', reported(1, "json_store", "line 2: not UTF-8", b"1 1\n")),
+    (NESTED, printed(b"1 " + NESTED)),
+    (b"".join(b"%d.0\n" % i for i in range(20_000)), printed(*[b"1 %d" % i for i in range(20_000)])),
+    (b'{"a":[]}\n' * 20_000, printed(*[b'%d {"a":[]}' % (i + 1) for i in range(20_000)])),
+    (LONG + b"\n" + LONG, printed(b"1 " + LONG, b"2 " + LONG)),
+]
+
+# Control characters are shown by their code points.
+CLEAN = [
+    (b'"' + CONTROLS + b'"', printed(b'1 "' + QUOTED + b'"')),
+    (b"[\x1b]", reported(1, "json_store", "line 1, col 1: Invalid character: U+001B")),
+]
+
+# The arguments, an input, and the statuses and words where the input is not UTF-8, can't be read, and where the output can't be written.
+STREAMS = [([], b"1", (1, "line 1: not UTF-8"), (4, FOLDER), (4, FULL))]
+
+# The arguments, an input, what is printed of it, and the statuses and words where a read and where a write fails.
+FAILING = [([], LONG, b"1 " + LONG + b"\n", (4, BROKEN), (4, BROKEN))]
+
+# Where each read is interrupted.
+INTERRUPTED = [([], LONG, b"1 " + LONG + b"\n")]
+
+# Where each request for memory is refused.
+REFUSED_MEMORY = [([], b'{"a":[1,"x"]}\n[]\n{"a":[1.0,"x"]}\n[1,]')]
+
+
+def check_rows(checks):
+    for row in (*LINES, *CLEAN):
+        given, expected = row
+        checks.row(f"json_store: {given[:60]}", expected, run_of, program("json_store"), [], given, at=row)
+
+
+def check_faults(checks):
+    FAULTS.streams(checks, STREAMS)
+    FAULTS.failing(checks, FAILING)
+    FAULTS.interrupted(checks, INTERRUPTED)
+    FAULTS.refusing(checks, REFUSED_MEMORY)
+
+
+PARTS = (check_rows, check_faults)

@@ -1,0 +1,22 @@
+"""Inputs that several programs are given."""
+
+import json
+
+NOT_UTF8 = b"\xff"
+
+# More levels than the drop of a value has stack for.
+NESTED = b"[" * 100_000 + b"]" * 100_000
+
+# A string past each growth of a buffer.
+LONG = b'"%s"' % (b"x" * 300_000)
+
+# Control characters: raw in the input, where a JSON text may have them, and escaped; as a message shows them, by their code
+# points; and inside a JSON string that is written, where those that a string may have are written as they are.
+CONTROLS = b"\x7f\xc2\x80\xc2\x9f\\u0000\\n\\r\\u001b\\u007f\\u009b"
+SHOWN = b"U+007FU+0080U+009FU+0000U+000AU+000DU+001BU+007FU+009B"
+QUOTED = b"\x7f\xc2\x80\xc2\x9f\\u0000\\n\\r\\u001b\x7f\xc2\x9b"
+
+
+def normal(value):
+    """The normal form of a JSON value without decimals, as Python writes it."""
+    return json.dumps(value, sort_keys=True, separators=(",", ":"), ensure_ascii=False).encode()
