@@ -6,6 +6,7 @@ use Rattle.tinyjson.specs.Access.{is_string}
 use Rattle.tinyjson.specs.Tree.{Tree, number, string, array, object, Items, no_items, item, Members, no_members, member}
 use Rattle.tinyjson_compare.specs.Distinct.{are_distinct}
 use Rattle.tinyjson_compare.specs.Multiples.{is_divisor}
+use Rattle.tinyjson_schema_keywords.specs.Forms.{is_some_item}
 use Rattle.tinyjson_schema.specs.Assertions.{is_among}
 
 abbrev pub is_count : Tree → Bool
