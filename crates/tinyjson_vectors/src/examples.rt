@@ -1,9 +1,10 @@
-//! The examples of the doc comments, as they stand there.
+//! The examples of the doc comments, as they stand there, and of docs/CALLERS.md.
 
 mod access;
 mod conversions;
 mod events;
 mod generator;
+mod loops;
 mod numbers;
 mod parser;
 mod places;
