@@ -6,10 +6,10 @@ it is refused.) The tests of deep values run on a small stack, with all requests
 to end with an error that says out of memory, and has to give all its memory back.
 """
 
-import functools
 import re
 import subprocess
 
+from checks import shared
 from faults import KEPT, REFUSED, refused_each, run
 from places import TOP
 from running import STACK
@@ -20,9 +20,6 @@ OUT_OF_MEMORY = re.compile(rb"^error: .*(OutOfMemory|AllocError|AllocFailed|Json
 
 # From how many requests on all are refused to a deep value: a few, spread evenly, and each of the last.
 FEW, LAST = 4, 16
-
-# How many processes share the tests.
-SHARES = 4
 
 # No program is run.
 PROGRAMS = ()
@@ -40,9 +37,9 @@ def tests_of(pattern):
     return re.findall(rf"^({pattern}\S*): test$", listed, re.M)
 
 
-def check_memory(checks, share):
+def check_memory(checks):
     """One request is refused, or all from one on."""
-    for test in tests_of("memory::")[share::SHARES]:
+    for test in tests_of("memory::"):
         if checks.needs_memory(test):
             failures, _ = refused_each([TESTS, test], b"", is_test_well)
             checks.check(test, failures, [])
@@ -68,4 +65,4 @@ def check_deep_memory(checks):
         checks.row(f"tests {pattern}", True, lambda: tests_of(pattern) != [])
 
 
-PARTS = (check_deep_memory, *(functools.partial(check_memory, share=share) for share in range(SHARES)))
+PARTS = (check_deep_memory, *shared(check_memory))

@@ -5,6 +5,7 @@ Many texts of one line each are given to it at once, which it reads and writes a
 
 import texts
 import whole
+from checks import shared
 from faults import BROKEN, FOLDER, FULL, Faults
 from running import program, printed, reported, run_of
 from values import CONTROLS, LONG, NESTED, NOT_UTF8, QUOTED
@@ -126,4 +127,4 @@ def check_memory(checks):
     FAULTS.refusing(checks, REFUSED_MEMORY)
 
 
-PARTS = (check_groups, check_rows, check_faults, check_memory)
+PARTS = (check_groups, check_rows, check_faults, *shared(check_memory))

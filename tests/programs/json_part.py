@@ -6,6 +6,7 @@ With the pointer to all of it, it reads a value and writes all of it: so the tex
 import json
 
 import whole
+from checks import shared
 from faults import BROKEN, FOLDER, INVALID, WRITING, Faults
 from running import printed, program, reported, run_of
 from values import CONTROLS, LONG, NESTED, NOT_UTF8, QUOTED, normal
@@ -104,7 +105,7 @@ PARTS = (
     check_groups,
     check_rows,
     check_faults,
-    VALUE_READER.check_inputs,
+    *shared(VALUE_READER.check_inputs),
     VALUE_READER.check_sizes,
     VALUE_READER.check_wide,
     VALUE_READER.check_large,

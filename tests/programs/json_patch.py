@@ -4,6 +4,7 @@ import json
 import os
 import resource
 
+from checks import shared
 from faults import BROKEN, FOLDER, INVALID, WRITING, Faults
 from places import TOP
 from running import printed, program, reported, run_of
@@ -502,4 +503,4 @@ def check_faults(checks):
     FAULTS.refusing(checks, REFUSED_MEMORY)
 
 
-PARTS = (check_rows, check_many, check_faults)
+PARTS = (*shared(check_rows), check_many, check_faults)

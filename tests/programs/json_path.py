@@ -3,6 +3,7 @@
 import itertools
 import json
 
+from checks import shared
 from faults import BROKEN, FOLDER, INVALID, WRITING, Faults
 from running import printed, program, reported, run_of, run_small
 from values import CONTROLS, LONG, NESTED, NOT_UTF8, QUOTED, normal
@@ -563,4 +564,4 @@ def check_memory(checks):
     FAULTS.refusing(checks, REFUSED_MEMORY)
 
 
-PARTS = (check_rows, check_faults, check_memory)
+PARTS = (*shared(check_rows), check_faults, *shared(check_memory))

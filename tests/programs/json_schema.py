@@ -3,6 +3,7 @@
 import json
 import os
 
+from checks import shared
 from faults import BROKEN, FOLDER, FULL, INVALID, Faults
 from places import TOP
 from running import program, reported, run_of, run_small
@@ -966,4 +967,4 @@ def check_memory(checks):
     FAULTS.refusing(checks, REFUSED_MEMORY)
 
 
-PARTS = (check_rows, check_lines, check_faults, check_memory)
+PARTS = (*shared(check_rows), check_lines, check_faults, *shared(check_memory))

@@ -12,6 +12,7 @@ import subprocess
 import tempfile
 
 import texts
+from checks import shared
 from crate_words import port_message
 from faults import CALLED_AGAIN, FAILED, Faults, each_failed, run
 from places import HERE
@@ -373,9 +374,9 @@ def check_refused_memory(checks):
 
 PARTS = (
     check_words,
-    check_inputs,
-    TEXT_READER.check_inputs,
-    check_cut_off,
+    *shared(check_inputs),
+    *shared(TEXT_READER.check_inputs),
+    *shared(check_cut_off),
     check_indented,
     check_depth,
     check_crate,
@@ -384,7 +385,7 @@ PARTS = (
     check_interrupted,
     check_pieces,
     check_memory,
-    check_refused_memory,
+    *shared(check_refused_memory),
     TEXT_READER.check_sizes,
     TEXT_READER.check_wide,
     TEXT_READER.check_large,

@@ -1,5 +1,6 @@
 """The rows that passed, failed and were left out, and what a failed one prints."""
 
+import functools
 import os
 import sys
 
@@ -47,6 +48,7 @@ class Checks:
         self.folder = folder
         self.passed = self.failed = self.skipped = 0
         self.lines = []
+        self.share, self.shares, self.asked = 0, 1, 0
 
     def wants(self, name, *given):
         """Whether a row of this name, or a run for rows whose names begin so, is asked for, and can be judged.
@@ -54,6 +56,9 @@ class Checks:
         Long texts are not given to a program without proof.
         """
         if self.word not in name:
+            return False
+        self.asked += 1
+        if self.asked % self.shares != self.share:
             return False
         if self.is_proved or size_of(given) <= LONGEST:
             return True
@@ -81,9 +86,9 @@ class Checks:
 
     def needs_memory(self, name):
         """Whether a row that refuses memory, or limits it, can be judged: with the address sanitizer it can't."""
-        if not self.is_proved and self.wants(name):
-            self.skipped += 1
-        return self.is_proved and self.wants(name)
+        is_wanted = self.wants(name)
+        self.skipped += is_wanted and not self.is_proved
+        return is_wanted and self.is_proved
 
     def _count(self, name, answer, expected, place):
         if answer == expected:
@@ -98,6 +103,16 @@ class Checks:
             print(line)
         print(counted(self.passed, self.failed, self.skipped))
         return int(self.failed > 0)
+
+
+def shared(part, shares=4):
+    """A part whose rows are shared among processes."""
+
+    def run(share, checks):
+        checks.share, checks.shares = share, shares
+        part(checks)
+
+    return [functools.partial(run, share) for share in range(shares)]
 
 
 def counted(passed, failed, skipped=0):
