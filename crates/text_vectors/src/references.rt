@@ -76,7 +76,10 @@ fn a_long_base(rt: HostRuntime) -> Result<(), Fail> {
             None => expected.to_string(alloc)?,
         };
         let target = resolve(alloc, base.as_str(), reference)?;
-        assert!(rt; target.as_str() == expected.as_str(), "{reference}: {target}");
+        assert!(rt;
+            target.as_str() == expected.as_str(),
+            "{reference}: {target}"
+        );
     }
     Ok(())
 }
