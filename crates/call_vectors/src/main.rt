@@ -1,0 +1,48 @@
+//! Answers calls of the library, one for each line of standard input, for the checks that compare the answers with a table.
+//!
+//! A line is the name of a call and its inputs, apart by tabs, each input as the hexadecimal digits of its UTF-8 bytes, so that no
+//! input is read by what is tested. The answer is a line of words and of texts in the same digits.
+#![tactic(auto)]
+
+mod building;
+mod inputs;
+mod numbers;
+mod parts;
+mod places;
+mod reading;
+mod record;
+mod reply;
+mod values;
+mod writer;
+mod writing;
+
+use inputs::Inputs;
+use reply::Reply;
+use std::io;
+
+fn main(rt: HostRuntime) -> io::Result<()> {
+    for line in rt.lines(rt.alloc()) {
+        let mut reply = Reply::new(rt.alloc());
+        answer(&mut reply, line?.as_str())?;
+        println!(rt; "{}", reply.as_str())?;
+    }
+    Ok(())
+}
+
+/// Calls what the line names.
+fn answer(reply: &mut Reply, line: &str) -> io::Result<()> {
+    let (name, inputs) = match line.split_once('\t') {
+        Some((name, rest)) => (name, Inputs::read(reply.alloc, rest)?),
+        None => (line, Inputs::read(reply.alloc, "")?),
+    };
+    let is_known = reading::answer(reply, name, &inputs)?
+        || writing::answer(reply, name, &inputs)?
+        || numbers::answer(reply, name, &inputs)?
+        || values::answer(reply, name, &inputs)?
+        || parts::answer(reply, name, &inputs)?
+        || places::answer(reply, name, &inputs)?;
+    if !is_known {
+        reply.word("unknown")?;
+    }
+    Ok(())
+}
