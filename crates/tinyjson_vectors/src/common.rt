@@ -119,3 +119,12 @@ pub(crate) fn told(alloc: Global, text: &str) -> Result<(), JsonParseError> {
 pub(crate) fn is_taken(answer: io::Result<()>, bytes: &[u8], expected: &str) -> bool {
     answer.is_ok() && bytes == expected.as_bytes()
 }
+
+/// What a parser returns that tells events.
+pub(crate) fn parsed_to_events<I>(parser: &mut JsonParser<I>) -> Result<(), JsonParseError>
+where
+    I: Iterator<Item = char>,
+{
+    parser.parse_events(Forget)?;
+    Ok(())
+}

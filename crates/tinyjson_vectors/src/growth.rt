@@ -2,11 +2,13 @@
 //! and its characters have one answer, and the value is copied and written in each way. `tools/check-program` shows what the answers
 //! and the texts are.
 
-use crate::common::{is_taken, parsed};
+use crate::common::{is_taken, parsed, parsed_to_events, told};
 use std::alloc::{AllocError, Global};
 use std::string::ToString;
 use std::test::Fail;
-use tinyjson::{JsonGenerator, JsonNumber, JsonParseResult, JsonParser, JsonValue};
+use tinyjson::{
+    JsonGenerator, JsonNumber, JsonParseError, JsonParseResult, JsonParser, JsonValue, check,
+};
 
 /// Below, at and after the first growths of vectors, strings and maps, and round the 64 levels that `==` compares by a recursion.
 const SIZES: [usize; 8] = [0, 1, 8, 9, 17, 64, 65, 1_000];
@@ -115,6 +117,14 @@ fn is_value(answer: JsonParseResult, value: &JsonValue) -> bool {
     }
 }
 
+/// Whether a check of the text, and telling it and its characters to events, return this.
+fn is_answer_without_value(alloc: Global, text: &str, answer: Result<(), JsonParseError>) -> bool {
+    let mut parser = JsonParser::new(alloc, text.chars());
+    check(alloc, text) == answer
+        && told(alloc, text) == answer
+        && parsed_to_events(&mut parser) == answer
+}
+
 /// Whether the text is read as this value with a limit on depth, and its characters with one and with none.
 fn is_read(alloc: Global, text: &str, value: &JsonValue) -> bool {
     let limited = JsonValue::from_str_with_depth_limit(alloc, text, usize::MAX);
@@ -164,7 +174,9 @@ fn mistake(alloc: Global, text: &str, is_large: bool) -> Result<Option<&'static 
     let value = match JsonValue::from_str(alloc, text) {
         Ok(value) => value,
         Err(error) => {
-            let is_alike = parsed(alloc, text) == Err(error) && !error.is_out_of_memory();
+            let is_alike = parsed(alloc, text) == Err(error)
+                && is_answer_without_value(alloc, text, Err(error))
+                && !error.is_out_of_memory();
             return Ok(if is_alike {
                 None
             } else {
@@ -174,6 +186,8 @@ fn mistake(alloc: Global, text: &str, is_large: bool) -> Result<Option<&'static 
     };
     let found = if !is_read(alloc, text, &value) {
         Some("is read otherwise")
+    } else if !is_answer_without_value(alloc, text, Ok(())) {
+        Some("is refused where no value is built")
     } else if !is_value(Ok(value.try_clone(alloc)?), &value) {
         Some("is copied otherwise")
     } else if !is_written(alloc, &value)? {

@@ -77,6 +77,18 @@ fn parse_goes_on(rt: HostRuntime) -> Result<(), Fail> {
 }
 
 #[test]
+fn texts_keep_their_errors(rt: HostRuntime) -> Result<(), Fail> {
+    let alloc = rt.alloc();
+    for &(text, expected) in TEXTS {
+        match JsonValue::from_str(alloc, text) {
+            Err(error) if error.is_out_of_memory() => return Err(Fail::from(error)),
+            answer => assert!(rt; agrees(alloc, answer, expected)?, "{text}"),
+        }
+    }
+    Ok(())
+}
+
+#[test]
 fn checks_keep_their_errors(rt: HostRuntime) -> Result<(), Fail> {
     let alloc = rt.alloc();
     for &(text, expected) in TEXTS {
@@ -197,7 +209,7 @@ fn generates(
     value: &JsonValue,
     expected: &str,
 ) -> Result<(), ErrorKind> {
-    let mut bytes = [0; 256];
+    let mut bytes = [0; 512];
     let mut output = &mut bytes[..];
     let answer = JsonGenerator::new(alloc, &mut output).generate(value);
     let left = output.len();
@@ -210,19 +222,46 @@ fn generates(
     answer.map_err(|error| error.kind())
 }
 
-/// A text in so many arrays.
-fn in_arrays(alloc: Global, count: usize, inside: &str) -> Result<String, Fail> {
-    let opened = "[".repeat(alloc, count)?;
-    let closed = "]".repeat(alloc, count)?;
+#[test]
+fn a_value_is_written_to_an_array(rt: HostRuntime) -> Result<(), Fail> {
+    let alloc = rt.alloc();
+    let value = JsonValue::from_str(alloc, DOCUMENT)?;
+    generates(&rt, alloc, &value, COMPACT)?;
+    Ok(())
+}
+
+/// A text inside what is opened and closed so often.
+fn nested(
+    alloc: Global,
+    open: &str,
+    inside: &str,
+    close: &str,
+    count: usize,
+) -> Result<String, Fail> {
+    let opened = open.repeat(alloc, count)?;
+    let closed = close.repeat(alloc, count)?;
     Ok(format!(in alloc; "{opened}{inside}{closed}")?)
 }
+
+/// 64 arrays; 64 containers of which each object has one member, as the outermost, the innermost and each.
+const FEW: [(&str, &str, &str, usize); 6] = [
+    ("[", "null", "]", 64),
+    ("", "{\"a\":1}", "", 1),
+    ("[", "{\"a\":1}", "]", 63),
+    ("[{\"a\":", "null", "}]", 32),
+    ("{\"a\":[", "true", "]}", 32),
+    ("{\"a\":", "\"x\"", "}", 64),
+];
 
 #[test]
 fn sixty_four_containers_take_no_memory(rt: HostRuntime) -> Result<(), Fail> {
     let alloc = rt.alloc();
-    let text = in_arrays(alloc, 64, "null")?;
-    let value = JsonValue::from_str(alloc, text.as_str())?;
-    assert_eq!(rt; generates(&rt, alloc, &value, text.as_str()), Ok(()));
+    for (open, inside, close, count) in FEW {
+        let text = nested(alloc, open, inside, close, count)?;
+        let value = JsonValue::from_str(alloc, text.as_str())?;
+        let written = generates(&rt, alloc, &value, text.as_str());
+        assert_eq!(rt; written, Ok(()), "{text}");
+    }
     Ok(())
 }
 
@@ -233,7 +272,7 @@ const INNER: [&str; 3] = ["[[[null]]]", r#"{"a":[[null]]}"#, r#"{"a":1,"b":[[nul
 fn more_containers_take_memory(rt: HostRuntime) -> Result<(), Fail> {
     let alloc = rt.alloc();
     for inner in INNER {
-        let text = in_arrays(alloc, 63, inner)?;
+        let text = nested(alloc, "[", inner, "]", 63)?;
         let value = JsonValue::from_str(alloc, text.as_str())?;
         generates(&rt, alloc, &value, text.as_str())?;
     }

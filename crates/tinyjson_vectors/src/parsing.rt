@@ -1,6 +1,6 @@
 //! What an iterator of characters is asked for, what it gives, and what a parser of it returns, call after call.
 
-use crate::common::{Answer, Forget, agrees, is_answer, parsed, told};
+use crate::common::{Answer, agrees, is_answer, parsed, parsed_to_events, told};
 use crate::documentation::DOCUMENT;
 use std::alloc::Global;
 use std::iter;
@@ -53,15 +53,6 @@ fn is_alike(alloc: Global, text: &str) -> bool {
             &answer,
         )
         && answer == JsonValue::from_str(alloc, text)
-}
-
-/// What a parser returns that tells events.
-fn parsed_to_events<I>(parser: &mut JsonParser<I>) -> Result<(), JsonParseError>
-where
-    I: Iterator<Item = char>,
-{
-    parser.parse_events(Forget)?;
-    Ok(())
 }
 
 /// Whether this is the answer, but for the value.
