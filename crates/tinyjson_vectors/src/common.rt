@@ -5,26 +5,9 @@ use std::alloc::{AllocError, Global};
 use std::io;
 use std::test::Fail;
 use tinyjson::{
-    Events, JsonKind, JsonNumber, JsonParseError, JsonParseErrorKind, JsonParseResult, JsonParser,
-    JsonValue, read_events,
+    Events, JsonNumber, JsonParseError, JsonParseErrorKind, JsonParseResult, JsonParser, JsonValue,
+    read_events,
 };
-
-pub(crate) fn string(alloc: Global, text: &str) -> Result<JsonValue, AllocError> {
-    Ok(JsonValue::from(String::from_str(alloc, text)?))
-}
-
-/// A value of this kind.
-pub(crate) fn of_kind(alloc: Global, kind: JsonKind) -> JsonParseResult {
-    let text = match kind {
-        JsonKind::Null => "null",
-        JsonKind::Boolean => "true",
-        JsonKind::Number => "1",
-        JsonKind::String => "\"foo\"",
-        JsonKind::Array => "[1]",
-        JsonKind::Object => "{\"foo\":42}",
-    };
-    JsonValue::from_str(alloc, text)
-}
 
 /// What a parser of the text's characters returns.
 pub(crate) fn parsed(alloc: Global, text: &str) -> JsonParseResult {

@@ -1,5 +1,5 @@
 //! Growing things at sizes round each growth of a vector, a string or a map, where memory is ample, alone and inside others: a text
-//! and its characters have one answer, and the value is copied and written in each way. `tools/check-program` shows what the answers
+//! and its characters have one answer, and the value is copied and written in each way. The rows of `tests/` show what the answers
 //! and the texts are.
 
 use crate::common::{is_taken, parsed, parsed_to_events, told};

@@ -11,8 +11,6 @@ mod deep_memory;
 mod documentation;
 pub mod equality;
 #[cfg(test)]
-mod events;
-#[cfg(test)]
 mod examples;
 #[cfg(test)]
 mod growth;
@@ -21,10 +19,4 @@ mod members;
 #[cfg(test)]
 mod memory;
 #[cfg(test)]
-mod numbers;
-#[cfg(test)]
 mod parsing;
-#[cfg(test)]
-mod writers;
-#[cfg(test)]
-mod written;

@@ -4,7 +4,7 @@
 //! for memory refused: then a test passes too, or it ends with the out of memory that a call returned. It runs
 //! programs so too, which read texts and write values to the standard output.
 
-use crate::common::{Answer, agrees, is_answer, parsed, string, told};
+use crate::common::{Answer, agrees, is_answer, parsed, told};
 use crate::documentation::{COMPACT, DOCUMENT, INDENTED};
 use std::alloc::{AllocError, Global};
 use std::collections::HashMap;
@@ -298,7 +298,7 @@ pub(crate) fn wide(alloc: Global) -> Result<String, AllocError> {
 fn a_refused_member_is_dropped(rt: HostRuntime) -> Result<(), Fail> {
     let alloc = rt.alloc();
     let key = String::from_str(alloc, "a")?;
-    let value = string(alloc, "b")?;
+    let value = JsonValue::from("b".to_string(alloc)?);
     let mut members = HashMap::new(alloc);
     insert_member(&mut members, key, value)?;
     assert_eq!(rt; members.len(), 1);
