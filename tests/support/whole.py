@@ -8,6 +8,7 @@ import json
 import resource
 
 import texts
+from padding import Unpadded, padded_normal, padded_text, refused_after
 from running import STACK, UNPROVED, program, reported, run_of, small_stack
 
 EOF = (1, 0, "UnexpectedEof")
@@ -106,6 +107,31 @@ def as_items(rows):
     return tuple(("[" + ",".join(it) + "]").encode() for it in zip(*rows))
 
 
+def padded_inputs():
+    """The inputs with 40 members more in each object, and 40 items in each array, and the refused ones inside such ones."""
+    for row in inputs():
+        given, expected = row
+        try:
+            if isinstance(expected, bytes):
+                yield like(row, padded_text(given), padded_normal(expected))
+            else:
+                line, column, *why = expected
+                text, column = refused_after(given, line, column, texts.words_of(*why))
+                yield like(row, text, (line, column, *why))
+        except Unpadded:
+            # It is long, or refused as no part of another text.
+            pass
+
+
+def padded_lines():
+    """Those of one line, as rows of a group."""
+    for row in padded_inputs():
+        given, expected = row
+        if b"\n" not in given:
+            why = [expected.decode()] if isinstance(expected, bytes) else expected
+            yield like(row, given.decode(), *why)
+
+
 def groups():
     """Texts of a line each: tokens, strings and errors at each place, round each size at which texts are read otherwise, and what
     grows at sizes round each growth of a vector, a string or a map, alone and inside others. Each group has a name, and rows of a text
@@ -115,6 +141,7 @@ def groups():
     yield "equal keys", texts.many()
     yield "what follows many", texts.after_many()
     yield "long numbers", texts.long_numbers()
+    yield "padded", padded_lines()
     for size in texts.SIZES:
         nested = [(text, text) for text in texts.nested_of_size(size)]
         yield f"things of size {size}", [*texts.things_of_size(size), *nested]
@@ -155,6 +182,10 @@ class Reader:
     def check_inputs(self, checks):
         for row in inputs():
             self.check(checks, f"input {row[0][:40]}", *row, at=row)
+
+    def check_padded(self, checks):
+        for row in padded_inputs():
+            self.check(checks, f"padded input .. {row[0][-40:]}", *row, at=row)
 
     def check_sizes(self, checks):
         """What grows at sizes round each growth, all of a size in one text."""
