@@ -5,17 +5,21 @@ Each check takes rows of a program: its arguments, an input, and what is expecte
 
 import errno
 import os
+import re
 import resource
 import signal
 import subprocess
 import tempfile
 
-from running import program, reported, run_of
+from running import STACK, program, reported, run_of, run_small
 
 HERE = os.path.dirname(os.path.abspath(__file__))
 
 # The lines by which the preloaded library reports failing calls, and memory that is not given back.
 REFUSED, FAILED, CALLED_AGAIN, KEPT = b"(refused)\n", b"(failed)\n", b"(called again)\n", b"(kept memory)\n"
+
+# The line by which it counts the requests for memory.
+COUNTED = rb"\((\d+) requests\)\n"
 
 # What the C library and the standard library say of a stream.
 INVALID = "stream did not contain valid UTF-8"
@@ -25,6 +29,9 @@ TOO_LARGE = "File too large (os error 27)"
 BROKEN = "Input/output error (os error 5)"
 WRITING = "writing failed"
 NOT_UTF8 = b"\xff"
+
+# From how many requests on all are refused to a deep value: a few, spread evenly, and each of the last.
+FEW, LAST = 4, 60
 
 # The library that `build` compiled.
 LIBRARY = []
@@ -87,6 +94,21 @@ def refused_each(words, given, is_well):
                 failures.append(f"{variable}={call}: status {ended.status}, {ended.errors[-200:]!r}")
         counts.append(call - 1)
     return failures, counts
+
+
+def refused_last(words, given, is_well):
+    """The runs on a small stack that are not well, with all requests for memory refused from some on."""
+    undisturbed = run(words, given, stack=STACK, COUNTED=1)
+    counted = re.search(COUNTED, undisturbed.errors)
+    if not counted:
+        return [f"undisturbed: status {undisturbed.status}"]
+    count, failures = int(counted[1]), []
+    undisturbed.errors = undisturbed.errors.replace(counted[0], b"")
+    for call in (*range(count // FEW, count, count // FEW), *range(max(1, count - LAST), count + 1)):
+        ended = run(words, given, stack=STACK, REFUSED_FROM=call)
+        if not is_well(undisturbed, ended):
+            failures.append(f"REFUSED_FROM={call} of {count}: status {ended.status}, {ended.errors[-200:]!r}")
+    return failures
 
 
 class Faults:
@@ -188,6 +210,32 @@ class Faults:
             if checks.needs_memory(name):
                 failures, counts = refused_each([program(self.name), *words], given, self.is_well)
                 checks.check(name, (min(counts) > 0, *failures), (True,), at=row)
+
+    def refusing_deep(self, checks, rows):
+        """All requests for memory are refused from some on, where a value is deep.
+
+        A row has the arguments and an input.
+        """
+        for row in rows:
+            words, given = row
+            name = f"{self.name} {' '.join(words)[:60]} over {len(given)} bytes, deep, memory refused"
+            if checks.needs_memory(name):
+                checks.check(name, refused_last([program(self.name), *words], given, self.is_well), [], at=row)
+
+    def deep(self, checks, rows):
+        """What fails where a value is deep, on a small stack.
+
+        A row has the arguments, an input and the answer, or for a full output, in its place, the status and the words.
+        """
+        for row in rows:
+            words, given, expected = row
+            name = f"{self.name}: deep, {[word[-60:] for word in words]} {given[:30]} .. {given[-30:]}"
+            if len(expected) == 3:
+                checks.row(name, expected, run_small, program(self.name), words, given, at=row)
+                continue
+            with open("/dev/full", "wb") as full:
+                unwritten = reported(expected[0], self.name, expected[1])
+                checks.row(f"{name}, a full output", unwritten, run_small, program(self.name), words, given, stdout=full, at=row)
 
     def is_well(self, undisturbed, ended):
         """Whether a run answers what it answers undisturbed, or its status and line of out of memory since a request was refused.

@@ -7,6 +7,9 @@ NOT_UTF8 = b"\xff"
 # More levels than the drop of a value has stack for.
 NESTED = b"[" * 100_000 + b"]" * 100_000
 
+# Fewer, for many runs on a small stack: more than a recursion has room for on it.
+DEEP = b"[" * 20_000 + b"]" * 20_000
+
 # A string past each growth of a buffer.
 LONG = b'"%s"' % (b"x" * 300_000)
 
