@@ -1,8 +1,9 @@
 """Rows of `example_settings`: settings that are read, or one that is changed."""
 
 from faults import BROKEN, FOLDER, FULL, INVALID, Faults
+from padding import padded_rows, padded_settings
 from running import printed, program, reported, run_of
-from values import CONTROLS, LONG, NESTED, NOT_UTF8, QUOTED, SHOWN
+from values import CONTROLS, DEEP, LONG, NESTED, NOT_UTF8, QUOTED, SHOWN
 
 FAULTS = Faults("example_settings", no_memory=2)
 
@@ -43,6 +44,22 @@ CLEAN = [
     (["2"], b'{"port":1,"host":"' + CONTROLS + b'"}', printed(b'{"host":"' + QUOTED + b'","port":2}')),
 ]
 
+# How many rows are not padded, and why.
+UNPADDED = {"a large text": 4}
+
+# Deep values in what fails, and where memory is refused.
+DEEP_FAILURES = [
+    ([], b'{"port": 1, "host": "a", "tls": %s}' % NESTED, reported(1, "example_settings", "tls is neither true nor false")),
+    ([], b'{"port": 1, "host": %s, "more": %s}' % (NESTED, NESTED), reported(1, "example_settings", "no host")),
+    ([], b'{"port": %s, "host": %s}' % (NESTED, NESTED), reported(1, "example_settings", "no port from 1 to 65535")),
+    (["80"], b'{"more": %s}' % NESTED, reported(1, "example_settings", "no port from 1 to 65535")),
+    (["80"], NESTED, reported(1, "example_settings", "no port from 1 to 65535")),
+    ([], NESTED + b"x", reported(1, "example_settings", "Parse error at line:1, col:200001: Expected EOF but got character 'x'")),
+    (["80"], b'{"port": %s, "more": %s}' % (NESTED, NESTED), (2, FULL)),
+    ([], b'{"port": 1, "host": "a", "more": %s}' % NESTED, (2, FULL)),
+]
+DEEP_MEMORY = [([], b'{"port":1,"host":"a","more":%s}' % DEEP), (["80"], b'{"port":%s,"more":%s}' % (DEEP, DEEP))]
+
 # The arguments, an input, and the statuses and words where the input is not UTF-8, can't be read, and where the output can't be written.
 STREAMS = [([], b'{"port":1,"host":"a"}', (2, INVALID), (2, FOLDER), (2, FULL))]
 
@@ -61,10 +78,23 @@ def check_rows(checks):
         checks.row(name, expected, run_of, program("example_settings"), words, given, at=row)
 
 
+def check_padded(checks):
+    """The same with 40 members more in each object, and 40 items in each array."""
+    rows = [(row, *row) for row in (*SETTINGS, *CLEAN) if row[2][0] != 2]
+    for row, (given, expected) in padded_rows(checks, "example_settings", rows, padded_settings, UNPADDED):
+        name = f"example_settings: padded {row[0]} {row[1][:60]}"
+        checks.row(name, expected, run_of, program("example_settings"), row[0], given, at=row)
+
+
+def check_deep(checks):
+    FAULTS.deep(checks, DEEP_FAILURES)
+    FAULTS.refusing_deep(checks, DEEP_MEMORY)
+
+
 def check_faults(checks):
     FAULTS.streams(checks, STREAMS)
     FAULTS.failing(checks, FAILING)
     FAULTS.refusing(checks, REFUSED_MEMORY)
 
 
-PARTS = (check_rows, check_faults)
+PARTS = (check_rows, check_padded, check_deep, check_faults)

@@ -7,8 +7,9 @@ import texts
 import whole
 from checks import shared
 from faults import BROKEN, FOLDER, FULL, Faults
+from padding import padded_lines, padded_rows
 from running import program, printed, reported, run_of
-from values import CONTROLS, LONG, NESTED, NOT_UTF8, QUOTED
+from values import CONTROLS, DEEP, LONG, NESTED, NOT_UTF8, QUOTED
 
 FAULTS = Faults("json_lines", is_stopping=True)
 
@@ -17,6 +18,8 @@ def told(output, *lines):
     """The answer of `json_lines -k`, which prints this and tells of these lines."""
     return 1, output, b"".join(b"json_lines: line %s\n" % line for line in lines)
 
+
+MANY = 70_000
 
 # The lines, and the answer.
 LINES = [
@@ -28,8 +31,9 @@ LINES = [
     (b"1\n \r", reported(1, "json_lines", "line 2, col 2: Unexpected EOF", b"1\n")),
     (b'1\n"\xff"\n[', reported(1, "json_lines", "line 2: not UTF-8", b"1\n")),
     (NESTED, printed(NESTED)),
-    (b"[1.0]\n" * 20_000, printed(*[b"[1]"] * 20_000)),
-    (b"1 \n" * 20_000 + b"x", reported(1, "json_lines", "line 20001, col 0: Invalid character: x", b"1\n" * 20_000)),
+    # More lines than 16 bits count.
+    (b"[1.0]\n" * MANY, printed(*[b"[1]"] * MANY)),
+    (b"1 \n" * MANY + b"x", reported(1, "json_lines", f"line {MANY + 1}, col 0: Invalid character: x", b"1\n" * MANY)),
     (LONG + b"\n2", printed(LONG, b"2")),
 ]
 
@@ -40,7 +44,8 @@ ALL_LINES = [
     (["-k"], b"1\n[1,]\n2\n", told(b"1\n2\n", b"2, col 3: Invalid character: ]")),
     (["-k"], b"\n\n1\n\n", told(b"1\n", *(b"%d, col 0: Unexpected EOF" % n for n in (1, 2, 4)))),
     (["-k"], b'[\n"\xc3\n1\n\xff', told(b"1\n", b"1, col 1: Unexpected EOF", b"2: not UTF-8", b"4: not UTF-8")),
-    (["-k"], b"x\n" * 20_000, told(b"", *(b"%d, col 0: Invalid character: x" % (n + 1) for n in range(20_000)))),
+    (["-k"], b"x\n" * MANY, told(b"", *(b"%d, col 0: Invalid character: x" % (n + 1) for n in range(MANY)))),
+    (["-k"], b"x\n1\n" * (MANY // 2), told(b"1\n" * (MANY // 2), *(b"%d, col 0: Invalid character: x" % n for n in range(1, MANY, 2)))),
     (["-d", "1"], b"[]\n[[]]\n[]", reported(1, "json_lines", "line 2, col 1: Nesting is too deep at '['", b"[]\n")),
     (["-d", "0"], b"1\n{}", reported(1, "json_lines", "line 2, col 0: Nesting is too deep at '{'", b"1\n")),
     (["-k", "-d", "1"], b"[[]]\n[]\n", told(b"[]\n", b"1, col 1: Nesting is too deep at '['")),
@@ -58,6 +63,18 @@ CLEAN = [
     (["-k"], b'"\r', reported(1, "json_lines", "line 1, col 2: String cannot contain control character U+000D")),
     ([], b"[\xc2\x9b", reported(1, "json_lines", "line 1, col 1: Invalid character: U+009B")),
 ]
+
+# How many rows are not padded, and why.
+UNPADDED = {"a large text": 6}
+
+# Deep lines in what fails, and where memory is refused.
+DEEP_FAILURES = [
+    ([], b"1\n" + NESTED + b"x\n2", reported(1, "json_lines", "line 2, col 200001: Expected EOF but got character 'x'", b"1\n")),
+    (["-k"], NESTED + b"x\n" + NESTED[:-1] + b"\n2\n", told(b"2\n", b"1, col 200001: Expected EOF but got character 'x'", b"2, col 199999: Unexpected EOF")),
+    (["-k", "-d", "99999"], NESTED + b"\n1", told(b"1\n", b"1, col 99999: Nesting is too deep at '['")),
+    ([], b'{"b":1,"a":%s}' % NESTED, (4, FULL)),
+]
+DEEP_MEMORY = [(["-k"], b'{"b":1,"a":%s}\n%sx\n%s' % (DEEP, DEEP, DEEP))]
 
 # The arguments, an input, and the statuses and words where the input is not UTF-8, can't be read, and where the output can't be written.
 STREAMS = [([], b"1", (1, "line 1: not UTF-8"), (4, FOLDER), (4, FULL))]
@@ -87,6 +104,19 @@ def check_rows(checks):
     for row in (*ALL_LINES, *CLEAN):
         words, given, expected = row
         checks.row(f"json_lines: {words} {given[:60]}", expected, run_of, program("json_lines"), words, given, at=row)
+
+
+def check_padded(checks):
+    """The same lines with 40 members more in each object, and 40 items in each array."""
+    rows = [(row, [], *row) for row in LINES] + [(row, *row) for row in (*ALL_LINES, *CLEAN) if row[2][0] != 2]
+    pad = lambda words, given, expected: (words, *padded_lines(given, expected, is_limited="-d" in words))
+    for row, (words, given, expected) in padded_rows(checks, "json_lines", rows, pad, UNPADDED):
+        checks.row(f"json_lines: padded {words} {row[-2][:60]}", expected, run_of, program("json_lines"), words, given, at=row)
+
+
+def check_deep(checks):
+    FAULTS.deep(checks, DEEP_FAILURES)
+    FAULTS.refusing_deep(checks, DEEP_MEMORY)
 
 
 def check_group(checks, name, rows):
@@ -127,4 +157,4 @@ def check_memory(checks):
     FAULTS.refusing(checks, REFUSED_MEMORY)
 
 
-PARTS = (check_groups, check_rows, check_faults, *shared(check_memory))
+PARTS = (check_groups, check_rows, check_padded, check_deep, check_faults, *shared(check_memory))

@@ -3,9 +3,10 @@
 import os
 
 from faults import BROKEN, FOLDER, INVALID, WRITING, Faults
+from padding import padded_merge, padded_rows
 from places import TOP
 from running import printed, program, reported, run_of
-from values import LONG, NESTED, NOT_UTF8
+from values import DEEP as DEEP_VALUE, LONG, NESTED, NOT_UTF8
 
 FAULTS = Faults("json_merge")
 
@@ -66,6 +67,9 @@ LONG_MERGES = [
     (b"1", NOT_UTF8, reported(2, "json_merge", "the patch: stream did not contain valid UTF-8")),
 ]
 
+# How many rows are not padded, and why.
+UNPADDED = {"a large text": 6}
+
 # The arguments, the input, and the answer.
 ROWS = [
     *((words, b"1", reported(2, "json_merge", "usage: json_merge PATCH-FILE")) for words in ([], [PATCH, PATCH], [NOT_UTF8])),
@@ -84,6 +88,14 @@ FAILING = [([PATCH], b'{"a":%s}' % LONG, b'{"a":%s,%s}\n' % (LONG, ADDED), (4, B
 # Where each request for memory is refused: a patch that replaces, removes, adds and merges.
 CHANGED = b'{"title":"","author":{"familyName":[[{"a":1.5}]],"b":"x"},"tags":{"a":[1]},"c":[{"d":[]}]}'
 REFUSED_MEMORY = [([PATCH], CHANGED)]
+
+
+# Deep values in what fails, and where memory is refused: members that the patch merges into, replaces, and leaves.
+DEEP_FAILURES = [
+    ([PATCH], NESTED + b"x", reported(3, "json_merge", "Parse error at line:1, col:200001: Expected EOF but got character 'x'")),
+    ([PATCH], b'{"a":%s,"author":{"b":%s}}' % (NESTED, NESTED), (4, WRITING)),
+]
+DEEP_MEMORY = [([PATCH], b'{"title":%s,"author":{"familyName":%s,"b":%s},"c":%s}' % ((DEEP_VALUE,) * 4))]
 
 
 def merged(folder, patch, given):
@@ -107,10 +119,24 @@ def check_rows(checks):
         checks.row(f"json_merge: {words} {given}", expected, run_of, program("json_merge"), words, given, at=row)
 
 
+def check_padded(checks):
+    """The rows of a value and its result with 40 members more in each object, also of the patch, and 40 items in each array."""
+    rows = [(row, *(it.encode() for it in row)) for row in MERGED]
+    rows += [(row, given, patch, expected[1][:-1]) for row in LONG_MERGES for given, patch, expected in [row] if expected[0] == 0]
+    for row, (given, patch, result) in padded_rows(checks, "json_merge", rows, padded_merge, UNPADDED):
+        name = f"json_merge: padded {row[1][:60]} {row[0][:60]}"
+        checks.row(name, printed(result), merged, checks.folder, patch, given, at=row)
+
+
 def check_faults(checks):
     FAULTS.streams(checks, STREAMS)
     FAULTS.failing(checks, FAILING)
     FAULTS.refusing(checks, REFUSED_MEMORY)
 
 
-PARTS = (check_rows, check_faults)
+def check_deep(checks):
+    FAULTS.deep(checks, DEEP_FAILURES)
+    FAULTS.refusing_deep(checks, DEEP_MEMORY)
+
+
+PARTS = (check_rows, check_padded, check_deep, check_faults)

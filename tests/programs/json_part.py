@@ -8,8 +8,9 @@ import json
 import whole
 from checks import shared
 from faults import BROKEN, FOLDER, INVALID, WRITING, Faults
+from padding import padded_part, padded_rows
 from running import printed, program, reported, run_of
-from values import CONTROLS, LONG, NESTED, NOT_UTF8, QUOTED, normal
+from values import CONTROLS, DEEP, LONG, NESTED, NOT_UTF8, QUOTED, normal
 
 VALUE_READER = whole.Reader("json_part", [""], 3)
 FAULTS = Faults("json_part", is_stopping=True)
@@ -63,6 +64,20 @@ ROWS = [
     ([""], b"\x1b", said(3, "Parse error at line:1, col:0: Invalid character: U+001B")),
 ]
 
+# How many rows are not padded, and why.
+UNPADDED = {"a large text": 4, "no pointer, but one with tokens before it": 4}
+
+# Deep values in what fails, and where memory is refused.
+NO_SUCH_PART = said(1, "the pointer names no part")
+DEEP_FAILURES = [
+    (["/1"], NESTED, NO_SUCH_PART),
+    (["/0" * 60_000 + "/1"], NESTED, NO_SUCH_PART),
+    (["/0" * 60_000 + "/~2"], NESTED, said(2, "a '~' is followed by neither '0' nor '1'")),
+    (["/b/0/x"], b'{"a":%s,"b":[%s]}' % (NESTED, NESTED), NO_SUCH_PART),
+    (["/a"], b'{"a":%s,"b":[%s]}' % (NESTED, NESTED), (4, WRITING)),
+]
+DEEP_MEMORY = [(["/a"], b'{"a":[1.5,"x",%s],"b":%s}' % (DEEP, DEEP))]
+
 # The arguments, an input, and the statuses and words where the input is not UTF-8, can't be read, and where the output can't be written.
 STREAMS = [([""], b"1", (3, INVALID), (4, FOLDER), (4, WRITING))]
 
@@ -95,6 +110,20 @@ def check_groups(checks):
         VALUE_READER.check(checks, f"{name}, as the items of a value", text, compact)
 
 
+def check_padded(checks):
+    """The same with 40 members more in each object, and 40 items in each array, under 40 levels."""
+    rows = [(row, pointer, TEXT, printed(normal(part))) for row in POINTERS for pointer, part in [row]]
+    rows += [(row, pointer, TEXT, row[1]) for row in NO_POINTER for pointer in row[0]]
+    rows += [(row, words[0], *rest) for row in ROWS for words, *rest in [row] if len(words) == 1 and words[0] != NOT_UTF8]
+    for row, (pointer, given, expected) in padded_rows(checks, "json_part", rows, padded_part, UNPADDED):
+        checks.row(f"json_part: padded {pointer[-60:]}", expected, run_of, program("json_part"), [pointer], given, at=row)
+
+
+def check_deep(checks):
+    FAULTS.deep(checks, DEEP_FAILURES)
+    FAULTS.refusing_deep(checks, DEEP_MEMORY)
+
+
 def check_faults(checks):
     FAULTS.streams(checks, STREAMS)
     FAULTS.failing(checks, FAILING)
@@ -104,8 +133,11 @@ def check_faults(checks):
 PARTS = (
     check_groups,
     check_rows,
+    check_padded,
+    check_deep,
     check_faults,
     *shared(VALUE_READER.check_inputs),
+    VALUE_READER.check_padded,
     VALUE_READER.check_sizes,
     VALUE_READER.check_wide,
     VALUE_READER.check_large,

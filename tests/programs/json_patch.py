@@ -7,8 +7,9 @@ import resource
 from checks import shared
 from faults import BROKEN, FOLDER, INVALID, WRITING, Faults
 from places import TOP
-from running import printed, program, reported, run_of
-from values import LONG, NOT_UTF8
+from padding import padded_failure, padded_mistake, padded_patch, padded_rows
+from running import printed, program, reported, run_of, small_stack
+from values import DEEP, LONG, NESTED, NOT_UTF8
 
 FAULTS = Faults("json_patch")
 
@@ -450,6 +451,47 @@ SOME = b'{"title":"Goodbye!","author":{"givenName":"John","a":[1.5]},"tags":["ex
 REFUSED_MEMORY = [([OPERATIONS], SOME), ([OPERATIONS], b'{"title":"Goodbye!"}')]
 
 
+# How many rows are not padded, and why.
+UNPADDED = {"a large text": 7}
+UNPADDED_MISTAKES = {"a large text": 1, "nothing to pad": 1}
+
+# Deep values and a patch that fails: at its first operation, at its last, and in the queue of one array. The value, the patch, the
+# number of the operation and the reason.
+TWO = b'{"a":%s,"b":[%s]}' % (NESTED, NESTED)
+ONE = b"[%s]" % NESTED
+DEEP_FAILED = [
+    (NESTED, patch(("test", "", "1")), 0, DIFFERENT),
+    (NESTED, patch(("add", "/-", "1"), ("remove", "/5")), 1, NO_TARGET),
+    (NESTED, patch(("remove", "/0"), ("remove", "/0")), 1, NO_TARGET),
+    (NESTED, patch(("replace", "", "1"), ("remove", "/0")), 1, NO_TARGET),
+    (TWO, patch(("replace", "/a", "1"), ("replace", "/c", "2")), 1, NO_TARGET),
+    (TWO, patch(("move", "/b/7", "/a")), 0, NO_PLACE),
+    (TWO, patch(("copy", "/b/7", "/a")), 0, NO_PLACE),
+    (TWO, patch(("move", "/b/-", "/a"), ("copy", "/b/0", "/b/1"), ("move", "/b/0/0", "/b/0")), 2, INTO_ITSELF),
+    (ONE, patch(*KNOWN, ("remove", "/0"), ("remove", f"/{RUN}")), RUN + 1, NO_TARGET),
+    (ONE, patch(*KNOWN, ("replace", "/0", "1"), ("replace", "/-", "1")), RUN + 1, NO_TARGET),
+    (ONE, patch(*KNOWN, ("copy", "/0", "/0"), ("test", "/1", "1")), RUN + 1, DIFFERENT),
+    (ONE, patch(*KNOWN, ("move", f"/{RUN + 1}", "/0")), RUN, NO_PLACE),
+    (ONE, patch(*KNOWN, ("copy", f"/{RUN + 2}", "/0")), RUN, NO_PLACE),
+    (ONE, patch(*KNOWN, ("remove", ""), *KNOWN), RUN, WHOLE_REMOVED),
+]
+
+# The same where it is applied: the value, the patch and the result.
+DEEP_APPLIED = [
+    (ONE, patch(*KNOWN, ("remove", "/0")), array(range(RUN)).encode()),
+    (ONE, patch(*KNOWN, ("replace", "/0", "7")), array(7, range(RUN)).encode()),
+    (ONE, patch(*KNOWN, ("copy", "/1", "/0"), ("remove", "/0"), ("remove", "/0")), array(range(RUN)).encode()),
+    (TWO, patch(("replace", "/a", "1"), ("add", "/b", "2")), b'{"a":1,"b":2}'),
+    (TWO, patch(("move", "/a", "/b")), b'{"a":%s}' % ONE),
+]
+
+# The value and the patch, where memory is refused.
+DEEP_MEMORY = [
+    (b'{"a":%s,"b":[%s]}' % (DEEP, DEEP), patch(("copy", "/b/0", "/a"), ("add", "/a", "1"), ("move", "/c", "/b"))),
+    (b"[%s]" % DEEP, patch(*KNOWN, ("copy", "/1", "/0"), ("remove", "/0"), ("replace", "/0", "7"))),
+]
+
+
 def patched(folder, given, operations, **how):
     """The answer to a patch, from a file."""
     path = os.path.join(folder, "operations")
@@ -497,10 +539,46 @@ def check_many(checks):
         checks.check(name, patched(checks.folder, b"[1]", DOUBLED.encode(), preexec_fn=limited), no_memory)
 
 
+def check_padded(checks):
+    """The same with 40 members more in each object, 40 items in each array where none is named from its end, and 40 operations
+    before and after the others."""
+    rows = [(row, *(it.encode() for it in row)) for row in APPLIED + LONG_APPLIED]
+    for row, (given, operations, result) in padded_rows(checks, "json_patch", rows, padded_patch, UNPADDED):
+        name = f"json_patch: padded {row[1][:60]} {row[0][:60]}"
+        checks.row(name, printed(result), patched, checks.folder, given, operations, at=row)
+    rows = [(row, row[0].encode(), row[1].encode(), row[2]) for row in FAILED]
+    for row, (given, operations, number) in padded_rows(checks, "json_patch, failed", rows, padded_failure, {}):
+        name, expected = f"json_patch: padded {row[1][:60]} {row[0][:60]}", reported(1, "json_patch", f"operation {number}: {row[3]}")
+        checks.row(name, expected, patched, checks.folder, given, operations, at=row)
+    rows = [(row, b"1", row[0].encode(), row[1]) for row in MALFORMED + LONG_MALFORMED]
+    for row, (given, operations, words) in padded_rows(checks, "json_patch, no patches", rows, padded_mistake, UNPADDED_MISTAKES):
+        name = f"json_patch: padded {row[0][:60]}"
+        checks.row(name, told(words), patched, checks.folder, given, operations, at=row)
+
+
+def check_deep(checks):
+    """Deep values, on a small stack."""
+    path = os.path.join(checks.folder, "deep")
+    for row in DEEP_FAILED + DEEP_APPLIED:
+        given, operations, *answer = row
+        expected = printed(*answer) if len(answer) == 1 else reported(1, "json_patch", f"operation {answer[0]}: {answer[1]}")
+        name = f"json_patch: deep, {operations[-60:]} {given[:20]}"
+        checks.row(name, expected, patched, checks.folder, given, operations.encode(), at=row, preexec_fn=small_stack)
+    with open(path, "w", encoding="utf-8") as file:
+        file.write(patch(("copy", "/b/0", "/a")))
+    wrong = reported(3, "json_patch", "Parse error at line:1, col:200001: Expected EOF but got character 'x'")
+    FAULTS.deep(checks, [([path], NESTED + b"x", wrong), ([path], TWO, (4, WRITING))])
+    for row in DEEP_MEMORY:
+        given, operations = row
+        with open(path, "w", encoding="utf-8") as file:
+            file.write(operations)
+        FAULTS.refusing_deep(checks, [([path], given)])
+
+
 def check_faults(checks):
     FAULTS.streams(checks, STREAMS)
     FAULTS.failing(checks, FAILING)
     FAULTS.refusing(checks, REFUSED_MEMORY)
 
 
-PARTS = (*shared(check_rows), check_many, check_faults)
+PARTS = (*shared(check_rows), check_padded, check_many, check_deep, check_faults)

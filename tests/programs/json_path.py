@@ -5,8 +5,10 @@ import json
 
 from checks import shared
 from faults import BROKEN, FOLDER, INVALID, WRITING, Faults
+from padded_queries import padded_refusal_of_query, padded_selection
+from padding import padded_rows
 from running import printed, program, reported, run_of, run_small
-from values import CONTROLS, LONG, NESTED, NOT_UTF8, QUOTED, normal
+from values import CONTROLS, DEEP, LONG, NESTED, NOT_UTF8, QUOTED, normal
 
 FAULTS = Faults("json_path", is_stopping=True)
 
@@ -457,7 +459,9 @@ LONG_PATHS = [
             (["$.a[?search(@, $.p)]"], b'{"a":["a"],"p":"%s"}' % pattern.encode(), expected),
         )
     ),
+    # What is no string is not asked of.
     (["$[?match(@, 'a{10001}')]"], b"[1]", NO_NODE),
+    *(([f"$.a[?{function}(@,$.p)]"], b'{"a":[1,null,["a"],{"a":"a"}],"p":"a{10001}"}', NO_NODE) for function in ("match", "search")),
     (["$[?" + "(" * 62 + "search(@, '" + "(" * 200 + "b" + ")" * 200 + "')" + ")" * 62 + "]"], b'["abc"]', printed(b'"abc"')),
     (["$[?" + "(" * 63 + "match(@, 'a')" + ")" * 63 + "]"], b"[1]", reported(2, "json_path", TOO_DEEP % 72)),
     # Each of many patterns, which are kept, and one of the value for each item; none takes long, nor does a long text.
@@ -480,6 +484,25 @@ LONG_PATHS = [
         for words in ([], ["-p", "$", "$"], ["$", "-p"], ["-q", "$"], ["$", "$"], [NOT_UTF8], ["-p", NOT_UTF8])
     ),
     (["-p"], b"1", reported(2, "json_path", NO_QUERY % 0)),
+]
+
+# How many of the refused rows are not padded, and why.
+UNPADDED_REFUSED = {"no query from its first character on": 5}
+
+# Deep values in what fails, and where memory is refused.
+DEEP_FAILURES = [
+    (["$[1]"], NESTED, NO_NODE),
+    (["$[?@.a]"], b'{"a":%s,"b":[%s]}' % (NESTED, NESTED), NO_NODE),
+    (["$"], NESTED + b"x", reported(3, "json_path", "Parse error at line:1, col:200001: Expected EOF but got character 'x'")),
+    (["$[?match(@, 'a{10001}')]"], b'[%s,"a",%s]' % (NESTED, NESTED), reported(4, "json_path", "a regular expression is too large")),
+    (["$.a[?search(@, $.p)]"], b'{"a":["a",%s],"b":%s,"p":"%s"}' % (NESTED, NESTED, b"(" * 100_000 + b")" * 100_000),
+     reported(4, "json_path", "the groups of a regular expression are too deep")),
+    (["$"], NESTED, (4, WRITING)),
+    (["-p", "$..[1]"], UNDER, (4, WRITING)),
+]
+DEEP_MEMORY = [
+    (["$..[?@.b]"], b'{"a":%s,"c":[%s,{"b":%s}]}' % (DEEP, DEEP, DEEP)),
+    (["-p", "$.c[1].b"], b'{"a":%s,"c":[%s,{"b":%s}]}' % (DEEP, DEEP, DEEP)),
 ]
 
 # The arguments, the input, and the answer.
@@ -555,6 +578,32 @@ def check_rows(checks):
         checks.row(f"json_path: {words} {given}", expected, run_of, program("json_path"), words, given, at=row)
 
 
+def selections():
+    """Each row of what is selected, with its value, its query, and the lines of the values and of their paths."""
+    for document, queries in SELECTED:
+        for row in queries:
+            query, parts = row
+            yield row, document, query, [normal(json.loads(value)) for value, _ in parts], [path.encode() for _, path in parts]
+
+
+def check_padded(checks):
+    """The same of values with 40 members more in each object, and 40 items in each array, under 40 levels."""
+    for row, (document, query, *both) in padded_rows(checks, "json_path", selections(), padded_selection, {}):
+        for words, lines in zip(([query], ["-p", query]), both):
+            name = f"json_path: padded {row[0]} {words[0][:2]}"
+            expected = printed(*lines) if lines else NO_NODE
+            checks.row(name, expected, run_of, program("json_path"), words, document, at=row)
+    rows = [(row, *row) for row in REFUSED]
+    for row, (query, place) in padded_rows(checks, "json_path, refused", rows, padded_refusal_of_query, UNPADDED_REFUSED):
+        name, expected = f"json_path: padded {row[0]}", reported(2, "json_path", NO_QUERY % place)
+        checks.row(name, expected, run_of, program("json_path"), [query], b"[1,]", at=row)
+
+
+def check_deep(checks):
+    FAULTS.deep(checks, DEEP_FAILURES)
+    FAULTS.refusing_deep(checks, DEEP_MEMORY)
+
+
 def check_faults(checks):
     FAULTS.streams(checks, STREAMS)
     FAULTS.failing(checks, FAILING)
@@ -564,4 +613,4 @@ def check_memory(checks):
     FAULTS.refusing(checks, REFUSED_MEMORY)
 
 
-PARTS = (*shared(check_rows), check_faults, *shared(check_memory))
+PARTS = (*shared(check_rows), check_padded, check_deep, check_faults, *shared(check_memory))

@@ -6,8 +6,10 @@ import os
 from checks import shared
 from faults import BROKEN, FOLDER, FULL, INVALID, Faults
 from places import TOP
+from padded_schemas import padded_lines, padded_refused, padded_values
+from padding import padded_rows
 from running import program, reported, run_of, run_small
-from values import LONG, NOT_UTF8, normal
+from values import LONG, NESTED, NOT_UTF8, normal
 
 FAULTS = Faults("json_schema", status=1, is_stopping=True)
 
@@ -628,6 +630,11 @@ DYNAMIC = [
      '"b":{"$id":"b","$dynamicAnchor":"n","type":"array","items":{"$dynamicRef":"#%6E"}}}}', ["[[1],2]"],
      [('[["a"]]', "/0/0", "/prefixItems/0/$ref/items/$dynamicRef/type"), ('[[],"a"]', "/1", "/prefixItems/1/$dynamicRef/type")]),
     ('{"$id":"https://example.com/a","items":{"$dynamicRef":"a#n"},"$defs":{"n":{"$dynamicAnchor":"n","type":"null"}}}', ["[null]"], [("[1]", "/0", "/items/$dynamicRef/type")]),
+    # A `$ref` leads to the name that it says, where two that have led to it have the name too; each names the items.
+    ('{"prefixItems":[{"$ref":"ints"},{"$ref":"words"}],"$defs":{"ints":{"$id":"ints","$ref":"list","$defs":{"T":{"$dynamicAnchor":"T","type":"integer"},"item":{"$dynamicAnchor":"item"}}},'
+     '"words":{"$id":"words","$ref":"list","$defs":{"T":{"$dynamicAnchor":"T","type":"string"},"item":{"$dynamicAnchor":"item"}}},"list":{"$id":"list","items":{"$ref":"other#item"}},'
+     '"other":{"$id":"other","$defs":{"T":{"$dynamicAnchor":"T"},"item":{"$dynamicAnchor":"item","items":{"$dynamicRef":"#T"}}}}}}', ['[[[1],[]],[["a"]]]', "[[]]"],
+     [('[[["a"]]]', "/0/0/0", "/prefixItems/0/$ref/$ref/items/$ref/items/$dynamicRef/type"), ('[[],[["a"],[1]]]', "/1/1/0", "/prefixItems/1/$ref/$ref/items/$ref/items/$dynamicRef/type")]),
     # A `$ref` leads to the name that it says.
     ('{"$id":"https://example.com/a","items":{"$ref":"b#n"},"$defs":{"n":{"$dynamicAnchor":"n","type":"integer"},"b":{"$id":"b","$dynamicAnchor":"n","type":"string"}}}', ['["a"]'], [("[1]", "/0", "/items/$ref/type")]),
 ]
@@ -724,7 +731,9 @@ BY_LINES = [
     # Nothing in a value ends a line.
     ('{"additionalProperties":false}', b'{"x\\nvalid":1}\n{"\\u001b":1}', [(1, "/x\nvalid", "/additionalProperties"), (2, "/\x1b", "/additionalProperties")], [], 1),
     ('{"items":{"properties":{"a":{"minimum":0}}}}', b'[{"a":0}]\n[{},{"a":-1}]', [(2, "/1/a", "/items/properties/a/minimum")], [], 1),
-    ('{"minimum":0}', b"0\n" * 20_000 + b"-1\n" + b"1", [(20_001, "", "/minimum")], [], 1),
+    # More lines than 16 bits count.
+    ('{"minimum":0}', b"0\n" * 70_000 + b"-1\n" + b"1", [(70_001, "", "/minimum")], [], 1),
+    ('{"minimum":0}', b"-1\n" * 70_000 + b"x\n", [(i + 1, "", "/minimum") for i in range(70_000)], ["line 70001, col 0: Invalid character: x"], 3),
 ]
 
 # What is printed of a value that is not valid, and told of a schema that can't be applied.
@@ -824,6 +833,13 @@ LONG_SCHEMAS = [
     # One schema for the whole, and three for each array in it: 199 where 67 are in one another, of 200.
     ('{"items":{"allOf":[{"$ref":"#"}]}}', "[" * 67 + "]" * 67, judged(None)),
     ('{"items":{"allOf":[{"$ref":"#"}]}}', "[" * 68 + "]" * 68, TOO_MANY),
+    # Where a number is in them, one schema less than may be, as many, and one more.
+    ('{"items":{"$ref":"#"}}', "[" * 99 + "1" + "]" * 99, judged(None)),
+    ('{"$ref":"#/$defs/a","$defs":{"a":{"items":{"$ref":"#/$defs/a"}}}}', "[" * 99 + "1" + "]" * 99, judged(None)),
+    ('{"items":{"$ref":"#"}}', "[" * 100 + "1" + "]" * 100, TOO_MANY),
+    ('{"items":{"allOf":[{"$ref":"#"}]}}', "[" * 66 + "1" + "]" * 66, judged(None)),
+    ('{"items":{"allOf":[{"$ref":"#"}]}}', "[" * 67 + "1" + "]" * 67, TOO_MANY),
+    ('{"type":["array","null"],"items":{"allOf":[{"$ref":"#"}]}}', "[" * 66 + "1" + "]" * 66, judged(("/0" * 66, "/items/allOf/0/$ref" * 66 + "/type"))),
     # The same by names.
     ('{"$dynamicAnchor":"a","items":{"allOf":[{"$dynamicRef":"#a"}]}}', "[" * 67 + "]" * 67, judged(None)),
     ('{"$anchor":"a","items":{"allOf":[{"$ref":"#a"}]}}', "[" * 68 + "]" * 68, TOO_MANY),
@@ -873,6 +889,24 @@ LONG_SCHEMAS = [
     ("[1,]", "1", reported(2, "json_schema", "the schema: Parse error at line:1, col:3: Invalid character: ]")),
     (NOT_UTF8, "1", reported(2, "json_schema", "the schema: stream did not contain valid UTF-8")),
 ]
+
+# How many rows are not padded, and why.
+UNPADDED_REFUSED = {"no keyword": 4}
+
+# Deep texts in what fails. The schema, the arguments, the input, and the answer.
+TOO_DEEP = "Parse error at line:1, col:%d: Nesting is too deep at '%s'"
+DEEP_FAILURES = [
+    ("{}", [], NESTED, reported(3, "json_schema", TOO_DEEP % (100, "["))),
+    ("{}", ["-l"], NESTED + b"\n1\n" + b'{"a":' * 100_000, (3, b"", told(["line 1, col 100: Nesting is too deep at '['", "line 3, col 500: Nesting is too deep at '{'"]))),
+    ("[" * 100_000 + "]" * 100_000, [], b"1", reported(2, "json_schema", "the schema: " + TOO_DEEP % (100, "["))),
+    ('{"items":' * 100_000 + "{}" + "}" * 100_000, [], b"1", reported(2, "json_schema", "the schema: " + TOO_DEEP % (900, "{"))),
+    ('{"$ref":"#%s"}' % ("/items" * 100_000), [], b"1", reported(2, "json_schema", NOT_APPLIED % "/$ref")),
+    ('{"$ref":"%s","$defs":{"a":{"$id":"a"}}}' % ("a/../" * 100_000), [], b"1", reported(2, "json_schema", NOT_APPLIED % "/$ref")),
+    ('{"pattern":"%s"}' % grouped(100_000), [], b"1", reported(2, "json_schema", ABOVE_LIMITS % "/pattern")),
+]
+
+# By lines: a value that is not valid, a line that can't be checked, and one that is valid, so many times in turn.
+TURNS = 300
 
 USAGE = reported(2, "json_schema", "usage: json_schema [-l] SCHEMA-FILE")
 
@@ -957,6 +991,57 @@ def check_lines(checks):
         checks.row(name, expected, checked, checks.folder, schema, ["-l"], given, at=row)
 
 
+def check_padded(checks):
+    """The same with 40 schemas more in each list, 40 names in each object of them, 40 members in each object that no pattern asks of,
+    and 40 items in each array whose items no schema judges. The values of a schema are the lines of one input."""
+    rows = KEYWORDS + REFERENCES + ANCHORS + RESOURCES + DYNAMIC
+    rows = [(row, schema, [*valid, *(value for value, *_ in others)]) for row in rows for schema, valid, others in [row]]
+    for row, (schema, values) in padded_rows(checks, "json_schema", rows, padded_values, {}):
+        _, valid, others = row
+        places = enumerate((places for _, *places in others), len(valid) + 1)
+        output = b"".join(unit_of(*place, line=number) for number, place in places)
+        name, expected = f"json_schema: padded {row[0][:60]}", (int(others != []), output, b"")
+        checks.row(name, expected, checked, checks.folder, schema, ["-l"], b"\n".join(values), at=row)
+    rows = [(row, row[0]) for row in REFUSED + REFUSED_REFERENCES + REFUSED_ANCHORS + REFUSED_RESOURCES]
+    for row, schema in padded_rows(checks, "json_schema, refused", rows, padded_refused, UNPADDED_REFUSED):
+        name, expected = f"json_schema: padded {row[0][:60]}", reported(2, "json_schema", NOT_APPLIED % row[1])
+        checks.row(name, expected, checked, checks.folder, schema, [], b"1", at=row)
+    for row, schema in padded_rows(checks, "json_schema, unknown", [(row, row[0]) for row in UNKNOWN], padded_refused, {}):
+        name, expected = f"json_schema: padded {row[0][:60]}", (0, b"", told(f'the schema: "{word}" is no keyword' for word in row[1]))
+        checks.row(name, expected, checked, checks.folder, schema, [], b"1", at=row)
+
+
+def check_padded_lines(checks):
+    rows = [(row, *row[:2]) for row in BY_LINES]
+    for row, (schema, given) in padded_rows(checks, "json_schema -l", rows, padded_lines, {"a large text": 2}):
+        _, _, reports, lines, status = row
+        output = b"".join(unit_of(instance, keyword, line=line) for line, instance, keyword in reports)
+        name, expected = f"json_schema: padded -l {row[0][:60]} {row[1][:60]}", (status, output, told(lines))
+        checks.row(name, expected, checked, checks.folder, schema, ["-l"], given, at=row)
+
+
+def check_deep(checks):
+    for row in DEEP_FAILURES:
+        schema, words, given, expected = row
+        name = f"json_schema: deep, {schema[:60]} {words} {given[:20]}"
+        checks.row(name, expected, checked, checks.folder, schema, words, given, at=row)
+
+
+def in_one_file(folder, words, given):
+    """The status, and what is written where standard output and standard error are one file."""
+    with open(os.path.join(folder, "one"), "w+b") as file:
+        status, _, _ = run_of(program("json_schema"), words, given, stdout=file, stderr=file)
+        file.seek(0)
+        return status, file.read()
+
+
+def check_order(checks):
+    """What is printed and what is told of lines in the order of these."""
+    each = (unit_of("", "/type", line=i) + told([f"line {i + 1}, col 3: Invalid character: ]"]) for i in range(1, 3 * TURNS, 3))
+    given = b'1\n[1,]\n{"id":1}\n' * TURNS
+    checks.row("json_schema: -l in one file", (3, b"".join(each)), in_one_file, checks.folder, ["-l", SCHEMA], given)
+
+
 def check_faults(checks):
     FAULTS.streams(checks, STREAMS)
     FAULTS.failing(checks, FAILING)
@@ -967,4 +1052,4 @@ def check_memory(checks):
     FAULTS.refusing(checks, REFUSED_MEMORY)
 
 
-PARTS = (*shared(check_rows), check_lines, check_faults, *shared(check_memory))
+PARTS = (*shared(check_rows), check_lines, check_padded, check_padded_lines, check_deep, check_order, check_faults, *shared(check_memory))

@@ -1,10 +1,14 @@
 """Rows of `json_store`: of each line how many equal values have come so far."""
 
 from faults import BROKEN, FOLDER, FULL, Faults
+from padding import padded_lines, padded_rows
 from running import printed, program, reported, run_of
-from values import CONTROLS, LONG, NESTED, QUOTED
+from values import CONTROLS, DEEP, LONG, NESTED, QUOTED
 
 FAULTS = Faults("json_store")
+
+# More lines than 16 bits count.
+MANY = 70_000
 
 # The lines, and the answer.
 LINES = [
@@ -14,8 +18,8 @@ LINES = [
     (b"1.0\n1\n\n", reported(1, "json_store", "line 3, col 0: Unexpected EOF", b"1 1\n2 1\n")),
     (b'1\n"\xff"\n[', reported(1, "json_store", "line 2: not UTF-8", b"1 1\n")),
     (NESTED, printed(b"1 " + NESTED)),
-    (b"".join(b"%d.0\n" % i for i in range(20_000)), printed(*[b"1 %d" % i for i in range(20_000)])),
-    (b'{"a":[]}\n' * 20_000, printed(*[b'%d {"a":[]}' % (i + 1) for i in range(20_000)])),
+    (b"".join(b"%d.0\n" % i for i in range(MANY)), printed(*[b"1 %d" % i for i in range(MANY)])),
+    (b'{"a":[]}\n' * MANY, printed(*[b'%d {"a":[]}' % (i + 1) for i in range(MANY)])),
     (LONG + b"\n" + LONG, printed(b"1 " + LONG, b"2 " + LONG)),
 ]
 
@@ -24,6 +28,17 @@ CLEAN = [
     (b'"' + CONTROLS + b'"', printed(b'1 "' + QUOTED + b'"')),
     (b"[\x1b]", reported(1, "json_store", "line 1, col 1: Invalid character: U+001B")),
 ]
+
+# How many rows are not padded, and why.
+UNPADDED = {"a large text": 4}
+
+# Deep lines in what fails, and where memory is refused.
+DEEP_FAILURES = [
+    ([], b"1\n" + NESTED + b"x\n2", reported(1, "json_store", "line 2, col 200001: Expected EOF but got character 'x'", b"1 1\n")),
+    ([], b"[1,]\n" + NESTED, reported(1, "json_store", "line 1, col 3: Invalid character: ]")),
+    ([], NESTED, (4, FULL)),
+]
+DEEP_MEMORY = [([], b'%s\n{"b":1,"a":%s}\n%s' % (DEEP, DEEP, DEEP))]
 
 # The arguments, an input, and the statuses and words where the input is not UTF-8, can't be read, and where the output can't be written.
 STREAMS = [([], b"1", (1, "line 1: not UTF-8"), (4, FOLDER), (4, FULL))]
@@ -44,6 +59,19 @@ def check_rows(checks):
         checks.row(f"json_store: {given[:60]}", expected, run_of, program("json_store"), [], given, at=row)
 
 
+def check_padded(checks):
+    """The same lines with 40 members more in each object, and 40 items in each array."""
+    rows = [(row, *row) for row in (*LINES, *CLEAN)]
+    pad = lambda given, expected: padded_lines(given, expected, prefix=rb"\d+ ")
+    for row, (given, expected) in padded_rows(checks, "json_store", rows, pad, UNPADDED):
+        checks.row(f"json_store: padded {row[0][:60]}", expected, run_of, program("json_store"), [], given, at=row)
+
+
+def check_deep(checks):
+    FAULTS.deep(checks, DEEP_FAILURES)
+    FAULTS.refusing_deep(checks, DEEP_MEMORY)
+
+
 def check_faults(checks):
     FAULTS.streams(checks, STREAMS)
     FAULTS.failing(checks, FAILING)
@@ -51,4 +79,4 @@ def check_faults(checks):
     FAULTS.refusing(checks, REFUSED_MEMORY)
 
 
-PARTS = (check_rows, check_faults)
+PARTS = (check_rows, check_padded, check_deep, check_faults)

@@ -15,8 +15,10 @@ import texts
 from checks import shared
 from crate_words import port_message
 from faults import CALLED_AGAIN, FAILED, Faults, each_failed, run
+from padding import normal, padded, tree_of
 from places import HERE
 from running import program, reported, run_of, small_stack
+from values import DEEP
 from whole import EOF, LEVELS, NESTED, Reader, as_items, inputs, inside_others, large, wide
 
 TEXT_READER = Reader("jsonnorm", [], 1)
@@ -67,6 +69,10 @@ WORDS = [
     *((["-d", str(limit)], text.encode(), limited(expected)) for text, limit, expected in texts.LIMITS),
     *((["-i"], text.encode(), written(lines.encode())) for text, lines in texts.INDENTED),
 ]
+
+# Deep values in what fails, and where memory is refused.
+DEEP_FAILURES = [([], b"[" * 100_000 + b"]" * 100_000, (4, "writing failed")), (["-i"], DEEP, (4, "writing failed"))]
+DEEP_MEMORY = [([], DEEP), ([], b'{"b":1,"a":%s}' % DEEP), (["-i"], DEEP[15_000:-15_000])]
 
 # Words that are not understood.
 UNKNOWN = [
@@ -295,6 +301,19 @@ def check_streams(checks):
         checks.row("jsonnorm: a refused text to a full standard error", (1, b"", b""), answer_of, [], b"", **untold)
 
 
+def check_padded_indented(checks):
+    """Indented texts with 40 members more in each object, and 40 items in each array."""
+    for row in texts.INDENTED:
+        tree = padded(tree_of(row[0]))
+        given, lines = row[0].replace("\n", " "), texts.laid_out(normal(tree).decode())
+        checks.row(f"jsonnorm: padded -i {given[:60]}", written(lines.encode()), answer_of, ["-i"], normal(tree), at=row)
+
+
+def check_deep(checks):
+    FAULTS.deep(checks, DEEP_FAILURES)
+    FAULTS.refusing_deep(checks, DEEP_MEMORY)
+
+
 def check_failing(checks):
     """Each read and each write fails once: then nothing is read or written after it."""
     text, compact, _ = large(SOME)
@@ -376,6 +395,9 @@ PARTS = (
     check_words,
     *shared(check_inputs),
     *shared(TEXT_READER.check_inputs),
+    TEXT_READER.check_padded,
+    check_padded_indented,
+    check_deep,
     *shared(check_cut_off),
     check_indented,
     check_depth,
