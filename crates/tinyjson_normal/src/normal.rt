@@ -109,10 +109,10 @@ impl NormalText {
             (encode_utf8_all (compact t) ++ line_feed ∷ []) result }
         ensures text { (t : Tree) → HasTree self.old t → HasTree self.new t }
     {
-        match &mut self.content {
-            Content::Text(bytes) => write_with_line_feed(out, bytes),
-            Content::Arena(arena) => arena.write_to(alloc, None, b"\n", out),
+        if let Content::Text(bytes) = &mut self.content {
+            return write_with_line_feed(out, bytes);
         }
+        self.write(alloc, None, b"\n", out)
     }
 
     /// Writes the text of the tree indented with two spaces, in UTF-8, and flushes nothing: the bytes that
