@@ -1,0 +1,56 @@
+//! Prints what a query of JSONPath selects in a document: a proved caller of `tinyjson_path`.
+#![tactic(auto)]
+
+mod error;
+
+ghost use Rattle.std.specs.Prelude.{◌≡◌, map, IfOk, IfErr};
+ghost use Rattle.tinyjson.specs.Words.{chars, text};
+ghost use Rattle.tinyjson_path.specs.Nodes.{parts_view};
+ghost use Rattle.example_path.specs.Texts.{part_texts, AreSelected, Explains};
+
+use error::TextsError;
+use std::alloc::Global;
+use std::io::{self, ErrorKind};
+use tinyjson::JsonValue;
+use tinyjson_path::{FindError, Node, Query, find};
+
+const DOCUMENT: &str =
+    r#"{"book": [{"title": "Emma", "price": 8.990}, {"title": "Ulysses", "price": 12}]}"#;
+
+/// The compact texts of the values that the query selects in the document, in order. The document may have
+/// up to 100 nested containers.
+fn texts(alloc: Global, document: &str, query: &str) -> Result<Vec<String>, TextsError>
+    ensures ok { IfOk result (λ texts.
+        AreSelected (chars document.now) (chars query.now) (map text texts.items)) }
+    ensures err { IfErr result (Explains (chars document.now) (chars query.now)) }
+{
+    let query = Query::parse(alloc, query)?;
+    let value = JsonValue::from_str_with_depth_limit(alloc, document, 100)?;
+    let nodes = find(&query, alloc, &value)?;
+    Ok(node_texts(alloc, nodes.as_slice())?)
+}
+
+/// The compact text of each node's value. The only error is out of memory.
+fn node_texts(alloc: Global, nodes: &[Node]) -> Result<Vec<String>, FindError>
+    ensures ok { IfOk result (λ texts. map text texts.items ≡ part_texts (parts_view nodes.now)) }
+    ensures err { IfErr result (λ e. e ≡ FindError.OutOfMemory) }
+{
+    let mut texts = Vec::new(alloc);
+    for node in nodes {
+        match node.value.stringify(alloc) {
+            Ok(text) => texts.push(text)?,
+            Err(_) => return Err(FindError::OutOfMemory),
+        }
+    }
+    Ok(texts)
+}
+
+fn main(rt: HostRuntime) -> io::Result<()> {
+    let Ok(texts) = texts(rt.alloc(), DOCUMENT, "$.book[?@.price < 10]") else {
+        return Err(io::Error::from(ErrorKind::InvalidData));
+    };
+    for text in texts.as_slice() {
+        println!(rt; "{text}")?;
+    }
+    Ok(())
+}
