@@ -39,7 +39,6 @@ pub fn same_indented()
 {}
 
 /// Two texts have one normal text exactly if they have one value.
-#[tactic(auto, using(crate::proofs::WritingLaws::same_normal))]
 pub fn same_normal()
     ensures { SameNormal }
 {}
