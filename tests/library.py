@@ -15,10 +15,13 @@ from running import program, run_of
 PROGRAMS = ("call_vectors",)
 
 # How many calls one run of the program answers.
-AT_ONCE = 5_000
+AT_ONCE = 1_000
 
 # The kinds of errors that come after the parser looked at a character that it did not consume.
 LOOKED_AHEAD = {"InvalidCharacter", "TooDeep", "EmptyInteger", "LeadingZero", "EmptyFraction", "EmptyExponent", "NumberOutOfRange"}
+
+# The kinds of errors of a character inside a token, where white space is no better than others.
+IN_TOKENS = {"InvalidHexDigit", "InvalidEscape", "UnexpectedInLiteral"}
 
 # The kinds of errors that a beginning of an accepted text may have.
 CUT_OFF = {"UnexpectedEof", "EmptyInteger", "EmptyFraction", "EmptyExponent"}
@@ -182,7 +185,7 @@ def check_shown(calls):
     """Each message that shows a character."""
     for row in texts.BEFORE_ANY:
         begin, column, kind = row
-        for c in texts.SHOWN:
+        for c in [*texts.SHOWN, *["\t"] * (kind in IN_TOKENS)]:
             add_reading(calls, row, begin + c, (1, column, kind, c))
     for c in ["\x00", "\t", "\x1f"]:
         add_reading(calls, None, f'"{c}', (1, 2, "ControlCharacter", c))
@@ -371,9 +374,10 @@ def check_writers(calls):
         words = written(["ok"], text, len(text.encode()))
         calls.add(row, call, built(value), "1", "", "", "", *indents, gives=words)
     # One that takes all it is given is called once for each text.
-    value, call, indents, text = rows.WRITERS[1]
+    row = rows.WRITERS[2]
+    value, call, indents, text = row
     words = written(["ok"] * 3, text * 3, 3)
-    calls.add(rows.WRITERS[1], call, built(value), "", "", "", "3", *indents, gives=words)
+    calls.add(row, call, built(value), "", "", "", "3", *indents, gives=words)
     for row in rows.AGAIN:
         value, chunk, text = row
         for failure in rows.FAILURES:

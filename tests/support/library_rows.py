@@ -163,6 +163,7 @@ QUOTED = [
 # A value, and its text as each call that writes to a writer writes it.
 NESTED = Read('[1,{"b":2,"a":[null,"x"]}]')
 WRITERS = [
+    ([True, None], "generate", [], "[true,null]"),
     (NESTED, "generate", [], '[1,{"a":[null,"x"],"b":2}]'),
     (NESTED, "generate", [""], '[\n1,\n{\n"a": [\nnull,\n"x"\n],\n"b": 2\n}\n]'),
     (NESTED, "write_to", [], '[1,{"a":[null,"x"],"b":2}]'),
@@ -240,6 +241,7 @@ WHOLE = [
     ("1e3", 1000, 1000),
     ("1.5", None, None),
     ("0", 0, 0),
+    ("42", 42, 42),
     ("-1200", -1200, None),
     ("-9223372036854775808", -(2**63), None),
     ("-9223372036854775809", None, None),

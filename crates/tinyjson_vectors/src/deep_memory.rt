@@ -1,6 +1,6 @@
 //! Deep values where memory runs out: what holds one is freed by a loop.
 //!
-//! With ample memory these tests pass as any do. `tools/refuse-allocations` runs each of them with all
+//! With ample memory these tests pass as any do. `tests/memory.py` runs each of them with all
 //! requests for memory refused from one on: then a test passes too, or it ends with the out of memory
 //! that a call returned.
 

@@ -1,8 +1,7 @@
 //! Answers where memory is refused.
 //!
-//! With ample memory these tests pass as any do. `tools/refuse-allocations` runs each of them with requests
-//! for memory refused: then a test passes too, or it ends with the out of memory that a call returned. It runs
-//! programs so too, which read texts and write values to the standard output.
+//! With ample memory these tests pass as any do. `tests/memory.py` runs each of them with requests
+//! for memory refused: then a test passes too, or it ends with the out of memory that a call returned.
 
 use crate::common::{Answer, agrees, is_answer, parsed, told};
 use crate::documentation::{COMPACT, DOCUMENT, INDENTED};
