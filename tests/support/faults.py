@@ -11,7 +11,7 @@ import signal
 import subprocess
 import tempfile
 
-from running import STACK, program, reported, run_of, run_small
+from running import LIMIT, STACK, program, reported, run_of, run_small
 
 HERE = os.path.dirname(os.path.abspath(__file__))
 
@@ -66,7 +66,7 @@ def run(words, given=b"", stack=None, **variables):
     variables = {name: str(value) for name, value in variables.items()}
     env = {**os.environ, "LD_PRELOAD": LIBRARY[0], **variables}
     least = stack and (lambda: resource.setrlimit(resource.RLIMIT_STACK, (stack, stack)))
-    return Ended(subprocess.run(words, input=given, env=env, preexec_fn=least, capture_output=True, timeout=120, check=False))
+    return Ended(subprocess.run(words, input=given, env=env, preexec_fn=least, capture_output=True, timeout=LIMIT, check=False))
 
 
 def each_failed(words, given, variable, error):

@@ -8,6 +8,9 @@ from places import TOP
 # The paths of programs that are built without proof, by name.
 UNPROVED = {}
 
+# The longest that a run takes, in seconds, on processors that others use too.
+LIMIT = 300
+
 # A stack that no recursion over many levels fits in.
 STACK = 256 * 1024
 
@@ -22,7 +25,10 @@ def run_of(path, words, given=b"", **how):
     if "stdin" not in how:
         how["input"] = given
     how = {"stdout": subprocess.PIPE, "stderr": subprocess.PIPE, **how}
-    ended = subprocess.run([path, *words], timeout=120, check=False, **how)
+    try:
+        ended = subprocess.run([path, *words], timeout=LIMIT, check=False, **how)
+    except subprocess.TimeoutExpired:
+        return None, b"", b"no answer in %d seconds" % LIMIT
     return ended.returncode, ended.stdout or b"", ended.stderr or b""
 
 
