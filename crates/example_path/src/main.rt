@@ -3,9 +3,12 @@
 
 mod error;
 
-ghost use Rattle.std.specs.Prelude.{◌≡◌, map, IfOk, IfErr};
-ghost use Rattle.tinyjson.specs.Words.{chars, text};
+ghost use Rattle.std.specs.Prelude.{◌≡◌, ◌++◌, map, IfOk, IfErr};
+ghost use Rattle.tinyjson.specs.Words.{chars, text, view};
 ghost use Rattle.tinyjson_path.specs.Nodes.{parts_view};
+ghost use Rattle.tinyjson_path.specs.Patterns.{judged};
+ghost use Rattle.tinyjson_path.specs.Queries.{query_parts};
+ghost use Rattle.tinyjson_path.specs.Strings.{query_strings, strings_in, IsFrom};
 ghost use Rattle.example_path.specs.Texts.{part_texts, AreSelected, Explains};
 
 use error::TextsError;
@@ -24,10 +27,34 @@ fn texts(alloc: Global, document: &str, query: &str) -> Result<Vec<String>, Text
         AreSelected (chars document.now) (chars query.now) (map text texts.items)) }
     ensures err { IfErr result (Explains (chars document.now) (chars query.now)) }
 {
-    let query = Query::parse(alloc, query)?;
-    let value = JsonValue::from_str_with_depth_limit(alloc, document, 100)?;
-    let nodes = find(&query, alloc, &value)?;
-    Ok(node_texts(alloc, nodes.as_slice())?)
+    let query = match Query::parse(alloc, query) {
+        Ok(query) => query,
+        Err(error) => return Err(TextsError::Query(error)),
+    };
+    match JsonValue::from_str_with_depth_limit(alloc, document, 100) {
+        Ok(value) => {
+            let texts = value_texts(alloc, &value, &query);
+            value.dismantle();
+            match texts {
+                Ok(texts) => Ok(texts),
+                Err(error) => Err(TextsError::Find(error)),
+            }
+        }
+        Err(error) => Err(TextsError::Document(error)),
+    }
+}
+
+/// The same of the document's value.
+fn value_texts(alloc: Global, value: &JsonValue, query: &Query) -> Result<Vec<String>, FindError>
+    ensures ok { IfOk result (λ texts. map text texts.items
+        ≡ part_texts (query_parts judged query.now (view value.now))) }
+    ensures err { IfErr result (IsFrom (query_strings query.now ++ strings_in (view value.now))) }
+{
+    let nodes = find(query, alloc, value)?;
+    match node_texts(alloc, nodes.as_slice()) {
+        Ok(texts) => Ok(texts),
+        Err(_) => Err(FindError::OutOfMemory),
+    }
 }
 
 /// The compact text of each node's value. The only error is out of memory.

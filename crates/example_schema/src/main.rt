@@ -1,10 +1,9 @@
 //! An example: is a value valid by a schema, and if not, where? Both are JSON texts.
 #![tactic(auto)]
 
-ghost use Rattle.std.specs.Prelude.{Some, Ok, IfOk, IfErr};
-ghost use Rattle.tinyjson.specs.Words.{Tree, IsText, chars};
-ghost use Rattle.tinyjson_schema.specs.Valid.{Validates};
-ghost use Rattle.example_schema.specs.Failures.{IsFailure};
+ghost use Rattle.std.specs.Prelude.{Some, IfOk, IfErr};
+ghost use Rattle.tinyjson.specs.Words.{Tree, IsText, chars, view};
+ghost use Rattle.example_schema.specs.Failures.{IsFailure, IsFailureBy, IsJudged};
 
 mod failure;
 
@@ -17,21 +16,40 @@ use tinyjson_schema::{Schema, Violation};
 /// The place in the schema, and the place in the value that does not meet it; `None` says that the value is valid.
 /// Texts are nested up to 100 levels deep, and up to 200 schemas apply one another.
 fn invalid_place(alloc: Global, schema: &str, value: &str) -> Result<Option<Violation>, Failure>
-    ensures ok { IfOk result (λ place. (s : Tree) × (t : Tree)
-        × IsText (Some 100) (chars schema.now) s × IsText (Some 100) (chars value.now) t
-        × Validates 200 s t (Ok place)) }
+    ensures ok { IfOk result (λ place. (s : Tree) × IsText (Some 100) (chars schema.now) s
+        × IsJudged s (chars value.now) place) }
     ensures err { IfErr result (IsFailure (chars schema.now) (chars value.now)) }
 {
-    let tree = JsonValue::from_str_with_depth_limit(alloc, schema, 100).map_err(
-        Failure::SchemaText,
-    )?;
-    let schema = Schema::read(&tree, alloc).map_err(Failure::Schema)?;
-    let value = JsonValue::from_str_with_depth_limit(alloc, value, 100).map_err(
-        Failure::ValueText,
-    )?;
-    schema
-        .invalid_place(&value, 200, alloc)
-        .map_err(Failure::Check)
+    match JsonValue::from_str_with_depth_limit(alloc, schema, 100) {
+        Ok(tree) => {
+            let answer = place_by(alloc, &tree, value);
+            tree.dismantle();
+            answer
+        }
+        Err(error) => Err(Failure::SchemaText(error)),
+    }
+}
+
+/// The same by the schema's value.
+fn place_by(alloc: Global, tree: &JsonValue, value: &str) -> Result<Option<Violation>, Failure>
+    ensures ok { IfOk result (IsJudged (view tree.now) (chars value.now)) }
+    ensures err { IfErr result (IsFailureBy (view tree.now) (chars value.now)) }
+{
+    let schema = match Schema::read(tree, alloc) {
+        Ok(schema) => schema,
+        Err(error) => return Err(Failure::Schema(error)),
+    };
+    match JsonValue::from_str_with_depth_limit(alloc, value, 100) {
+        Ok(value) => {
+            let answer = schema.invalid_place(&value, 200, alloc);
+            value.dismantle();
+            match answer {
+                Ok(place) => Ok(place),
+                Err(error) => Err(Failure::Check(error)),
+            }
+        }
+        Err(error) => Err(Failure::ValueText(error)),
+    }
 }
 
 fn main(rt: HostRuntime) -> io::Result<()> {
