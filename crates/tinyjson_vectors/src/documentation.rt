@@ -135,7 +135,7 @@ fn a_place_is_read_and_written(rt: HostRuntime) -> Result<(), Fail> {
 }
 
 #[test]
-fn members_and_items_by_operators(rt: HostRuntime) -> Result<(), Fail> {
+fn a_member_by_an_operator(rt: HostRuntime) -> Result<(), Fail> {
     let alloc = rt.alloc();
     let mut m = HashMap::new(alloc);
     let foo = JsonNumber::from_i64(alloc, 1)?;
@@ -144,7 +144,12 @@ fn members_and_items_by_operators(rt: HostRuntime) -> Result<(), Fail> {
     assert!(rt; v.member("foo").is_some());
     let i = &v["foo"];
     assert!(rt; *i == JsonValue::Number(JsonNumber::from_i64(alloc, 1)?));
+    Ok(())
+}
 
+#[test]
+fn a_member_set_by_an_operator(rt: HostRuntime) -> Result<(), Fail> {
+    let alloc = rt.alloc();
     let mut m = HashMap::new(alloc);
     let foo = JsonNumber::from_i64(alloc, 1)?;
     m.insert("foo".to_string(alloc)?, JsonValue::from(foo))?;
@@ -153,7 +158,12 @@ fn members_and_items_by_operators(rt: HostRuntime) -> Result<(), Fail> {
     v["foo"] = JsonValue::Number(JsonNumber::from_text(alloc, "3.14")?);
     assert!(rt; v.member("foo").is_some());
     assert!(rt; v["foo"] == JsonValue::Number(JsonNumber::from_text(alloc, "3.14")?));
+    Ok(())
+}
 
+#[test]
+fn items_by_operators(rt: HostRuntime) -> Result<(), Fail> {
+    let alloc = rt.alloc();
     let items = vec![in alloc;
         JsonValue::from(JsonNumber::from_i64(alloc, 1)?),
         JsonValue::from(true),
