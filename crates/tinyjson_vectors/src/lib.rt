@@ -7,11 +7,7 @@ mod common;
 pub mod conversions;
 #[cfg(test)]
 mod deep_memory;
-#[cfg(test)]
-mod documentation;
 pub mod equality;
-#[cfg(test)]
-mod examples;
 #[cfg(test)]
 mod growth;
 #[cfg(test)]

@@ -4,7 +4,6 @@
 //! for memory refused: then a test passes too, or it ends with the out of memory that a call returned.
 
 use crate::common::{Answer, agrees, is_answer, parsed, told};
-use crate::documentation::{COMPACT, DOCUMENT, INDENTED};
 use std::alloc::{AllocError, Global};
 use std::collections::HashMap;
 use std::io::ErrorKind;
@@ -14,6 +13,48 @@ use tinyjson::{
     JsonGenerateResult, JsonGenerator, JsonKind, JsonNumber, JsonNumberError, JsonParseError,
     JsonParseErrorKind as Kind, JsonParseResult, JsonParser, JsonValue, check, insert_member,
 };
+
+/// The first example of RFC 8259, section 13.
+const DOCUMENT: &str = r#"
+    {
+      "Image": {
+          "Width":  800,
+          "Height": 600,
+          "Title":  "View from 15th Floor",
+          "Thumbnail": {
+              "Url":    "http://www.example.com/image/481989943",
+              "Height": 125,
+              "Width":  100
+          },
+          "Animated" : false,
+          "IDs": [116, 943, 234, 38793]
+        }
+    }
+"#;
+
+const COMPACT: &str = "{\"Image\":{\"Animated\":false,\"Height\":600,\"IDs\":[116,943,234,38793],\
+    \"Thumbnail\":{\"Height\":125,\"Url\":\"http://www.example.com/image/481989943\",\"Width\":100},\
+    \"Title\":\"View from 15th Floor\",\"Width\":800}}";
+
+const INDENTED: &str = "{
+  \"Image\": {
+    \"Animated\": false,
+    \"Height\": 600,
+    \"IDs\": [
+      116,
+      943,
+      234,
+      38793
+    ],
+    \"Thumbnail\": {
+      \"Height\": 125,
+      \"Url\": \"http://www.example.com/image/481989943\",
+      \"Width\": 100
+    },
+    \"Title\": \"View from 15th Floor\",
+    \"Width\": 800
+  }
+}";
 
 const TEXTS: &[(&str, Answer)] = &[
     (DOCUMENT, Answer::Text(COMPACT)),

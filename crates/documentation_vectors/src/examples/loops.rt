@@ -1,7 +1,7 @@
 //! A loop over a vector that is taken by value.
 ghost use Rattle.std.specs.Prelude.{◌≡◌};
 ghost use Rattle.tinyjson.specs.View.{items_view};
-ghost use Rattle.tinyjson_vectors.specs.Nulls.{all_null};
+ghost use Rattle.documentation_vectors.specs.Nulls.{all_null};
 
 use std::test::Fail;
 use tinyjson::JsonValue;

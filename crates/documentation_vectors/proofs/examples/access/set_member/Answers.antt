@@ -4,7 +4,7 @@ use Rattle.std.specs.Str.{chars}
 use Rattle.tinyjson.proofs.Callers.{tree_write}
 use Rattle.tinyjson.specs.Index.{with_tree_at_key}
 use Rattle.tinyjson.specs.View.{view}
-use Rattle.tinyjson_vectors.proofs.examples.access.set_member.Goals as goal
+use Rattle.documentation_vectors.proofs.examples.access.set_member.Goals as goal
 
 pub returns : goal.returns
 returns c =

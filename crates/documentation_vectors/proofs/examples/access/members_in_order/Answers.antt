@@ -3,7 +3,7 @@ use Rattle.std.specs.Str.{chars}
 use Rattle.tinyjson.specs.View.{text, members_view, members_listed}
 use Rattle.tinyjson.specs.declared.value.JsonValue.{JsonValue}
 use Rattle.tinyjson.specs.Tree.{Tree, Members, no_members, member, put}
-use Rattle.tinyjson_vectors.proofs.examples.access.members_in_order.Goals as goal
+use Rattle.documentation_vectors.proofs.examples.access.members_in_order.Goals as goal
 
 -- how many members there are
 count : Members → ℕ

@@ -1,5 +1,5 @@
 use Rattle.std.proofs.Common.{refl, arith}
-use Rattle.tinyjson_vectors.proofs.examples.numbers.known_parts.Goals as goal
+use Rattle.documentation_vectors.proofs.examples.numbers.known_parts.Goals as goal
 
 pub from_parts-requires-clause-numeral : goal.from_parts-requires-clause-numeral
 from_parts-requires-clause-numeral g c = record {

@@ -1,10 +1,10 @@
 use Rattle.std.proofs.Common.{rules, ◌≡◌, ◌&&◌, true, sym, ap, ◌∙◌}
 use Rattle.std.specs.Vec.Iter.{into_iter_items}
-use Rattle.tinyjson_vectors.specs.Nulls.{all_null}
+use Rattle.documentation_vectors.specs.Nulls.{all_null}
 use Rattle.tinyjson.proofs.Callers.{is_null_view, left_next}
 use Rattle.tinyjson.specs.Access.{is_null}
 use Rattle.tinyjson.specs.View.{items_view, view}
-use Rattle.tinyjson_vectors.proofs.examples.loops.are_null.Goals as goal
+use Rattle.documentation_vectors.proofs.examples.loops.are_null.Goals as goal
 
 pub loop-item-preserved : goal.loop-item-preserved
 loop-item-preserved c =

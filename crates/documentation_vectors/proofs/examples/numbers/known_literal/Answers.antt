@@ -1,5 +1,5 @@
 use Rattle.std.proofs.Common.{[], ◌∷◌, false, refl, arith, None}
-use Rattle.tinyjson_vectors.proofs.examples.numbers.known_literal.Goals as goal
+use Rattle.documentation_vectors.proofs.examples.numbers.known_literal.Goals as goal
 
 pub from_literal-requires : goal.from_literal-requires
 from_literal-requires g c = (

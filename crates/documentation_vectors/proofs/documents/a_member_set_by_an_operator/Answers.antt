@@ -1,7 +1,7 @@
 use Rattle.std.proofs.Common.{◌≡◌, true, Option, Some, None, IsSome, option_map, refl, sym, subst, ◌∙◌}
 use Rattle.std.specs.Option.{is_some}
 use Rattle.std.proofs.lemmas.Bool.{false≢true}
-use Rattle.tinyjson_vectors.proofs.documentation.a_member_set_by_an_operator.Goals as goal
+use Rattle.documentation_vectors.proofs.documents.a_member_set_by_an_operator.Goals as goal
 
 -- what is there is there as it is seen
 seen : {A B : Type 0} (f : A → B) (o : Option A) → is_some o ≡ true → IsSome (option_map f o)
