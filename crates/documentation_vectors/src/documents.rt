@@ -144,6 +144,7 @@ fn a_member_by_an_operator(rt: HostRuntime) -> Result<(), Fail> {
     assert!(rt; v.member("foo").is_some());
     let i = &v["foo"];
     assert!(rt; *i == JsonValue::Number(JsonNumber::from_i64(alloc, 1)?));
+    v.dismantle();
     Ok(())
 }
 

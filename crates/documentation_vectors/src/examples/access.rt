@@ -70,10 +70,17 @@ fn members_that_are_put(rt: HostRuntime) -> Result<(), Fail> {
     insert_member(&mut members, "foo".to_string(alloc)?, JsonValue::from(true))?;
     let value = JsonValue::from(members);
     assert_eq!(rt; value.stringify(alloc)?.as_str(), "{\"foo\":true}");
+    value.dismantle();
+    Ok(())
+}
 
-    let mut value = value;
+#[test]
+fn members_that_are_set(rt: HostRuntime) -> Result<(), Fail> {
+    let alloc = rt.alloc();
+    let mut value = JsonValue::from_str(alloc, "{\"foo\":true}")?;
     assert!(rt; set_member(&mut value, "foo", JsonValue::Null) == Some(JsonValue::from(true)));
     assert!(rt; set_member(&mut value, "bar", JsonValue::Null).is_none());
+    value.dismantle();
     Ok(())
 }
 

@@ -59,5 +59,7 @@ fn members_that_are_replaced(rt: HostRuntime) -> Result<(), Fail> {
         assert!(rt; old.is_null());
     }
     assert!(rt; object == value);
+    object.dismantle();
+    value.dismantle();
     Ok(())
 }
