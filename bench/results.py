@@ -7,6 +7,7 @@ import os
 import pathlib
 import platform
 import subprocess
+import textwrap
 from xml.sax.saxutils import escape
 
 HERE = pathlib.Path(__file__).resolve().parent
@@ -110,6 +111,12 @@ def growth(title, rows, names):
             yield f"{less.name} to {count}: {', '.join(times)}"
 
 
+def wrapped(part):
+    """The part with its lines broken at 100 columns, apart from tables."""
+    lines = part.splitlines()
+    return "\n".join(line if line.startswith("|") else textwrap.fill(line, 100, break_on_hyphens=False) for line in lines)
+
+
 def document(tables, names, runs):
     """The page of results; the tables are lists of rows, by their titles."""
     parts = ["# Times beside the original crate", "Written by `bench/run`.", heading(runs), "![Times as fast](results.svg)"]
@@ -120,7 +127,7 @@ def document(tables, names, runs):
             below = [f"{row.name} {row.speed(name):.2f} (memory {row.memory(name):.2f})" for row in slower(rows, name)]
             if below:
                 parts.append(f"Of `{name}` slower than the original: " + "; ".join(below) + ".")
-    return "\n\n".join(parts) + "\n"
+    return "\n\n".join(wrapped(part) for part in parts) + "\n"
 
 
 # ---- the picture
