@@ -12,7 +12,8 @@ use Rattle.tinyjson_path.specs.Nodes.{Part}
 use Rattle.tinyjson_path.specs.Selecting.{items_in, tree_at_place}
 use Rattle.tinyjson_path.specs.Slices.{place_of}
 use Rattle.tinyjson_path_query.specs.declared.query.ComparisonOperator.{ComparisonOperator}
-use Rattle.tinyjson_path_query.specs.declared.query.ComparisonOperator.TheVariants.{Equal, NotEqual, Less, LessOrEqual, Greater, GreaterOrEqual}
+use Rattle.tinyjson_path_query.specs.declared.query.ComparisonOperator.TheVariants.{Equal, NotEqual, Less, LessOrEqual}
+use Rattle.tinyjson_path_query.specs.declared.query.ComparisonOperator.TheVariants.{Greater, GreaterOrEqual}
 use Rattle.tinyjson_path_query.specs.declared.query.Literal.{Literal}
 use Rattle.tinyjson_path_query.specs.declared.query.Literal.TheVariants as literal
 use Rattle.tinyjson_path_query.specs.declared.query.Origin.{Origin}

@@ -8,12 +8,14 @@ use Rattle.tinyjson.specs.Characters.{quotation_mark, reverse_solidus, decimal_p
 use Rattle.tinyjson.specs.Characters.{is_hex, is_high, is_low, pair_of}
 use Rattle.tinyjson.specs.Number.{Decimal}
 use Rattle.tinyjson_path_query.specs.declared.query.ComparisonOperator.{ComparisonOperator}
-use Rattle.tinyjson_path_query.specs.declared.query.ComparisonOperator.TheVariants.{Equal, NotEqual, Less, LessOrEqual, Greater, GreaterOrEqual}
+use Rattle.tinyjson_path_query.specs.declared.query.ComparisonOperator.TheVariants.{Equal, NotEqual, Less, LessOrEqual}
+use Rattle.tinyjson_path_query.specs.declared.query.ComparisonOperator.TheVariants.{Greater, GreaterOrEqual}
 use Rattle.tinyjson_path_query.specs.declared.query.Origin.{Origin}
 use Rattle.tinyjson_path_query.specs.declared.query.Origin.TheVariants.{Root, CurrentNode}
 use Rattle.tinyjson_path_query.specs.declared.query.PatternFunction.{PatternFunction}
 use Rattle.tinyjson_path_query.specs.declared.query.PatternFunction.TheVariants.{Match, Search}
-use Rattle.tinyjson_path_query.specs.Forms.{PlainSelector, name, wildcard, index, slice, Selector, plain, filter, Segment, child, descendant}
+use Rattle.tinyjson_path_query.specs.Forms.{PlainSelector, name, wildcard, index, slice, Selector, plain, filter}
+use Rattle.tinyjson_path_query.specs.Forms.{Segment, child, descendant}
 use Rattle.tinyjson_path_query.specs.Forms.{Operand, parenthesized, test, Function, Comparable, literal, singular}
 use Rattle.tinyjson_path_query.specs.Forms.{Basic, affirmed, negated, comparison, Expression, Argument}
 use Rattle.tinyjson_path_query.specs.Forms as form

@@ -12,7 +12,8 @@ use Rattle.tinyjson.specs.Characters.{is_hex, is_high, is_low, is_surrogate, pai
 use Rattle.tinyjson.specs.Characters.{plus_sign, letter_e, capital_e}
 use Rattle.tinyjson.specs.Number.{Decimal, IsNumberText}
 use Rattle.tinyjson_path_query.specs.declared.query.ComparisonOperator.{ComparisonOperator}
-use Rattle.tinyjson_path_query.specs.declared.query.ComparisonOperator.TheVariants.{Equal, NotEqual, Less, LessOrEqual, Greater, GreaterOrEqual}
+use Rattle.tinyjson_path_query.specs.declared.query.ComparisonOperator.TheVariants.{Equal, NotEqual, Less, LessOrEqual}
+use Rattle.tinyjson_path_query.specs.declared.query.ComparisonOperator.TheVariants.{Greater, GreaterOrEqual}
 use Rattle.tinyjson_path_query.specs.declared.query.Origin.{Origin}
 use Rattle.tinyjson_path_query.specs.declared.query.Origin.TheVariants.{Root, CurrentNode}
 use Rattle.tinyjson_path_query.specs.declared.query.PatternFunction.{PatternFunction}
