@@ -58,14 +58,11 @@ impl Query {
 }
 
 /// The characters of a text.
+#[tactic(auto, using(std::proofs::lemmas::Str::chars_from_encodes))]
 fn characters(alloc: Global, text: &str) -> Result<Vec<char>, AllocError>
     ensures { IfOk result (λ v. v.items ≡ chars text.now) }
 {
-    let mut all = Vec::new(alloc);
-    for c in text.chars() {
-        all.push(c)?;
-    }
-    Ok(all)
+    text.chars().collect(alloc)
 }
 
 /// Reads a whole query, in which so many expressions and values passed to functions may stand in each other.
