@@ -116,12 +116,14 @@ impl Pattern {
 /// The patterns of a query that were read so far, in the order of their bytes.
 #[derive(Drop)]
 pub(crate) struct Patterns {
+    alloc: Global,
     kept: Vec<Pattern>,
 }
 
 impl Patterns {
     pub(crate) fn new(alloc: Global) -> Patterns {
         Patterns {
+            alloc,
             kept: Vec::new(alloc),
         }
     }
@@ -132,7 +134,6 @@ impl Patterns {
     #[inline(never)]
     pub(crate) fn test(
         &mut self,
-        alloc: Global,
         function: PatternFunction,
         is_kept: bool,
         value: Option<Operand>,
@@ -144,9 +145,7 @@ impl Patterns {
             (IsFrom (strings_at (option_map operand_tree pattern.entry))) }
     {
         let answer = match (value_of(&value), value_of(&pattern)) {
-            (Some(value), Some(pattern)) => self.of_values(
-                alloc, function, is_kept, value, pattern,
-            ),
+            (Some(value), Some(pattern)) => self.of_values(function, is_kept, value, pattern),
             _ => Ok(false),
         };
         release(value);
@@ -156,7 +155,6 @@ impl Patterns {
 
     fn of_values(
         &mut self,
-        alloc: Global,
         function: PatternFunction,
         is_kept: bool,
         value: &JsonValue,
@@ -168,7 +166,7 @@ impl Patterns {
     {
         match (value, pattern) {
             (JsonValue::String(value), JsonValue::String(pattern)) => {
-                Ok(self.of_strings(alloc, function, is_kept, value.as_str(), pattern.as_str())?)
+                Ok(self.of_strings(function, is_kept, value.as_str(), pattern.as_str())?)
             }
             _ => Ok(false),
         }
@@ -178,7 +176,6 @@ impl Patterns {
     #[inline(never)]
     fn of_strings(
         &mut self,
-        alloc: Global,
         function: PatternFunction,
         is_kept: bool,
         value: &str,
@@ -189,7 +186,7 @@ impl Patterns {
         ensures err { IfErr result (IsFrom (chars pattern.now ∷ [])) }
     {
         if !is_kept {
-            let mut read = Pattern::read(alloc, pattern)?;
+            let mut read = Pattern::read(self.alloc, pattern)?;
             return Ok(read.holds(function, value));
         }
         let place = self.place(pattern);
@@ -198,7 +195,7 @@ impl Patterns {
                 return Ok(kept.holds(function, value));
             }
         }
-        let mut read = Pattern::read(alloc, pattern)?;
+        let mut read = Pattern::read(self.alloc, pattern)?;
         let holds = read.holds(function, value);
         self.kept.insert(place, read)?;
         Ok(holds)

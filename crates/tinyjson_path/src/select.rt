@@ -48,273 +48,269 @@ pub fn find<'v>(
         ≡ query_parts judged query.now (view value.now)) }
     ensures err { IfErr result (IsFrom (query_strings query.now ++ strings_in (view value.now))) }
 {
-    let mut patterns = Patterns::new(alloc);
-    find_from(
-        query.segments.as_slice(),
+    let mut finder = Finder {
         alloc,
-        value,
-        value,
-        &mut patterns,
-    )
+        patterns: Patterns::new(alloc),
+    };
+    finder.find_from(query.segments.as_slice(), value, value)
 }
 
-/// What the segments select, one after the other, from a value on.
-#[cycle(selecting)]
-fn find_from<'v>(
-    segments: &[Segment],
+/// The state of an evaluation.
+#[derive(Drop)]
+struct Finder {
     alloc: Global,
-    root: &'v JsonValue,
-    value: &'v JsonValue,
-    patterns: &mut Patterns,
-) -> Result<Vec<Node<'v>>, FindError>
-    ensures ok { IfOk result (λ v. parts_view v.items
-        ≡ found_by segments.now (view root.now) (view value.now)) }
-    ensures err { IfErr result (IsFromAny (segments_strings segments.now) (view root.now)
-        (strings_in (view value.now))) }
-{
-    let mut nodes = Vec::new(alloc);
-    nodes.push(Node::root(alloc, value)?)?;
-    for segment in segments {
-        nodes = apply(segment, alloc, root, nodes.as_slice(), patterns)?;
-    }
-    Ok(nodes)
+    patterns: Patterns,
 }
 
-/// What the segment selects from each of the nodes.
-#[cycle(selecting)]
-fn apply<'v>(
-    segment: &Segment,
-    alloc: Global,
-    root: &'v JsonValue,
-    nodes: &[Node<'v>],
-    patterns: &mut Patterns,
-) -> Result<Vec<Node<'v>>, FindError>
-    ensures ok { IfOk result (λ v. parts_view v.items
-        ≡ from_each (segment_parts segment.now (view root.now)) (parts_view nodes.now)) }
-    ensures err { IfErr result (IsFromAny (segment_strings segment.now) (view root.now)
-        (strings_of (parts_view nodes.now))) }
-{
-    let mut selected = Vec::new(alloc);
-    for node in nodes {
-        select_from(segment, alloc, root, node, &mut selected, patterns)?;
-    }
-    Ok(selected)
-}
-
-#[cycle(selecting)]
-fn select_from<'v>(
-    segment: &Segment,
-    alloc: Global,
-    root: &'v JsonValue,
-    node: &Node<'v>,
-    selected: &mut Vec<Node<'v>>,
-    patterns: &mut Patterns,
-) -> Result<(), FindError>
-    ensures ok { OnOk result (parts_view selected.new.items ≡ parts_view selected.old.items
-        ++ segment_parts segment.now (view root.now) (part_view node.now)) }
-    ensures err { IfErr result (IsFromAny (segment_strings segment.now) (view root.now)
-        (strings_in (view node.now.value.now))) }
-{
-    match segment {
-        Segment::Child(selectors) => {
-            select_each(selectors.as_slice(), alloc, root, node, selected, patterns)
+impl Finder {
+    /// What the segments select, one after the other, from a value on.
+    #[cycle(selecting)]
+    fn find_from<'v>(
+        &mut self,
+        segments: &[Segment],
+        root: &'v JsonValue,
+        value: &'v JsonValue,
+    ) -> Result<Vec<Node<'v>>, FindError>
+        ensures ok { IfOk result (λ v. parts_view v.items
+            ≡ found_by segments.now (view root.now) (view value.now)) }
+        ensures err { IfErr result (IsFromAny (segments_strings segments.now) (view root.now)
+            (strings_in (view value.now))) }
+    {
+        let mut nodes = Vec::new(self.alloc);
+        nodes.push(Node::root(self.alloc, value)?)?;
+        for segment in segments {
+            nodes = self.apply(segment, root, nodes.as_slice())?;
         }
-        Segment::Descendant(selectors) => {
-            descend(selectors.as_slice(), alloc, root, node, selected, patterns)
+        Ok(nodes)
+    }
+
+    /// What the segment selects from each of the nodes.
+    #[cycle(selecting)]
+    fn apply<'v>(
+        &mut self,
+        segment: &Segment,
+        root: &'v JsonValue,
+        nodes: &[Node<'v>],
+    ) -> Result<Vec<Node<'v>>, FindError>
+        ensures ok { IfOk result (λ v. parts_view v.items
+            ≡ from_each (segment_parts segment.now (view root.now)) (parts_view nodes.now)) }
+        ensures err { IfErr result (IsFromAny (segment_strings segment.now) (view root.now)
+            (strings_of (parts_view nodes.now))) }
+    {
+        let mut selected = Vec::new(self.alloc);
+        for node in nodes {
+            self.select_from(segment, root, node, &mut selected)?;
         }
+        Ok(selected)
     }
-}
 
-/// From the node and each of its descendants, which wait on a stack.
-#[cycle(selecting)]
-fn descend<'v>(
-    selectors: &[Selector],
-    alloc: Global,
-    root: &'v JsonValue,
-    node: &Node<'v>,
-    selected: &mut Vec<Node<'v>>,
-    patterns: &mut Patterns,
-) -> Result<(), FindError>
-    ensures ok { OnOk result (parts_view selected.new.items ≡ parts_view selected.old.items
-        ++ from_each (selected_by selectors.now (view root.now))
-        (visited (path_of node.now) (view node.now.value.now))) }
-    ensures err { IfErr result (IsFromAny (selectors_strings selectors.now) (view root.now)
-        (strings_in (view node.now.value.now))) }
-{
-    let mut waiting = Vec::new(alloc);
-    waiting.push(node.try_clone()?)?;
-    while let Some(node) = waiting.pop() {
-        select_each(selectors, alloc, root, &node, selected, patterns)?;
-        push_reversed(children(alloc, &node)?, &mut waiting)?;
-    }
-    Ok(())
-}
-
-#[cycle(selecting)]
-fn select_each<'v>(
-    selectors: &[Selector],
-    alloc: Global,
-    root: &'v JsonValue,
-    node: &Node<'v>,
-    selected: &mut Vec<Node<'v>>,
-    patterns: &mut Patterns,
-) -> Result<(), FindError>
-    ensures ok { OnOk result (parts_view selected.new.items ≡ parts_view selected.old.items
-        ++ selected_by selectors.now (view root.now) (part_view node.now)) }
-    ensures err { IfErr result (IsFromAny (selectors_strings selectors.now) (view root.now)
-        (strings_in (view node.now.value.now))) }
-{
-    for selector in selectors {
-        select(selector, alloc, root, node, selected, patterns)?;
-    }
-    Ok(())
-}
-
-#[cycle(selecting)]
-fn select<'v>(
-    selector: &Selector,
-    alloc: Global,
-    root: &'v JsonValue,
-    node: &Node<'v>,
-    selected: &mut Vec<Node<'v>>,
-    patterns: &mut Patterns,
-) -> Result<(), FindError>
-    ensures ok { OnOk result (parts_view selected.new.items ≡ parts_view selected.old.items
-        ++ selector_parts selector.now (view root.now) (part_view node.now)) }
-    ensures err { IfErr result (IsFromAny (selector_strings selector.now) (view root.now)
-        (strings_in (view node.now.value.now))) }
-{
-    match selector {
-        Selector::Name(name) => push_named(alloc, node, name.as_str(), selected)?,
-        Selector::Wildcard => push_children(alloc, node, selected)?,
-        Selector::Index(index) => push_indexed(alloc, node, *index, selected)?,
-        Selector::Slice { start, end, step } => {
-            push_slice(alloc, node, *start, *end, *step, selected)?
-        }
-        Selector::Filter(expression) => {
-            push_kept(expression, alloc, root, node, selected, patterns)?
+    #[cycle(selecting)]
+    fn select_from<'v>(
+        &mut self,
+        segment: &Segment,
+        root: &'v JsonValue,
+        node: &Node<'v>,
+        selected: &mut Vec<Node<'v>>,
+    ) -> Result<(), FindError>
+        ensures ok { OnOk result (parts_view selected.new.items ≡ parts_view selected.old.items
+            ++ segment_parts segment.now (view root.now) (part_view node.now)) }
+        ensures err { IfErr result (IsFromAny (segment_strings segment.now) (view root.now)
+            (strings_in (view node.now.value.now))) }
+    {
+        match segment {
+            Segment::Child(selectors) => {
+                self.select_each(selectors.as_slice(), root, node, selected)
+            }
+            Segment::Descendant(selectors) => {
+                self.descend(selectors.as_slice(), root, node, selected)
+            }
         }
     }
-    Ok(())
-}
 
-/// The children of which the expression holds (RFC 9535, 2.3.5).
-#[cycle(selecting)]
-fn push_kept<'v>(
-    expression: &Expression,
-    alloc: Global,
-    root: &'v JsonValue,
-    node: &Node<'v>,
-    selected: &mut Vec<Node<'v>>,
-    patterns: &mut Patterns,
-) -> Result<(), FindError>
-    ensures ok { OnOk result (parts_view selected.new.items ≡ parts_view selected.old.items
-        ++ kept (holds_of expression.now (view root.now))
-        (children (path_of node.now) (view node.now.value.now))) }
-    ensures err { IfErr result (IsFromAny (expression_strings expression.now) (view root.now)
-        (strings_in (view node.now.value.now))) }
-{
-    let children = children(alloc, node)?;
-    for child in children.as_slice() {
-        if holds(expression, alloc, root, child.value, patterns)? {
-            selected.push(child.try_clone()?)?;
+    /// From the node and each of its descendants, which wait on a stack.
+    #[cycle(selecting)]
+    fn descend<'v>(
+        &mut self,
+        selectors: &[Selector],
+        root: &'v JsonValue,
+        node: &Node<'v>,
+        selected: &mut Vec<Node<'v>>,
+    ) -> Result<(), FindError>
+        ensures ok { OnOk result (parts_view selected.new.items ≡ parts_view selected.old.items
+            ++ from_each (selected_by selectors.now (view root.now))
+            (visited (path_of node.now) (view node.now.value.now))) }
+        ensures err { IfErr result (IsFromAny (selectors_strings selectors.now) (view root.now)
+            (strings_in (view node.now.value.now))) }
+    {
+        let mut waiting = Vec::new(self.alloc);
+        waiting.push(node.try_clone()?)?;
+        while let Some(node) = waiting.pop() {
+            self.select_each(selectors, root, &node, selected)?;
+            push_reversed(children(self.alloc, &node)?, &mut waiting)?;
         }
+        Ok(())
     }
-    Ok(())
-}
 
-/// Whether the expression holds of the value.
-#[cycle(selecting)]
-fn holds<'v>(
-    expression: &Expression,
-    alloc: Global,
-    root: &'v JsonValue,
-    here: &'v JsonValue,
-    patterns: &mut Patterns,
-) -> Result<bool, FindError>
-    ensures ok { IfOk result (λ b. b
-        ≡ holds_of expression.now (view root.now) (view here.now)) }
-    ensures err { IfErr result (IsFromAny (expression_strings expression.now) (view root.now)
-        (strings_in (view here.now))) }
-{
-    match expression {
-        Expression::Or(expressions) => {
-            for choice in expressions {
-                if holds(choice, alloc, root, here, patterns)? {
-                    return Ok(true);
+    #[cycle(selecting)]
+    fn select_each<'v>(
+        &mut self,
+        selectors: &[Selector],
+        root: &'v JsonValue,
+        node: &Node<'v>,
+        selected: &mut Vec<Node<'v>>,
+    ) -> Result<(), FindError>
+        ensures ok { OnOk result (parts_view selected.new.items ≡ parts_view selected.old.items
+            ++ selected_by selectors.now (view root.now) (part_view node.now)) }
+        ensures err { IfErr result (IsFromAny (selectors_strings selectors.now) (view root.now)
+            (strings_in (view node.now.value.now))) }
+    {
+        for selector in selectors {
+            self.select(selector, root, node, selected)?;
+        }
+        Ok(())
+    }
+
+    #[cycle(selecting)]
+    fn select<'v>(
+        &mut self,
+        selector: &Selector,
+        root: &'v JsonValue,
+        node: &Node<'v>,
+        selected: &mut Vec<Node<'v>>,
+    ) -> Result<(), FindError>
+        ensures ok { OnOk result (parts_view selected.new.items ≡ parts_view selected.old.items
+            ++ selector_parts selector.now (view root.now) (part_view node.now)) }
+        ensures err { IfErr result (IsFromAny (selector_strings selector.now) (view root.now)
+            (strings_in (view node.now.value.now))) }
+    {
+        match selector {
+            Selector::Name(name) => push_named(self.alloc, node, name.as_str(), selected)?,
+            Selector::Wildcard => push_children(self.alloc, node, selected)?,
+            Selector::Index(index) => push_indexed(self.alloc, node, *index, selected)?,
+            Selector::Slice { start, end, step } => {
+                push_slice(self.alloc, node, *start, *end, *step, selected)?
+            }
+            Selector::Filter(expression) => { self.push_kept(expression, root, node, selected)? }
+        }
+        Ok(())
+    }
+
+    /// The children of which the expression holds (RFC 9535, 2.3.5).
+    #[cycle(selecting)]
+    fn push_kept<'v>(
+        &mut self,
+        expression: &Expression,
+        root: &'v JsonValue,
+        node: &Node<'v>,
+        selected: &mut Vec<Node<'v>>,
+    ) -> Result<(), FindError>
+        ensures ok { OnOk result (parts_view selected.new.items ≡ parts_view selected.old.items
+            ++ kept (holds_of expression.now (view root.now))
+            (children (path_of node.now) (view node.now.value.now))) }
+        ensures err { IfErr result (IsFromAny (expression_strings expression.now) (view root.now)
+            (strings_in (view node.now.value.now))) }
+    {
+        let children = children(self.alloc, node)?;
+        for child in children.as_slice() {
+            if self.holds(expression, root, child.value)? {
+                selected.push(child.try_clone()?)?;
+            }
+        }
+        Ok(())
+    }
+
+    /// Whether the expression holds of the value.
+    #[cycle(selecting)]
+    fn holds<'v>(
+        &mut self,
+        expression: &Expression,
+        root: &'v JsonValue,
+        here: &'v JsonValue,
+    ) -> Result<bool, FindError>
+        ensures ok { IfOk result (λ b. b
+            ≡ holds_of expression.now (view root.now) (view here.now)) }
+        ensures err { IfErr result (IsFromAny (expression_strings expression.now) (view root.now)
+            (strings_in (view here.now))) }
+    {
+        match expression {
+            Expression::Or(expressions) => {
+                for choice in expressions {
+                    if self.holds(choice, root, here)? {
+                        return Ok(true);
+                    }
+                }
+                Ok(false)
+            }
+            Expression::And(expressions) => {
+                for condition in expressions {
+                    if !self.holds(condition, root, here)? {
+                        return Ok(false);
+                    }
+                }
+                Ok(true)
+            }
+            Expression::Not(expression) => Ok(!self.holds(expression, root, here)?),
+            Expression::Comparison(operator, left, right) => {
+                let left = self.compared(left, root, here)?;
+                match self.compared(right, root, here) {
+                    Ok(right) => Ok(compare(*operator, left, right)),
+                    Err(error) => {
+                        release(left);
+                        Err(error)
+                    }
                 }
             }
-            Ok(false)
-        }
-        Expression::And(expressions) => {
-            for condition in expressions {
-                if !holds(condition, alloc, root, here, patterns)? {
-                    return Ok(false);
-                }
-            }
-            Ok(true)
-        }
-        Expression::Not(expression) => Ok(!holds(expression, alloc, root, here, patterns)?),
-        Expression::Comparison(operator, left, right) => {
-            let left = compared(left, alloc, root, here, patterns)?;
-            match compared(right, alloc, root, here, patterns) {
-                Ok(right) => Ok(compare(*operator, left, right)),
-                Err(error) => {
-                    release(left);
-                    Err(error)
-                }
-            }
-        }
-        Expression::Test(query) => {
-            let start = start(query.origin, root, here);
-            Ok(!find_from(query.segments.as_slice(), alloc, root, start, patterns)?.is_empty())
-        }
-        Expression::Pattern(function, value, pattern) => {
-            let stays = matches!(&**pattern, Comparable::Literal(_));
-            let value = compared(value, alloc, root, here, patterns)?;
-            match compared(pattern, alloc, root, here, patterns) {
-                Ok(pattern) => Ok(patterns.test(alloc, *function, stays, value, pattern)?),
-                Err(error) => {
-                    release(value);
-                    Err(error)
-                }
-            }
-        }
-    }
-}
-
-/// The value that is compared, or nothing.
-#[cycle(selecting)]
-fn compared<'v>(
-    comparable: &Comparable,
-    alloc: Global,
-    root: &'v JsonValue,
-    here: &'v JsonValue,
-    patterns: &mut Patterns,
-) -> Result<Option<Operand<'v>>, FindError>
-    ensures ok { IfOk result (λ o. option_map operand_tree o
-        ≡ comparable_value comparable.now (view root.now) (view here.now)) }
-    ensures err { IfErr result (IsFromAny (comparable_strings comparable.now) (view root.now)
-        (strings_in (view here.now))) }
-{
-    match comparable {
-        Comparable::Literal(literal) => Ok(literal_value(alloc, literal)?),
-        Comparable::SingularQuery(query) => Ok(singular_value(query, root, here)),
-        Comparable::Function(function) => match function {
-            FunctionExpression::Length(argument) => {
-                Ok(operand::length(alloc, compared(argument, alloc, root, here, patterns)?)?)
-            }
-            FunctionExpression::Count(query) => {
+            Expression::Test(query) => {
                 let start = start(query.origin, root, here);
-                let nodes = find_from(query.segments.as_slice(), alloc, root, start, patterns)?;
-                Ok(operand::count(alloc, nodes.as_slice())?)
+                let nodes = self.find_from(query.segments.as_slice(), root, start)?;
+                Ok(!nodes.is_empty())
             }
-            FunctionExpression::Value(query) => {
-                let start = start(query.origin, root, here);
-                let nodes = find_from(query.segments.as_slice(), alloc, root, start, patterns)?;
-                Ok(only_value(nodes.as_slice()))
+            Expression::Pattern(function, value, pattern) => {
+                let stays = matches!(&**pattern, Comparable::Literal(_));
+                let value = self.compared(value, root, here)?;
+                match self.compared(pattern, root, here) {
+                    Ok(pattern) => Ok(self.patterns.test(*function, stays, value, pattern)?),
+                    Err(error) => {
+                        release(value);
+                        Err(error)
+                    }
+                }
             }
-        },
+        }
+    }
+
+    /// The value that is compared, or nothing.
+    #[cycle(selecting)]
+    fn compared<'v>(
+        &mut self,
+        comparable: &Comparable,
+        root: &'v JsonValue,
+        here: &'v JsonValue,
+    ) -> Result<Option<Operand<'v>>, FindError>
+        ensures ok { IfOk result (λ o. option_map operand_tree o
+            ≡ comparable_value comparable.now (view root.now) (view here.now)) }
+        ensures err { IfErr result (IsFromAny (comparable_strings comparable.now) (view root.now)
+            (strings_in (view here.now))) }
+    {
+        match comparable {
+            Comparable::Literal(literal) => Ok(literal_value(self.alloc, literal)?),
+            Comparable::SingularQuery(query) => Ok(singular_value(query, root, here)),
+            Comparable::Function(function) => match function {
+                FunctionExpression::Length(argument) => {
+                    Ok(operand::length(self.alloc, self.compared(argument, root, here)?)?)
+                }
+                FunctionExpression::Count(query) => {
+                    let start = start(query.origin, root, here);
+                    let nodes = self.find_from(query.segments.as_slice(), root, start)?;
+                    Ok(operand::count(self.alloc, nodes.as_slice())?)
+                }
+                FunctionExpression::Value(query) => {
+                    let start = start(query.origin, root, here);
+                    let nodes = self.find_from(query.segments.as_slice(), root, start)?;
+                    Ok(only_value(nodes.as_slice()))
+                }
+            },
+        }
     }
 }
 

@@ -16,7 +16,7 @@ use Rattle.tinyjson_path.specs.Selecting.{from_each}
 use Rattle.tinyjson_path.specs.Seen.{operand_tree}
 use Rattle.tinyjson_path.specs.Strings.{strings_in, strings_of, segment_strings, selector_strings, expression_strings, comparable_strings}
 use Rattle.tinyjson_path.specs.Strings.{segments_strings, selectors_strings}
-use Rattle.tinyjson_path.proofs.select.+selecting.Goals as goal
+use Rattle.tinyjson_path.proofs.select.Finder.+selecting.Goals as goal
 
 pub descend-loop-node-smaller : goal.descend-loop-node-smaller
 descend-loop-node-smaller t c =
@@ -199,22 +199,22 @@ holds-returns-in-Err-clause-err t c =
     ∙ ap (λ x. l ++ comparable_strings x) (sym c.deref-in-Comparison-2.ensures)))
     c.in-Err.ensures.err
 
-pub holds-returns-in_err-find_from-in-Test-clause-err : goal.holds-returns-in_err-find_from-in-Test-clause-err
-holds-returns-in_err-find_from-in-Test-clause-err t c =
+pub holds-returns-in_err-nodes-in-Test-clause-err : goal.holds-returns-in_err-nodes-in-Test-clause-err
+holds-returns-in_err-nodes-in-Test-clause-err t c =
     let q = c.in-Test.query in
     error_from (expression_strings c.args.expression.now) (segments_strings c.as_slice.result.now) q.origin (view c.args.root.now)
-    (view c.args.here.now) (view c.start-start.result.now) c.in_err-find_from-in-Test.field-0.0
-    c.from_residual-in_err-find_from-in-Test.result c.from_residual-in_err-find_from-in-Test.ensures.1
+    (view c.args.here.now) (view c.start-start.result.now) c.in_err-nodes-in-Test.field-0.0
+    c.from_residual-in_err-nodes-in-Test.result c.from_residual-in_err-nodes-in-Test.ensures.1
     (test_strings c.args.expression.now q c.in-Test.is ∙ ap segments_strings (sym c.as_slice.ensures.value))
-    c.start-start.ensures c.in_err-find_from-in-Test.ensures.err
+    c.start-start.ensures c.in_err-nodes-in-Test.ensures.err
 
-pub holds-returns-in_ok-find_from-in-Test-clause-ok : goal.holds-returns-in_ok-find_from-in-Test-clause-ok
-holds-returns-in_ok-find_from-in-Test-clause-ok t c =
+pub holds-returns-in_ok-nodes-in-Test-clause-ok : goal.holds-returns-in_ok-nodes-in-Test-clause-ok
+holds-returns-in_ok-nodes-in-Test-clause-ok t c =
     let q = c.in-Test.query in
-    let v = c.in_ok-find_from-in-Test.field-0 in
+    let v = c.in_ok-nodes-in-Test.nodes in
     let root = view c.args.root.now in
     let start = view c.start-start.result.now in
-    let told : parts_view v.items ≡ found_by c.as_slice.result.now root start = c.in_ok-find_from-in-Test.ensures.ok in
+    let told : parts_view v.items ≡ found_by c.as_slice.result.now root start = c.in_ok-nodes-in-Test.ensures.ok in
     ap not (c.is_empty.ensures ∙ ap (λ n. n == 0) v.ok.0)
     ∙ test_holds c.args.expression.now q root (view c.args.here.now) start v.items c.in-Test.is c.start-start.ensures
     (told ∙ ap (λ ss. found_by ss root start) c.as_slice.ensures.value)

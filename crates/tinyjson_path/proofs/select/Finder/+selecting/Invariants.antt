@@ -7,7 +7,7 @@ use Rattle.tinyjson_path.specs.Selecting.{from_each}
 use Rattle.tinyjson_path.specs.Strings.{strings_in}
 use Rattle.tinyjson_path.proofs.Parts.{left}
 use Rattle.tinyjson_path.proofs.Selected.{AreWithin}
-use Rattle.tinyjson_path.proofs.select.+selecting.Given as goal
+use Rattle.tinyjson_path.proofs.select.Finder.+selecting.Given as goal
 
 abbrev pub invariant-find_from-loop-segment : goal.invariant-find_from-loop-segment
 invariant-find_from-loop-segment l = record {
