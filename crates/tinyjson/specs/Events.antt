@@ -12,12 +12,8 @@ use Rattle.tinyjson_grammar.specs.declared.error.JsonParseErrorKind.TheVariants 
 use Rattle.tinyjson_grammar.specs.Characters.{BeginsLiteral}
 -- null, or a boolean
 pub use Rattle.tinyjson_grammar.specs.Tree.{literal_tree}
-
 -- An open container: an array with its items, an object that awaits a key, and one that awaits the value of a key.
-pub data Open : Type 0 where
-  in_array : List Tree → Open
-  at_key : Members → Open
-  at_value : Members → List ℕ → Open
+pub use Rattle.tinyjson_grammar.specs.Machine.{Frame as Open, in_array, at_key, at_value}
 
 -- A complete value is put where it belongs, of equal keys the last; with nothing open it is the value of the text. Where a
 -- key is awaited, nothing is said: what is no string is refused there.

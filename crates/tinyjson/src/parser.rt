@@ -6,10 +6,10 @@ ghost use Rattle.tinyjson.specs.Events.{TellsRest, TellsText};
 ghost use Rattle.tinyjson.specs.Parser.{ChecksText, Provides, Remains, Parses, ParsesText};
 ghost use Rattle.tinyjson_grammar.specs.Position.{origin};
 
-mod builder;
 mod checker;
 mod error;
 mod events;
+mod nest;
 mod reader;
 mod stack;
 

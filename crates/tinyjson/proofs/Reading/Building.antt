@@ -1,13 +1,13 @@
--- Open containers, and what a builder stands for meanwhile.
+-- Open containers, and what the events hold meanwhile.
 use Rattle.std.proofs.Common.{◌≡◌, ℕ, ◌+◌, ◌-◌, List, [], ◌∷◌, ◌++◌, length, reverse, slice_set, suc}
 use Rattle.std.proofs.Common.{refl, sym, ap, ap₂, ◌∙◌, subst, arith}
 use Rattle.std.proofs.Math.Seq.{set-append_seam}
 use Rattle.std.proofs.lemmas.List.{length-append, reverse-append, reverse-reverse}
 use Rattle.tinyjson_grammar.specs.Machine.{Frame, in_array, at_key, at_value}
 use Rattle.tinyjson.specs.private.Building.{Agree, AgreeAround, IsOpen, IsWithin, awaited_of}
-use Rattle.tinyjson.specs.declared.parser.builder.Awaited.{Awaited}
-use Rattle.tinyjson.specs.declared.parser.builder.Awaited.TheVariants.{Item, Key, Value}
-use Rattle.tinyjson.specs.declared.parser.builder.Nest.{Nest}
+use Rattle.tinyjson.specs.declared.parser.nest.Awaited.{Awaited}
+use Rattle.tinyjson.specs.declared.parser.nest.Awaited.TheVariants.{Item, Key, Value}
+use Rattle.tinyjson.specs.declared.parser.nest.Nest.{Nest}
 
 pub agree_length : (os : List Awaited) (fs : List Frame) → Agree os fs → length os ≡ length fs
 agree_length [] [] h = refl
@@ -55,7 +55,7 @@ module _ {B : Type 0} (holds : B → List Frame → Type 0) where
   within s f fs h = (h.0, agree_around (awaited_of s) f fs h.1)
 
   -- the innermost container awaits something else
-  pub renewed : (old new : Nest B) (a : Awaited) (f : Frame) (fs : List Frame) → holds new.builder (f ∷ fs)
+  pub renewed : (old new : Nest B) (a : Awaited) (f : Frame) (fs : List Frame) → holds new.events (f ∷ fs)
       → AgreeAround (awaited_of old) fs
       → ((o : Awaited) (os : List Awaited) → awaited_of old ≡ o ∷ os → awaited_of new ≡ a ∷ os)
       → ((os : List Awaited) → Agree os fs → Agree (a ∷ os) (f ∷ fs)) → IsOpen holds new (f ∷ fs)

@@ -8,7 +8,7 @@ use Rattle.tinyjson_tokens.specs.Steps.{Leads, Reads}
 use Rattle.tinyjson_tokens.proofs.Callers.{Leads_trans, Refuses_after}
 use Rattle.tinyjson.specs.private.Building.{Builds}
 use Rattle.tinyjson.specs.private.Steps.{Finds}
-use Rattle.tinyjson.specs.declared.parser.builder.Nest.{Nest}
+use Rattle.tinyjson.specs.declared.parser.nest.Nest.{Nest}
 
 module _ {S : Type 0} (sight : Sight S) (limit : Option ℕ) (p q z : S) {n : Next} where
   -- the end, after a value

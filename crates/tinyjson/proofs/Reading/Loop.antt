@@ -9,11 +9,11 @@ use Rattle.tinyjson_tokens.specs.Steps.{Leads, Reads, Refuses}
 use Rattle.tinyjson_tokens.proofs.Callers.{Halts_here, Leads_to, Leads_trans, Refuses_after, Refuses_as}
 use Rattle.tinyjson.specs.private.Building.{Builds, Continues, Joins, IsOpen, IsWithin, Stands, awaited_of}
 use Rattle.tinyjson.specs.private.Building.{Agree, AgreeAround, Completes}
-use Rattle.tinyjson.specs.declared.parser.builder.Awaited.{Awaited}
-use Rattle.tinyjson.specs.declared.parser.builder.Awaited.TheVariants.{Item, Value}
-use Rattle.tinyjson.specs.declared.parser.builder.Nest.{Nest}
-use Rattle.tinyjson.specs.declared.parser.builder.Progress.{Progress}
-use Rattle.tinyjson.specs.declared.parser.builder.Progress.TheVariants.{Awaits, Complete}
+use Rattle.tinyjson.specs.declared.parser.nest.Awaited.{Awaited}
+use Rattle.tinyjson.specs.declared.parser.nest.Awaited.TheVariants.{Item, Value}
+use Rattle.tinyjson.specs.declared.parser.nest.Nest.{Nest}
+use Rattle.tinyjson.specs.declared.parser.nest.Progress.{Progress}
+use Rattle.tinyjson.specs.declared.parser.nest.Progress.TheVariants.{Awaits, Complete}
 
 module _ {S B : Type 0} (holds : B → List Frame → Type 0) (is : B → Tree → Type 0) (sight : Sight S) (limit : Option ℕ) where
   pub Continues_after : (p q z : S) {n m : Next} (r : Result Progress JsonParseErrorKind) (s : Nest B) → Leads sight limit p n q m
@@ -55,9 +55,9 @@ module _ {S B : Type 0} (holds : B → List Frame → Type 0) (is : B → Tree �
   pub ends : (q z : S) (n : Next) (r : Result (Unit {0}) JsonParseErrorKind) (s : Nest B) → Stands holds is s Complete n
       → awaited_of s ≡ [] → ((t : Tree) → Reads sight limit q (next [] (finished t)) r (λ _. next [] (finished t)) z)
       → Builds holds is sight limit q n r s z
-  ends q z n r s h e = by r (subst (λ os. Completes holds is s.builder os n) e h)
+  ends q z n r s h e = by r (subst (λ os. Completes holds is s.events os n) e h)
     where
-      by : (r : Result (Unit {0}) JsonParseErrorKind) → Completes holds is s.builder [] n
+      by : (r : Result (Unit {0}) JsonParseErrorKind) → Completes holds is s.events [] n
           → ((t : Tree) → Reads sight limit q (next [] (finished t)) r (λ _. next [] (finished t)) z)
           → Builds holds is sight limit q n r s z
       by (Ok v) w k = (w.0, subst (λ m. Leads sight limit q m z (next [] (finished w.0))) (sym w.1) (k w.0), w.2)
@@ -75,11 +75,11 @@ module _ {S B : Type 0} (holds : B → List Frame → Type 0) (is : B → Tree �
   pub after_item : (s : Nest B) (n : Next) (os : List Awaited) → Stands holds is s Complete n → awaited_of s ≡ Item ∷ os
       → (ts : List Tree) × (fs : List Frame) × (n ≡ next (in_array ts ∷ fs) after) × IsOpen holds s (in_array ts ∷ fs)
   after_item s n os h e =
-      let w = subst (λ ps. Completes holds is s.builder ps n) e h in
+      let w = subst (λ ps. Completes holds is s.events ps n) e h in
       (w.0, w.1, w.2, (w.3, subst (λ ps. Agree ps (in_array w.0 ∷ w.1)) (sym e) w.4))
 
   pub after_member : (s : Nest B) (n : Next) (os : List Awaited) → Stands holds is s Complete n → awaited_of s ≡ Value ∷ os
       → (ms : Members) × (fs : List Frame) × (n ≡ next (at_key ms ∷ fs) after) × IsWithin holds s (at_key ms) fs
   after_member s n os h e =
-      let w = subst (λ ps. Completes holds is s.builder ps n) e h in
+      let w = subst (λ ps. Completes holds is s.events ps n) e h in
       (w.0, w.1, w.2, (w.3, subst (λ ps. AgreeAround ps w.1) (sym e) w.4))

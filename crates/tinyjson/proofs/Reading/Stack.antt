@@ -8,7 +8,7 @@ use Rattle.tinyjson_grammar.specs.Tree.{Tree, Members, no_members, put}
 use Rattle.tinyjson.specs.View.{view, text}
 use Rattle.tinyjson.specs.Access.{JsonMap}
 use Rattle.tinyjson_grammar.specs.Machine.{Frame, in_array, at_key, at_value}
-use Rattle.tinyjson.specs.private.Building.{Puts}
+use Rattle.tinyjson.specs.Events.{Puts}
 use Rattle.tinyjson.specs.private.Stack.{gather, waiting, own_members, other_maps, Holds, maps_of, holds, is}
 use Rattle.tinyjson.specs.declared.parser.stack.Place.{Place}
 use Rattle.tinyjson.specs.declared.parser.stack.Stack.{Stack}

@@ -1,4 +1,4 @@
--- What a builder stands for while a text is read into it. For private contracts.
+-- What events hold while a text is read into them. For private contracts.
 use Rattle.std.specs.Prelude.{◌≡◌, ℕ, List, [], ◌∷◌, ◌++◌, reverse, Option, Result, MatchResult, ◌⊎◌, true, ⊤}
 use Rattle.tinyjson_grammar.specs.Refusal.{MayGrow}
 use Rattle.tinyjson_grammar.specs.Tree.{Tree, Members, put}
@@ -8,21 +8,13 @@ use Rattle.tinyjson_grammar.specs.declared.error.JsonParseErrorKind.TheVariants.
 use Rattle.tinyjson_tokens.specs.Source.{Sight}
 use Rattle.tinyjson_tokens.specs.Steps.{IsNext, Leads, Refuses}
 use Rattle.tinyjson.specs.Error.{error_position}
-use Rattle.tinyjson.specs.Events.{Open, MeetsLiteral}
-use Rattle.tinyjson.specs.Events as events
+use Rattle.tinyjson.specs.Events.{MeetsLiteral}
 use Rattle.tinyjson.specs.declared.parser.error.JsonParseError.{JsonParseError}
-use Rattle.tinyjson.specs.declared.parser.builder.Awaited.{Awaited}
-use Rattle.tinyjson.specs.declared.parser.builder.Awaited.TheVariants.{Item, Key, Value}
-use Rattle.tinyjson.specs.declared.parser.builder.Nest.{Nest}
-use Rattle.tinyjson.specs.declared.parser.builder.Progress.{Progress}
-use Rattle.tinyjson.specs.declared.parser.builder.Progress.TheVariants.{Awaits, Complete}
-
--- A complete value is put where it belongs. Where a key is awaited, nothing is said: the parser refuses there what is no string.
-abbrev pub Puts : {B : Type 0} → (B → List Frame → Type 0) → (B → Tree → Type 0) → List Frame → Tree → B → Type 0
-Puts holds is [] t b = is b t
-Puts holds is (in_array ts ∷ fs) t b = holds b (in_array (ts ++ t ∷ []) ∷ fs)
-Puts holds is (at_key ms ∷ fs) t b = ⊤
-Puts holds is (at_value ms k ∷ fs) t b = holds b (at_key (put k t ms) ∷ fs)
+use Rattle.tinyjson.specs.declared.parser.nest.Awaited.{Awaited}
+use Rattle.tinyjson.specs.declared.parser.nest.Awaited.TheVariants.{Item, Key, Value}
+use Rattle.tinyjson.specs.declared.parser.nest.Nest.{Nest}
+use Rattle.tinyjson.specs.declared.parser.nest.Progress.{Progress}
+use Rattle.tinyjson.specs.declared.parser.nest.Progress.TheVariants.{Awaits, Complete}
 
 -- no key is awaited
 abbrev pub TakesValue : List Frame → Type 0
@@ -51,11 +43,11 @@ awaited_of n = reverse n.awaited.items
 module _ {B : Type 0} (holds : B → List Frame → Type 0) where
   -- these containers are open, and a value or a key is awaited
   abbrev pub IsOpen : Nest B → List Frame → Type 0
-  IsOpen n fs = holds n.builder fs × Agree (awaited_of n) fs
+  IsOpen n fs = holds n.events fs × Agree (awaited_of n) fs
 
-  -- the builder stands for these, and so do the containers around the innermost
+  -- the events hold these, and the containers around the innermost await what they should
   abbrev pub IsWithin : Nest B → Frame → List Frame → Type 0
-  IsWithin n f fs = holds n.builder (f ∷ fs) × AgreeAround (awaited_of n) fs
+  IsWithin n f fs = holds n.events (f ∷ fs) × AgreeAround (awaited_of n) fs
 
 module _ {B : Type 0} (holds : B → List Frame → Type 0) (is : B → Tree → Type 0) where
   -- a value is complete, and stands where it belongs: as an item of an array, or at a key
@@ -70,7 +62,7 @@ module _ {B : Type 0} (holds : B → List Frame → Type 0) (is : B → Tree →
   -- the state of the machine
   abbrev pub Stands : Nest B → Progress → Next → Type 0
   Stands s Awaits n = (fs : List Frame) × (n ≡ next fs awaited) × IsOpen holds s fs
-  Stands s Complete n = Completes s.builder (awaited_of s) n
+  Stands s Complete n = Completes s.events (awaited_of s) n
 
   -- what was put where it belongs leads to this state, or to a refusal; or there was no memory
   abbrev pub Joins : Next → Result Progress JsonParseErrorKind → Nest B → Type 0
@@ -81,12 +73,12 @@ module _ {B : Type 0} (holds : B → List Frame → Type 0) (is : B → Tree →
   Continues sight limit p n r s q = MatchResult r (λ v. (m : Next) × Leads sight limit p n q m × Stands s v m)
       (λ k. Refuses sight limit p n k q)
 
-  -- a text: the builder stands for its tree
+  -- a text: the events are of its tree
   abbrev pub Builds : {S : Type 0} → Sight S → Option ℕ → S → Next → Result (Unit {0}) JsonParseErrorKind → Nest B → S → Type 0
   Builds sight limit p n r s q = MatchResult r
-      (λ _. (t : Tree) × Leads sight limit p n q (next [] (finished t)) × is s.builder t) (λ k. Refuses sight limit p n k q)
+      (λ _. (t : Tree) × Leads sight limit p n q (next [] (finished t)) × is s.events t) (λ k. Refuses sight limit p n k q)
 
--- a text told to a builder, which is given back: it stands for the tree
+-- a text read into events, which are given back: they are of its tree
 abbrev pub Tells : {B S : Type 0} → (B → Tree → Type 0) → Sight S → Option ℕ → S → Next → Result B JsonParseErrorKind → S → Type 0
 Tells is sight limit p n r q = MatchResult r (λ b. (t : Tree) × Leads sight limit p n q (next [] (finished t)) × is b t)
     (λ k. Refuses sight limit p n k q)
@@ -99,9 +91,3 @@ TellsAll is sight limit p r q = MatchResult r (λ b. (t : Tree) × Leads sight l
 -- what the source gives begins, after white space, with a string, a number, a container or a literal
 abbrev pub Meets : {S : Type 0} → Sight S → S → Type 0
 Meets sight p = (zs : List ℕ) → sight.gives p zs → MayGrow zs ⊎ MeetsLiteral zs
-
--- a frame of the machine, in the words of events
-abbrev pub open_of : Frame → Open
-open_of (in_array ts) = events.in_array ts
-open_of (at_key ms) = events.at_key ms
-open_of (at_value ms k) = events.at_value ms k

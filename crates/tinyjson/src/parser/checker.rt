@@ -4,18 +4,19 @@ ghost use Rattle.tinyjson_grammar.specs.Machine.{awaited, next};
 ghost use Rattle.tinyjson_grammar.specs.declared.error.JsonParseErrorKind.TheVariants.{OutOfMemory};
 ghost use Rattle.tinyjson.specs.private.Steps.{Finds, FindsText, Grows};
 
-use super::builder::{Builder, Nest};
 use super::error::{JsonParseError, JsonParseErrorKind};
+use super::events::Events;
+use super::nest::Nest;
 use super::reader::Reader;
 use std::alloc::AllocError;
 use tinyjson_number::JsonNumber;
 use tinyjson_tokens::Tokens;
 
-/// A builder that keeps nothing.
+/// Events that keep nothing.
 #[derive(Drop)]
 struct Nothing;
 
-impl Builder for Nothing {
+impl Events for Nothing {
     ghost holds = { λ b fs. ⊤ };
 
     ghost is = { λ b t. ⊤ };

@@ -1,5 +1,5 @@
 //! A text told event by event.
-ghost use Rattle.std.specs.Prelude.{◌≡◌, ℕ, List, [], ◌∷◌, map, false, IsTrue, IfErr, OnOk};
+ghost use Rattle.std.specs.Prelude.{◌≡◌, ℕ, List, [], ◌∷◌, false, IsTrue, IfErr, OnOk};
 ghost use Rattle.std.specs.Prelude.{None, Option, Some};
 ghost use Rattle.std.specs.Str.{chars};
 ghost use Rattle.tinyjson_grammar.specs.Characters.{is_white};
@@ -12,8 +12,8 @@ ghost use Rattle.tinyjson_grammar.specs.declared.error.JsonParseErrorKind.TheVar
 ghost use Rattle.tinyjson_grammar.specs.Characters.{BeginsLiteral};
 ghost use Rattle.tinyjson.specs.private.Building.{Meets, Tells, TellsAll};
 
-use super::builder::{Builder, Nest};
 use super::error::{JsonParseError, JsonParseErrorKind};
+use super::nest::Nest;
 use super::reader::Reader;
 use std::alloc::AllocError;
 use tinyjson_number::JsonNumber;
@@ -49,6 +49,17 @@ pub trait Events: Drop {
         ensures { (ts : List Tree) (os : List Open) → holds self.old (in_array ts ∷ os) →
             OnOk result (Puts holds is os (array (items_of ts)) self.new) };
 
+    /// An array that has no items: opened and closed.
+    #[inline(always)]
+    fn empty_array(&mut self) -> Result<(), AllocError>
+        requires { (os : List Open) × holds self.old os }
+        ensures { (os : List Open) → holds self.old os →
+            OnOk result (Puts holds is os (array (items_of [])) self.new) }
+    {
+        self.open_array()?;
+        self.close_array()
+    }
+
     /// An object is opened.
     fn open_object(&mut self) -> Result<(), AllocError>
         ensures { (os : List Open) → holds self.old os →
@@ -59,6 +70,17 @@ pub trait Events: Drop {
         requires { (ms : Members) × (os : List Open) × holds self.old (at_key ms ∷ os) }
         ensures { (ms : Members) (os : List Open) → holds self.old (at_key ms ∷ os) →
             OnOk result (Puts holds is os (object ms) self.new) };
+
+    /// An object that has no members: opened and closed.
+    #[inline(always)]
+    fn empty_object(&mut self) -> Result<(), AllocError>
+        requires { (os : List Open) × holds self.old os }
+        ensures { (os : List Open) → holds self.old os →
+            OnOk result (Puts holds is os (object no_members) self.new) }
+    {
+        self.open_object()?;
+        self.close_object()
+    }
 
     /// The innermost container, an object, is given a key.
     fn key(&mut self, key: &str) -> Result<(), AllocError>
@@ -80,56 +102,6 @@ pub trait Events: Drop {
     fn literal(&mut self, value: Option<bool>) -> Result<(), AllocError>
         ensures { (os : List Open) → holds self.old os →
             OnOk result (Puts holds is os (literal_tree value) self.new) };
-}
-
-/// A builder that tells events.
-#[derive(Drop)]
-pub(super) struct Told<E>
-where
-    E: Events,
-{
-    pub(super) events: E,
-}
-
-impl<E: Events> Builder for Told<E> {
-    ghost use Rattle.std.specs.Prelude.{map};
-    ghost use Rattle.tinyjson.specs.private.Building.{open_of};
-
-    ghost holds = { λ b fs. E.holds b.events (map open_of fs) };
-
-    ghost is = { λ b t. E.is b.events t };
-
-    fn open_array(&mut self) -> Result<(), AllocError> {
-        self.events.open_array()
-    }
-
-    fn close_array(&mut self) -> Result<(), AllocError> {
-        self.events.close_array()
-    }
-
-    fn open_object(&mut self) -> Result<(), AllocError> {
-        self.events.open_object()
-    }
-
-    fn close_object(&mut self) -> Result<(), AllocError> {
-        self.events.close_object()
-    }
-
-    fn key(&mut self, key: &str) -> Result<(), AllocError> {
-        self.events.key(key)
-    }
-
-    fn string(&mut self, value: &str) -> Result<(), AllocError> {
-        self.events.string(value)
-    }
-
-    fn number(&mut self, value: JsonNumber) -> Result<(), AllocError> {
-        self.events.number(value)
-    }
-
-    fn literal(&mut self, value: Option<bool>) -> Result<(), AllocError> {
-        self.events.literal(value)
-    }
 }
 
 impl<S: Tokens> Reader<S> {
@@ -189,6 +161,7 @@ impl<S: Tokens> Reader<S> {
         self.end()?;
         Ok(events)
     }
+
     /// Tells the value that begins with this character, which is no literal, and reads the end after it.
     fn tell_value<E: Events>(
         &mut self,
@@ -205,8 +178,8 @@ impl<S: Tokens> Reader<S> {
         ensures end { OnOk result (S.sight.shows self.new.tokens.source None) }
         ensures memory { IfErr result (λ kind. kind ≡ OutOfMemory → IsTrue (begins_growth first)) }
     {
-        let mut nest = Nest::new(self.alloc, Told { events });
+        let mut nest = Nest::new(self.alloc, events);
         self.build(limit, &mut nest, first)?;
-        Ok(nest.builder.events)
+        Ok(nest.events)
     }
 }

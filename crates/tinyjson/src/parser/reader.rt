@@ -1,5 +1,5 @@
 //! The reader: values by their first character, arrays and objects (RFC 8259, sections 4 and 5), and the
-//! loop over open containers. What is built is a builder's matter.
+//! loop over open containers. What is built is a matter of the events.
 ghost use Rattle.std.specs.Prelude.{◌≡◌, ℕ, ◌<◌, ◌≤◌, List, [], ◌∷◌, false, OnOk, IfErr};
 ghost use Rattle.std.specs.Prelude.{IsTrue, Option, Some, None, cond};
 ghost use Rattle.tinyjson_grammar.specs.Characters.{begin_array, begin_object, is_white};
@@ -10,21 +10,17 @@ ghost use Rattle.tinyjson_grammar.specs.Machine.{colon, finished, fits, next};
 ghost use Rattle.tinyjson_grammar.specs.Tree.{Tree, Members};
 ghost use Rattle.tinyjson.specs.private.Building.{awaited_of, Builds, Continues, IsOpen, IsWithin};
 ghost use Rattle.tinyjson.specs.private.Building.{Stands};
-ghost use Rattle.tinyjson.specs.private.Stack.{holds, is};
-ghost use Rattle.tinyjson.specs.private.Steps.{Grows, GrowsFor, ReadsText};
+ghost use Rattle.tinyjson.specs.private.Steps.{GrowsFor};
 ghost use Rattle.tinyjson_tokens.specs.NumberSteps.{BeginsNumber};
 ghost use Rattle.tinyjson_tokens.specs.Steps.{NeedsNone, Reads};
 ghost use Rattle.tinyjson_grammar.specs.Characters.{BeginsLiteral};
-ghost use Rattle.tinyjson_grammar.specs.Tree.{literal_tree};
-ghost use Rattle.tinyjson.specs.View.{view};
 ghost use Rattle.tinyjson_grammar.specs.declared.error.JsonParseErrorKind.TheVariants.{OutOfMemory};
-ghost use Rattle.tinyjson.specs.declared.parser.builder.Awaited.{Awaited};
-ghost use Rattle.tinyjson.specs.declared.parser.builder.Progress.TheVariants.{Complete};
+ghost use Rattle.tinyjson.specs.declared.parser.nest.Awaited.{Awaited};
+ghost use Rattle.tinyjson.specs.declared.parser.nest.Progress.TheVariants.{Complete};
 
-use super::builder::{Awaited, Builder, Nest, Progress};
-use super::error::{JsonParseError, JsonParseErrorKind};
-use super::stack::{Stack, literal_value};
-use crate::value::JsonValue;
+use super::error::JsonParseErrorKind;
+use super::events::Events;
+use super::nest::{Awaited, Nest, Progress};
 use std::alloc::Global;
 use tinyjson_tokens::{TokenReader, Tokens};
 
@@ -51,81 +47,18 @@ impl<S: Tokens> Reader<S> {
         }
     }
 
-    /// Reads a whole text; an error says where the source stands. What it gives up is freed by a
-    /// loop. A literal alone takes no memory.
-    pub(super) fn text(&mut self, limit: Option<usize>) -> Result<JsonValue, JsonParseError>
-        ensures reads { ReadsText S.sight limit self.old.tokens.source result
-            self.new.tokens.source }
-        ensures end { OnOk result (S.sight.shows self.new.tokens.source None) }
-        ensures memory { IfErr result (λ e.
-            e.kind ≡ OutOfMemory → Grows S.sight self.old.tokens.source) }
-    {
-        match self.text_value(limit) {
-            Ok(value) => Ok(value),
-            Err(kind) => {
-                let (line, column) = self.tokens.position();
-                Err(JsonParseError { kind, line, column })
-            }
-        }
-    }
-
-    /// Reads the value of a whole text, and the end after it.
-    fn text_value(&mut self, limit: Option<usize>) -> Result<JsonValue, JsonParseErrorKind>
-        ensures reads { Reads S.sight limit self.old.tokens.source (next [] awaited) result
-            (λ v. next [] (finished (view v))) self.new.tokens.source }
-        ensures end { OnOk result (S.sight.shows self.new.tokens.source None) }
-        ensures memory { IfErr result (λ kind.
-            kind ≡ OutOfMemory → Grows S.sight self.old.tokens.source) }
-    {
-        match self.tokens.skip_white() {
-            Some(first @ ('n' | 't' | 'f')) => {
-                let literal = self.tokens.literal(first)?;
-                self.end()?;
-                Ok(literal_value(literal))
-            }
-            Some(first) => {
-                let mut nest = Nest::new(self.alloc, Stack::new(self.alloc));
-                let read = self.values(limit, &mut nest, first);
-                nest.builder.abandon();
-                read
-            }
-            None => Err(JsonParseErrorKind::UnexpectedEof),
-        }
-    }
-
-    /// Reads the text whose first value begins with this character. After an error the stack holds
-    /// what was read.
-    fn values(
+    /// Reads the text whose first value begins with this character into events.
+    pub(crate) fn build<E: Events>(
         &mut self,
         limit: Option<usize>,
-        nest: &mut Nest<Stack>,
-        first: char,
-    ) -> Result<JsonValue, JsonParseErrorKind>
-        requires shown { S.sight.shows self.old.tokens.source (Some first) }
-        requires no_white { is_white first ≡ false }
-        requires no_literal { ¬ (BeginsLiteral first) }
-        requires open { IsOpen holds nest.old [] }
-        ensures reads { Reads S.sight limit self.old.tokens.source (next [] awaited) result
-            (λ v. next [] (finished (view v))) self.new.tokens.source }
-        ensures end { OnOk result (S.sight.shows self.new.tokens.source None) }
-        ensures memory { IfErr result (λ kind. kind ≡ OutOfMemory → IsTrue (begins_growth first)) }
-    {
-        self.build(limit, nest, first)?;
-        Ok(nest.builder.take_complete())
-    }
-
-    /// Reads the text whose first value begins with this character into a builder.
-    pub(crate) fn build<B: Builder>(
-        &mut self,
-        limit: Option<usize>,
-        nest: &mut Nest<B>,
+        nest: &mut Nest<E>,
         first: char,
     ) -> Result<(), JsonParseErrorKind>
         requires shown { S.sight.shows self.old.tokens.source (Some first) }
         requires no_white { is_white first ≡ false }
         requires no_literal { ¬ (BeginsLiteral first) }
-        requires open { IsOpen B.holds nest.old [] }
-        ensures reads { Builds B.holds B.is S.sight limit self.old.tokens.source (next [] awaited)
+        requires open { IsOpen E.holds nest.old [] }
+        ensures reads { Builds E.holds E.is S.sight limit self.old.tokens.source (next [] awaited)
             result nest.new self.new.tokens.source }
         ensures end { OnOk result (S.sight.shows self.new.tokens.source None) }
         ensures memory { IfErr result (λ kind. kind ≡ OutOfMemory → IsTrue (begins_growth first)) }
@@ -135,15 +68,15 @@ impl<S: Tokens> Reader<S> {
     }
 
     /// Reads what is left. One turn for each value that is read or container that is opened.
-    fn rest<B: Builder>(
+    fn rest<E: Events>(
         &mut self,
         limit: Option<usize>,
-        nest: &mut Nest<B>,
+        nest: &mut Nest<E>,
         progress: Progress,
     ) -> Result<(), JsonParseErrorKind>
-        requires sound { (n : Next) × Stands B.holds B.is nest.old progress n }
-        ensures reads { (n : Next) → Stands B.holds B.is nest.old progress n →
-            Builds B.holds B.is S.sight limit self.old.tokens.source n result nest.new
+        requires sound { (n : Next) × Stands E.holds E.is nest.old progress n }
+        ensures reads { (n : Next) → Stands E.holds E.is nest.old progress n →
+            Builds E.holds E.is S.sight limit self.old.tokens.source n result nest.new
             self.new.tokens.source }
         ensures end { OnOk result (S.sight.shows self.new.tokens.source None) }
     {
@@ -178,14 +111,14 @@ impl<S: Tokens> Reader<S> {
 
     /// Reads white space and a value, or opens a container.
     #[inline(always)]
-    fn next<B: Builder>(
+    fn next<E: Events>(
         &mut self,
         limit: Option<usize>,
-        nest: &mut Nest<B>,
+        nest: &mut Nest<E>,
     ) -> Result<Progress, JsonParseErrorKind>
-        requires open { (fs : List Frame) × IsOpen B.holds nest.old fs }
-        ensures reads { (fs : List Frame) → IsOpen B.holds nest.old fs →
-            Continues B.holds B.is S.sight limit self.old.tokens.source (next fs awaited) result
+        requires open { (fs : List Frame) × IsOpen E.holds nest.old fs }
+        ensures reads { (fs : List Frame) → IsOpen E.holds nest.old fs →
+            Continues E.holds E.is S.sight limit self.old.tokens.source (next fs awaited) result
             nest.new self.new.tokens.source }
         ensures left { OnOk result (S.left self.new.tokens.source < S.left self.old.tokens.source) }
     {
@@ -197,17 +130,17 @@ impl<S: Tokens> Reader<S> {
 
     /// Reads the value that begins with this character, or opens a container.
     #[inline(always)]
-    fn value<B: Builder>(
+    fn value<E: Events>(
         &mut self,
         limit: Option<usize>,
-        nest: &mut Nest<B>,
+        nest: &mut Nest<E>,
         first: char,
     ) -> Result<Progress, JsonParseErrorKind>
         requires shown { S.sight.shows self.old.tokens.source (Some first) }
         requires no_white { is_white first ≡ false }
-        requires open { (fs : List Frame) × IsOpen B.holds nest.old fs }
-        ensures reads { (fs : List Frame) → IsOpen B.holds nest.old fs →
-            Continues B.holds B.is S.sight limit self.old.tokens.source (next fs awaited) result
+        requires open { (fs : List Frame) × IsOpen E.holds nest.old fs }
+        ensures reads { (fs : List Frame) → IsOpen E.holds nest.old fs →
+            Continues E.holds E.is S.sight limit self.old.tokens.source (next fs awaited) result
             nest.new self.new.tokens.source }
         ensures left { OnOk result (S.left self.new.tokens.source < S.left self.old.tokens.source) }
         ensures memory { ¬ (BeginsLiteral first) → GrowsFor first result }
@@ -224,15 +157,15 @@ impl<S: Tokens> Reader<S> {
 
     /// Reads the literal that begins with this letter, and puts it where it belongs.
     #[inline(always)]
-    fn literal<B: Builder>(
+    fn literal<E: Events>(
         &mut self,
-        nest: &mut Nest<B>,
+        nest: &mut Nest<E>,
         first: char,
     ) -> Result<Progress, JsonParseErrorKind>
         requires shown { S.sight.shows self.old.tokens.source (Some first) }
         requires begins { BeginsLiteral first }
-        ensures reads { (limit : Option ℕ) (fs : List Frame) → IsOpen B.holds nest.old fs →
-            Continues B.holds B.is S.sight limit self.old.tokens.source (next fs awaited) result
+        ensures reads { (limit : Option ℕ) (fs : List Frame) → IsOpen E.holds nest.old fs →
+            Continues E.holds E.is S.sight limit self.old.tokens.source (next fs awaited) result
             nest.new self.new.tokens.source }
         ensures left { OnOk result (S.left self.new.tokens.source < S.left self.old.tokens.source) }
     {
@@ -242,11 +175,11 @@ impl<S: Tokens> Reader<S> {
 
     /// Reads the string whose quote comes next: the key, or a value that it puts where it belongs.
     #[inline(always)]
-    fn string<B: Builder>(&mut self, nest: &mut Nest<B>) -> Result<Progress, JsonParseErrorKind>
+    fn string<E: Events>(&mut self, nest: &mut Nest<E>) -> Result<Progress, JsonParseErrorKind>
         requires shown { S.sight.shows self.old.tokens.source (Some quotation_mark) }
-        requires open { (fs : List Frame) × IsOpen B.holds nest.old fs }
-        ensures reads { (limit : Option ℕ) (fs : List Frame) → IsOpen B.holds nest.old fs →
-            Continues B.holds B.is S.sight limit self.old.tokens.source (next fs awaited) result
+        requires open { (fs : List Frame) × IsOpen E.holds nest.old fs }
+        ensures reads { (limit : Option ℕ) (fs : List Frame) → IsOpen E.holds nest.old fs →
+            Continues E.holds E.is S.sight limit self.old.tokens.source (next fs awaited) result
             nest.new self.new.tokens.source }
         ensures left { OnOk result (S.left self.new.tokens.source < S.left self.old.tokens.source) }
     {
@@ -260,10 +193,10 @@ impl<S: Tokens> Reader<S> {
     /// Reads the number whose first character, a minus sign or a digit, comes next, and puts it
     /// where it belongs.
     #[inline(always)]
-    fn number<B: Builder>(&mut self, nest: &mut Nest<B>) -> Result<Progress, JsonParseErrorKind>
+    fn number<E: Events>(&mut self, nest: &mut Nest<E>) -> Result<Progress, JsonParseErrorKind>
         requires begins { BeginsNumber S.sight self.old.tokens.source }
-        ensures reads { (limit : Option ℕ) (fs : List Frame) → IsOpen B.holds nest.old fs →
-            Continues B.holds B.is S.sight limit self.old.tokens.source (next fs awaited) result
+        ensures reads { (limit : Option ℕ) (fs : List Frame) → IsOpen E.holds nest.old fs →
+            Continues E.holds E.is S.sight limit self.old.tokens.source (next fs awaited) result
             nest.new self.new.tokens.source }
         ensures left { OnOk result (S.left self.new.tokens.source < S.left self.old.tokens.source) }
     {
@@ -273,15 +206,15 @@ impl<S: Tokens> Reader<S> {
 
     /// Opens the array whose bracket comes next, or reads all of it if it is empty.
     #[inline(always)]
-    fn array<B: Builder>(
+    fn array<E: Events>(
         &mut self,
         limit: Option<usize>,
-        nest: &mut Nest<B>,
+        nest: &mut Nest<E>,
     ) -> Result<Progress, JsonParseErrorKind>
         requires shown { S.sight.shows self.old.tokens.source (Some begin_array) }
-        requires open { (fs : List Frame) × IsOpen B.holds nest.old fs }
-        ensures reads { (fs : List Frame) → IsOpen B.holds nest.old fs →
-            Continues B.holds B.is S.sight limit self.old.tokens.source (next fs awaited) result
+        requires open { (fs : List Frame) × IsOpen E.holds nest.old fs }
+        ensures reads { (fs : List Frame) → IsOpen E.holds nest.old fs →
+            Continues E.holds E.is S.sight limit self.old.tokens.source (next fs awaited) result
             nest.new self.new.tokens.source }
         ensures left { OnOk result (S.left self.new.tokens.source < S.left self.old.tokens.source) }
     {
@@ -305,15 +238,15 @@ impl<S: Tokens> Reader<S> {
 
     /// Opens the object whose brace comes next, or reads all of it if it is empty.
     #[inline(always)]
-    fn object<B: Builder>(
+    fn object<E: Events>(
         &mut self,
         limit: Option<usize>,
-        nest: &mut Nest<B>,
+        nest: &mut Nest<E>,
     ) -> Result<Progress, JsonParseErrorKind>
         requires shown { S.sight.shows self.old.tokens.source (Some begin_object) }
-        requires open { (fs : List Frame) × IsOpen B.holds nest.old fs }
-        ensures reads { (fs : List Frame) → IsOpen B.holds nest.old fs →
-            Continues B.holds B.is S.sight limit self.old.tokens.source (next fs awaited) result
+        requires open { (fs : List Frame) × IsOpen E.holds nest.old fs }
+        ensures reads { (fs : List Frame) → IsOpen E.holds nest.old fs →
+            Continues E.holds E.is S.sight limit self.old.tokens.source (next fs awaited) result
             nest.new self.new.tokens.source }
         ensures left { OnOk result (S.left self.new.tokens.source < S.left self.old.tokens.source) }
     {
@@ -337,12 +270,12 @@ impl<S: Tokens> Reader<S> {
 
     /// Reads a string as the key of its object, and the colon, if a string comes next.
     #[inline(always)]
-    fn key<B: Builder>(&mut self, nest: &mut Nest<B>) -> Result<Progress, JsonParseErrorKind>
+    fn key<E: Events>(&mut self, nest: &mut Nest<E>) -> Result<Progress, JsonParseErrorKind>
         requires open { (ms : Members) × (fs : List Frame) ×
-            IsOpen B.holds nest.old (at_key ms ∷ fs) }
+            IsOpen E.holds nest.old (at_key ms ∷ fs) }
         ensures reads { (limit : Option ℕ) (ms : Members) (fs : List Frame) →
-            IsOpen B.holds nest.old (at_key ms ∷ fs) →
-            Continues B.holds B.is S.sight limit self.old.tokens.source
+            IsOpen E.holds nest.old (at_key ms ∷ fs) →
+            Continues E.holds E.is S.sight limit self.old.tokens.source
             (next (at_key ms ∷ fs) awaited) result nest.new self.new.tokens.source }
         ensures left { OnOk result (S.left self.new.tokens.source ≤ S.left self.old.tokens.source) }
     {
@@ -357,16 +290,16 @@ impl<S: Tokens> Reader<S> {
 
     /// Gives the object its key, the last string that was read, and reads the colon after it.
     #[inline(always)]
-    fn colon<B: Builder>(
+    fn colon<E: Events>(
         &mut self,
-        nest: &mut Nest<B>,
+        nest: &mut Nest<E>,
         lent: bool,
     ) -> Result<Progress, JsonParseErrorKind>
         requires open { (ms : Members) × (fs : List Frame) ×
-            IsOpen B.holds nest.old (at_key ms ∷ fs) }
+            IsOpen E.holds nest.old (at_key ms ∷ fs) }
         ensures reads { (limit : Option ℕ) (ms : Members) (fs : List Frame) →
-            IsOpen B.holds nest.old (at_key ms ∷ fs) →
-            Continues B.holds B.is S.sight limit self.old.tokens.source
+            IsOpen E.holds nest.old (at_key ms ∷ fs) →
+            Continues E.holds E.is S.sight limit self.old.tokens.source
             (next (at_key ms ∷ fs)
             (colon (cond lent (S.lent self.old.tokens.source) (text self.old.string))))
             result nest.new self.new.tokens.source }
@@ -393,15 +326,15 @@ impl<S: Tokens> Reader<S> {
 
     /// Reads what follows a value in the innermost container, which awaited it.
     #[inline(always)]
-    fn after<B: Builder>(
+    fn after<E: Events>(
         &mut self,
-        nest: &mut Nest<B>,
+        nest: &mut Nest<E>,
         awaited: Awaited,
     ) -> Result<Progress, JsonParseErrorKind>
-        requires sound { (n : Next) × Stands B.holds B.is nest.old Complete n }
+        requires sound { (n : Next) × Stands E.holds E.is nest.old Complete n }
         requires innermost { (os : List Awaited) × (awaited_of nest.old ≡ awaited ∷ os) }
-        ensures reads { (limit : Option ℕ) (n : Next) → Stands B.holds B.is nest.old Complete n →
-            Continues B.holds B.is S.sight limit self.old.tokens.source n result nest.new
+        ensures reads { (limit : Option ℕ) (n : Next) → Stands E.holds E.is nest.old Complete n →
+            Continues E.holds E.is S.sight limit self.old.tokens.source n result nest.new
             self.new.tokens.source }
         ensures left { OnOk result (S.left self.new.tokens.source < S.left self.old.tokens.source) }
     {
@@ -414,12 +347,12 @@ impl<S: Tokens> Reader<S> {
 
     /// Reads a comma or the bracket that closes the array, after an item.
     #[inline(always)]
-    fn after_item<B: Builder>(&mut self, nest: &mut Nest<B>) -> Result<Progress, JsonParseErrorKind>
+    fn after_item<E: Events>(&mut self, nest: &mut Nest<E>) -> Result<Progress, JsonParseErrorKind>
         requires open { (ts : List Tree) × (fs : List Frame) ×
-            IsOpen B.holds nest.old (in_array ts ∷ fs) }
+            IsOpen E.holds nest.old (in_array ts ∷ fs) }
         ensures reads { (limit : Option ℕ) (ts : List Tree) (fs : List Frame) →
-            IsOpen B.holds nest.old (in_array ts ∷ fs) →
-            Continues B.holds B.is S.sight limit self.old.tokens.source
+            IsOpen E.holds nest.old (in_array ts ∷ fs) →
+            Continues E.holds E.is S.sight limit self.old.tokens.source
             (next (in_array ts ∷ fs) after) result nest.new self.new.tokens.source }
         ensures left { OnOk result (S.left self.new.tokens.source < S.left self.old.tokens.source) }
     {
@@ -442,15 +375,15 @@ impl<S: Tokens> Reader<S> {
 
     /// Reads a comma or the brace that closes the object, after a member.
     #[inline(always)]
-    fn after_member<B: Builder>(
+    fn after_member<E: Events>(
         &mut self,
-        nest: &mut Nest<B>,
+        nest: &mut Nest<E>,
     ) -> Result<Progress, JsonParseErrorKind>
         requires within { (ms : Members) × (fs : List Frame) ×
-            IsWithin B.holds nest.old (at_key ms) fs }
+            IsWithin E.holds nest.old (at_key ms) fs }
         ensures reads { (limit : Option ℕ) (ms : Members) (fs : List Frame) →
-            IsWithin B.holds nest.old (at_key ms) fs →
-            Continues B.holds B.is S.sight limit self.old.tokens.source
+            IsWithin E.holds nest.old (at_key ms) fs →
+            Continues E.holds E.is S.sight limit self.old.tokens.source
             (next (at_key ms ∷ fs) after) result nest.new self.new.tokens.source }
         ensures left { OnOk result (S.left self.new.tokens.source < S.left self.old.tokens.source) }
     {

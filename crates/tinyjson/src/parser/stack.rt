@@ -1,20 +1,30 @@
-//! The builder of values: a stack of what was read in open containers.
+//! A text read into a value: events that keep a stack of what was read in open containers.
 ghost use Rattle.std.specs.Prelude.{◌≡◌, ◌+◌, ◌≤◌, List, [], ◌∷◌, ◌++◌};
-ghost use Rattle.std.specs.Prelude.{length, take, drop, reverse, OnOk, IfOk};
-ghost use Rattle.tinyjson_grammar.specs.Machine.{Frame, at_key};
+ghost use Rattle.std.specs.Prelude.{length, take, drop, false, reverse, IfErr, IfOk, IsTrue, OnOk, Some, None};
+ghost use Rattle.tinyjson_grammar.specs.Characters.{BeginsLiteral, is_white};
+ghost use Rattle.tinyjson_grammar.specs.Machine.{Frame, at_key, awaited, finished, next};
+ghost use Rattle.tinyjson_grammar.specs.Refusal.{begins_growth};
+ghost use Rattle.tinyjson_grammar.specs.declared.error.JsonParseErrorKind.TheVariants.{OutOfMemory};
+ghost use Rattle.tinyjson_tokens.specs.Steps.{Reads};
+ghost use Rattle.tinyjson.specs.private.Building.{IsOpen};
+ghost use Rattle.tinyjson.specs.private.Steps.{Grows, ReadsText};
 ghost use Rattle.tinyjson_grammar.specs.Tree.{Tree, Members, no_members};
-ghost use Rattle.tinyjson.specs.private.Building.{Puts};
+ghost use Rattle.tinyjson.specs.Events.{Puts};
 ghost use Rattle.tinyjson.specs.private.Stack.{gather, holds, is, maps_of};
 ghost use Rattle.tinyjson.specs.private.Stack.{other_maps, own_members};
 ghost use Rattle.tinyjson.specs.View.{view, members_view};
 ghost use Rattle.tinyjson_grammar.specs.Tree.{literal_tree};
 
-use super::builder::Builder;
+use super::error::{JsonParseError, JsonParseErrorKind};
+use super::events::Events;
+use super::nest::Nest;
+use super::reader::Reader;
 use crate::value::{JsonValue, add_member, insert_member};
 use std::alloc::{AllocError, Global};
 use std::collections::HashMap;
 use std::mem;
 use tinyjson_number::JsonNumber;
+use tinyjson_tokens::Tokens;
 
 /// Where the values and the keys of an open container begin.
 #[derive(Clone, Copy)]
@@ -38,7 +48,7 @@ pub(super) struct Stack {
     maps: Vec<HashMap<String, JsonValue>>,
 }
 
-impl Builder for Stack {
+impl Events for Stack {
     ghost use Rattle.tinyjson.specs.private.Stack.{holds, is};
 
     ghost holds = { holds };
@@ -380,6 +390,71 @@ impl Stack {
         for members in self.maps {
             JsonValue::Object(members).dismantle();
         }
+    }
+}
+
+impl<S: Tokens> Reader<S> {
+    /// Reads a whole text; an error says where the source stands. What it gives up is freed by a
+    /// loop. A literal alone takes no memory.
+    pub(super) fn text(&mut self, limit: Option<usize>) -> Result<JsonValue, JsonParseError>
+        ensures reads { ReadsText S.sight limit self.old.tokens.source result
+            self.new.tokens.source }
+        ensures end { OnOk result (S.sight.shows self.new.tokens.source None) }
+        ensures memory { IfErr result (λ e.
+            e.kind ≡ OutOfMemory → Grows S.sight self.old.tokens.source) }
+    {
+        match self.text_value(limit) {
+            Ok(value) => Ok(value),
+            Err(kind) => {
+                let (line, column) = self.tokens.position();
+                Err(JsonParseError { kind, line, column })
+            }
+        }
+    }
+
+    /// Reads the value of a whole text, and the end after it.
+    fn text_value(&mut self, limit: Option<usize>) -> Result<JsonValue, JsonParseErrorKind>
+        ensures reads { Reads S.sight limit self.old.tokens.source (next [] awaited) result
+            (λ v. next [] (finished (view v))) self.new.tokens.source }
+        ensures end { OnOk result (S.sight.shows self.new.tokens.source None) }
+        ensures memory { IfErr result (λ kind.
+            kind ≡ OutOfMemory → Grows S.sight self.old.tokens.source) }
+    {
+        match self.tokens.skip_white() {
+            Some(first @ ('n' | 't' | 'f')) => {
+                let literal = self.tokens.literal(first)?;
+                self.end()?;
+                Ok(literal_value(literal))
+            }
+            Some(first) => {
+                let mut nest = Nest::new(self.alloc, Stack::new(self.alloc));
+                let read = self.values(limit, &mut nest, first);
+                nest.events.abandon();
+                read
+            }
+            None => Err(JsonParseErrorKind::UnexpectedEof),
+        }
+    }
+
+    /// Reads the text whose first value begins with this character. After an error the stack holds
+    /// what was read.
+    fn values(
+        &mut self,
+        limit: Option<usize>,
+        nest: &mut Nest<Stack>,
+        first: char,
+    ) -> Result<JsonValue, JsonParseErrorKind>
+        requires shown { S.sight.shows self.old.tokens.source (Some first) }
+        requires no_white { is_white first ≡ false }
+        requires no_literal { ¬ (BeginsLiteral first) }
+        requires open { IsOpen holds nest.old [] }
+        ensures reads { Reads S.sight limit self.old.tokens.source (next [] awaited) result
+            (λ v. next [] (finished (view v))) self.new.tokens.source }
+        ensures end { OnOk result (S.sight.shows self.new.tokens.source None) }
+        ensures memory { IfErr result (λ kind. kind ≡ OutOfMemory → IsTrue (begins_growth first)) }
+    {
+        self.build(limit, nest, first)?;
+        Ok(nest.events.take_complete())
     }
 }
 

@@ -4,16 +4,16 @@ use Rattle.tinyjson.proofs.parser.reader.Reader.after.Goals as goal
 
 pub returns-in-Item-clause-reads : goal.returns-in-Item-clause-reads
 returns-in-Item-clause-reads g c = λ limit n h.
-    let holds = g.B.Builder.holds in
-    let is = g.B.Builder.is in
+    let holds = g.E.Events.holds in
+    let is = g.E.Events.is in
     let w = after_item holds is g.S.Source.sight limit c.args.nest.now n c.requires.innermost.0 h
     (c.requires.innermost.1 ∙ ap (λ o. o ∷ c.requires.innermost.0) c.in-Item.is) in
     Continues_from holds is g.S.Source.sight limit _ _ _ c.after_item.new.nest w.2 (c.after_item.ensures.reads limit w.0 w.1 w.3)
 
 pub returns-in-Value-clause-reads : goal.returns-in-Value-clause-reads
 returns-in-Value-clause-reads g c = λ limit n h.
-    let holds = g.B.Builder.holds in
-    let is = g.B.Builder.is in
+    let holds = g.E.Events.holds in
+    let is = g.E.Events.is in
     let w = after_member holds is g.S.Source.sight limit c.args.nest.now n c.requires.innermost.0 h
     (c.requires.innermost.1 ∙ ap (λ o. o ∷ c.requires.innermost.0) c.in-Value.is) in
     Continues_from holds is g.S.Source.sight limit _ _ _ c.after_member.new.nest w.2 (c.after_member.ensures.reads limit w.0 w.1 w.3)

@@ -10,15 +10,15 @@ use Rattle.tinyjson.proofs.parser.reader.Reader.after_item.Goals as goal
 pub returns-in-Some-eq44-clause-reads : goal.returns-in-Some-eq44-clause-reads
 returns-in-Some-eq44-clause-reads g c = λ limit ts fs h.
     let sight = g.S.Source.sight in
-    awaits g.B.Builder.holds g.B.Builder.is sight limit _ _ (in_array ts ∷ fs) c.args.nest.now
+    awaits g.E.Events.holds g.E.Events.is sight limit _ _ (in_array ts ∷ fs) c.args.nest.now
     (Leads_one sight limit _ _ _ 44 (Leads_whites sight limit _ _ _ c.skip_white.ensures.white tt (white_after limit _))
     c.consume.ensures.takes tt (array_comma limit fs ts 44 (search rules)) tt) h
 
 pub returns-in-Some-eq93-clause-reads : goal.returns-in-Some-eq93-clause-reads
 returns-in-Some-eq93-clause-reads g c = λ limit ts fs h.
     let sight = g.S.Source.sight in
-    let holds = g.B.Builder.holds in
-    joined holds g.B.Builder.is sight limit _ _ (in_array ts ∷ fs) after _ c.close_array.new.self
+    let holds = g.E.Events.holds in
+    joined holds g.E.Events.is sight limit _ _ (in_array ts ∷ fs) after _ c.close_array.new.self
     (Leads_one sight limit _ _ _ 93 (Leads_whites sight limit _ _ _ c.skip_white.ensures.white tt (white_after limit _))
     c.consume-in-Some-eq93.ensures.takes tt (array_closes limit fs ts 93 (search rules)) (taken_complete _ _))
     (c.close_array.ensures ts fs (within holds c.args.nest.now (in_array ts) fs h))

@@ -10,7 +10,7 @@ use Rattle.tinyjson.proofs.parser.reader.Reader.after_member.Goals as goal
 pub returns-in-Some-eq44-clause-reads : goal.returns-in-Some-eq44-clause-reads
 returns-in-Some-eq44-clause-reads g c = λ limit ms fs h.
     let sight = g.S.Source.sight in
-    Continues_after g.B.Builder.holds g.B.Builder.is sight limit _ _ _ _ c.key.new.nest
+    Continues_after g.E.Events.holds g.E.Events.is sight limit _ _ _ _ c.key.new.nest
     (Leads_one sight limit _ _ _ 44 (Leads_whites sight limit _ _ _ c.skip_white.ensures.white tt (white_after limit _))
     c.consume.ensures.takes tt (object_comma limit fs ms 44 (search rules)) tt)
     (c.key.ensures.reads limit ms fs (search rules))
@@ -18,7 +18,7 @@ returns-in-Some-eq44-clause-reads g c = λ limit ms fs h.
 pub returns-in-Some-eq125-clause-reads : goal.returns-in-Some-eq125-clause-reads
 returns-in-Some-eq125-clause-reads g c = λ limit ms fs h.
     let sight = g.S.Source.sight in
-    joined g.B.Builder.holds g.B.Builder.is sight limit _ _ (at_key ms ∷ fs) after _ c.close_object.new.self
+    joined g.E.Events.holds g.E.Events.is sight limit _ _ (at_key ms ∷ fs) after _ c.close_object.new.self
     (Leads_one sight limit _ _ _ 125 (Leads_whites sight limit _ _ _ c.skip_white.ensures.white tt (white_after limit _))
     c.consume-in-Some-eq125.ensures.takes tt (object_closes limit fs ms 125 (search rules)) (taken_complete _ _))
     (c.close_object.ensures ms fs h)

@@ -21,8 +21,8 @@ pub returns-in-Some-eq93-clause-reads : goal.returns-in-Some-eq93-clause-reads
 returns-in-Some-eq93-clause-reads g c = λ fs h.
     let sight = g.S.Source.sight in
     let limit = c.args.limit in
-    let holds = g.B.Builder.holds in
-    let is = g.B.Builder.is in
+    let holds = g.E.Events.holds in
+    let is = g.E.Events.is in
     let w : fits limit c.depth.result ≡ true = search rules in
     Continues_after holds is sight limit _ _ _ _ c.empty_array.new.self
     (array_begins sight limit _ _ fs _ (c.depth.ensures fs h.1) w c.consume.ensures.takes)
@@ -47,8 +47,8 @@ returns-else-is_err-clause-reads g c = λ fs h.
     let w : fits limit c.depth.result ≡ true = search rules in
     let other : IfSome c.skip_white.result (λ d. d ≡ 93 → ⊥) = elim c.in_default.branch
     [ in_default-via-in-Some+in_default w ↦ rw w.in_default.is (search rules) | in_default-via-in_default w ↦ rw w.in_default.is tt ] in
-    let opened : IsOpen g.B.Builder.holds c.open_array.new.self (in_array [] ∷ fs) = search rules in
-    awaits g.B.Builder.holds g.B.Builder.is sight limit _ _ (in_array [] ∷ fs) c.open_array.new.self
+    let opened : IsOpen g.E.Events.holds c.open_array.new.self (in_array [] ∷ fs) = search rules in
+    awaits g.E.Events.holds g.E.Events.is sight limit _ _ (in_array [] ∷ fs) c.open_array.new.self
     (Leads_trans sight limit _ _ _
     (array_begins sight limit _ _ fs _ (c.depth.ensures fs h.1) w c.consume.ensures.takes)
     (array_goes_on sight limit _ _ fs c.skip_white.result (Leads_whites sight limit _ _ _ c.skip_white.ensures.white tt

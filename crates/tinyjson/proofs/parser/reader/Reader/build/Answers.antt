@@ -19,4 +19,4 @@ returns-in_err-progress-clause-reads g c =
 pub returns-clause-reads : goal.returns-clause-reads
 returns-clause-reads g c =
     let w = c.in_ok-progress.ensures.reads [] c.requires.open in
-    Builds_after g.B.Builder.holds g.B.Builder.is g.S.Source.sight c.args.limit _ _ _ _ c.rest.new.nest w.1 (c.rest.ensures.reads w.0 w.2)
+    Builds_after g.E.Events.holds g.E.Events.is g.S.Source.sight c.args.limit _ _ _ _ c.rest.new.nest w.1 (c.rest.ensures.reads w.0 w.2)

@@ -17,10 +17,10 @@ returns-then-is_err-clause-reads g c = λ limit ms fs h.
 pub returns-in-Some-eq58-clause-reads : goal.returns-in-Some-eq58-clause-reads
 returns-in-Some-eq58-clause-reads g c = λ limit ms fs h.
     let sight = g.S.Source.sight in
-    let holds = g.B.Builder.holds in
+    let holds = g.E.Events.holds in
     let key = cond c.args.lent (g.S.Source.lent c.args.self.now.tokens.source) (text c.args.self.now.string) in
     let keyed : IsOpen holds c.key.new.self (at_value ms (chars c.characters.result.now) ∷ fs) = search rules in
-    awaits holds g.B.Builder.is sight limit _ _ (at_value ms key ∷ fs) c.key.new.self
+    awaits holds g.E.Events.is sight limit _ _ (at_value ms key ∷ fs) c.key.new.self
     (Leads_one sight limit _ _ _ 58 (Leads_whites sight limit _ _ _ c.skip_white.ensures.white tt (white_colon limit _ _))
     c.consume.ensures.takes tt (colon_read limit fs ms key 58 (search rules)) tt)
     (subst (λ k. IsOpen holds c.key.new.self (at_value ms k ∷ fs)) c.characters.ensures keyed)

@@ -16,16 +16,16 @@ pub returns-in_ok-lent-in-Some-eq34-clause-reads : goal.returns-in_ok-lent-in-So
 returns-in_ok-lent-in-Some-eq34-clause-reads g c = λ limit ms fs h.
     let sight = g.S.Source.sight in
     let q = Leads_whites sight limit _ _ _ c.skip_white.ensures.white tt (white_awaited limit _) in
-    Continues_after g.B.Builder.holds g.B.Builder.is sight limit _ _ _ _ c.colon.new.nest
+    Continues_after g.E.Events.holds g.E.Events.is sight limit _ _ _ _ c.colon.new.nest
     (Leads_trans sight limit _ _ _ q (c.in_ok-lent-in-Some-eq34.ensures.reads limit (at_key ms ∷ fs)))
     (c.colon.ensures.reads limit ms fs h)
 
 pub returns-in_default-clause-reads : goal.returns-in_default-clause-reads
 returns-in_default-clause-reads g c = λ limit ms fs h.
-    awaits g.B.Builder.holds g.B.Builder.is g.S.Source.sight limit _ _ (at_key ms ∷ fs) c.args.nest.now
+    awaits g.E.Events.holds g.E.Events.is g.S.Source.sight limit _ _ (at_key ms ∷ fs) c.args.nest.now
     (Leads_whites g.S.Source.sight limit _ _ _ c.skip_white.ensures.white tt (white_awaited limit _)) h
 
 pub returns-in_default-2-clause-reads : goal.returns-in_default-2-clause-reads
 returns-in_default-2-clause-reads g c = λ limit ms fs h.
-    awaits g.B.Builder.holds g.B.Builder.is g.S.Source.sight limit _ _ (at_key ms ∷ fs) c.args.nest.now
+    awaits g.E.Events.holds g.E.Events.is g.S.Source.sight limit _ _ (at_key ms ∷ fs) c.args.nest.now
     (Leads_whites g.S.Source.sight limit _ _ _ c.skip_white.ensures.white tt (white_awaited limit _)) h

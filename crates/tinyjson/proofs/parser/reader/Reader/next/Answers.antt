@@ -7,7 +7,7 @@ pub returns-in-Some-clause-reads : goal.returns-in-Some-clause-reads
 returns-in-Some-clause-reads g c = λ fs h.
     let sight = g.S.Source.sight in
     let limit = c.args.limit in
-    Continues_after g.B.Builder.holds g.B.Builder.is sight limit _ _ _ _ c.value.new.nest
+    Continues_after g.E.Events.holds g.E.Events.is sight limit _ _ _ _ c.value.new.nest
     (Leads_whites sight limit _ _ _ c.skip_white.ensures.white tt (white_awaited limit _)) (c.value.ensures.reads fs h)
 
 pub returns-in-None-clause-reads : goal.returns-in-None-clause-reads

@@ -10,5 +10,5 @@ returns-in_err-number-clause-reads g c = λ limit fs h.
 
 pub returns-clause-reads : goal.returns-clause-reads
 returns-clause-reads g c = λ limit fs h.
-    joined g.B.Builder.holds g.B.Builder.is g.S.Source.sight limit _ _ fs awaited _ c.number-2.new.self
+    joined g.E.Events.holds g.E.Events.is g.S.Source.sight limit _ _ fs awaited _ c.number-2.new.self
     (c.in_ok-number.ensures.reads limit fs) (c.number-2.ensures fs h)

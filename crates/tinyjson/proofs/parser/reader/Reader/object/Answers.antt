@@ -22,8 +22,8 @@ pub returns-in-Some-eq125-clause-reads : goal.returns-in-Some-eq125-clause-reads
 returns-in-Some-eq125-clause-reads g c = λ fs h.
     let sight = g.S.Source.sight in
     let limit = c.args.limit in
-    let holds = g.B.Builder.holds in
-    let is = g.B.Builder.is in
+    let holds = g.E.Events.holds in
+    let is = g.E.Events.is in
     let w : fits limit c.depth.result ≡ true = search rules in
     Continues_after holds is sight limit _ _ _ _ c.empty_object.new.self
     (object_begins sight limit _ _ fs _ (c.depth.ensures fs h.1) w c.consume.ensures.takes)
@@ -48,8 +48,8 @@ returns-else-is_err-clause-reads g c = λ fs h.
     let w : fits limit c.depth.result ≡ true = search rules in
     let other : IfSome c.skip_white.result (λ d. d ≡ 125 → ⊥) = elim c.in_default.branch
     [ in_default-via-in-Some+in_default w ↦ rw w.in_default.is (search rules) | in_default-via-in_default w ↦ rw w.in_default.is tt ] in
-    let opened : IsOpen g.B.Builder.holds c.open_object.new.self (at_key no_members ∷ fs) = search rules in
-    Continues_after g.B.Builder.holds g.B.Builder.is sight limit _ _ _ _ c.key.new.nest
+    let opened : IsOpen g.E.Events.holds c.open_object.new.self (at_key no_members ∷ fs) = search rules in
+    Continues_after g.E.Events.holds g.E.Events.is sight limit _ _ _ _ c.key.new.nest
     (Leads_trans sight limit _ _ _
     (object_begins sight limit _ _ fs _ (c.depth.ensures fs h.1) w c.consume.ensures.takes)
     (object_goes_on sight limit _ _ fs c.skip_white.result (Leads_whites sight limit _ _ _ c.skip_white.ensures.white tt

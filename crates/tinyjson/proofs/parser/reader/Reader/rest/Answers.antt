@@ -10,18 +10,18 @@ loop-progress-init g c = λ n h. (n, Leads_nil g.S.Source.sight c.args.limit _ n
 pub next-requires : goal.next-requires
 next-requires g c =
     let i = c.loop-progress.invariant c.requires.sound.0 c.requires.sound.1 in
-    let w = open_at g.B.Builder.holds g.B.Builder.is g.S.Source.sight c.args.limit c.loop-progress.nest _ _ c.in-Awaits.is i.2 in
+    let w = open_at g.E.Events.holds g.E.Events.is g.S.Source.sight c.args.limit c.loop-progress.nest _ _ c.in-Awaits.is i.2 in
     record { «open» = (w.0, w.2) }
 
 pub after-requires-clause-sound : goal.after-requires-clause-sound
 after-requires-clause-sound g c =
     let i = c.loop-progress.invariant c.requires.sound.0 c.requires.sound.1 in
-    (i.0, complete_at g.B.Builder.holds g.B.Builder.is g.S.Source.sight c.args.limit c.loop-progress.nest _ _ c.in-Complete.is i.2)
+    (i.0, complete_at g.E.Events.holds g.E.Events.is g.S.Source.sight c.args.limit c.loop-progress.nest _ _ c.in-Complete.is i.2)
 
 pub returns-in_err-progress-in-Awaits-clause-reads : goal.returns-in_err-progress-in-Awaits-clause-reads
 returns-in_err-progress-in-Awaits-clause-reads g c = λ n h.
-    let holds = g.B.Builder.holds in
-    let is = g.B.Builder.is in
+    let holds = g.E.Events.holds in
+    let is = g.E.Events.is in
     let sight = g.S.Source.sight in
     let limit = c.args.limit in
     let p = err_from_is_err_and c.from_residual.result c.from_residual.ensures.1 in
@@ -32,8 +32,8 @@ returns-in_err-progress-in-Awaits-clause-reads g c = λ n h.
 
 pub loop-progress-preserved-in_ok-progress-in-Awaits : goal.loop-progress-preserved-in_ok-progress-in-Awaits
 loop-progress-preserved-in_ok-progress-in-Awaits g c = λ n h.
-    let holds = g.B.Builder.holds in
-    let is = g.B.Builder.is in
+    let holds = g.E.Events.holds in
+    let is = g.E.Events.is in
     let sight = g.S.Source.sight in
     let limit = c.args.limit in
     let i = c.loop-progress.invariant n h in
@@ -49,13 +49,13 @@ returns-in_err-progress-in-Some-clause-reads g c = λ n h.
     let r = c.from_residual-in_err-progress-in-Some in
     let p = err_from_is_err_and r.result r.ensures.1 in
     let i = c.loop-progress.invariant n h in
-    let w = complete_at g.B.Builder.holds g.B.Builder.is sight limit c.loop-progress.nest _ _ c.in-Complete.is i.2 in
+    let w = complete_at g.E.Events.holds g.E.Events.is sight limit c.loop-progress.nest _ _ c.in-Complete.is i.2 in
     rw (p.1, p.2) (Refuses_after sight limit _ _ _ _ i.1 (c.in_err-progress-in-Some.ensures.reads limit i.0 w))
 
 pub loop-progress-preserved : goal.loop-progress-preserved
 loop-progress-preserved g c = λ n h.
-    let holds = g.B.Builder.holds in
-    let is = g.B.Builder.is in
+    let holds = g.E.Events.holds in
+    let is = g.E.Events.is in
     let sight = g.S.Source.sight in
     let limit = c.args.limit in
     let i = c.loop-progress.invariant n h in
@@ -65,8 +65,8 @@ loop-progress-preserved g c = λ n h.
 
 pub returns-in-None-clause-reads : goal.returns-in-None-clause-reads
 returns-in-None-clause-reads g c = λ n h.
-    let holds = g.B.Builder.holds in
-    let is = g.B.Builder.is in
+    let holds = g.E.Events.holds in
+    let is = g.E.Events.is in
     let sight = g.S.Source.sight in
     let limit = c.args.limit in
     let i = c.loop-progress.invariant n h in

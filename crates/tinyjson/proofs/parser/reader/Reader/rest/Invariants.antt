@@ -4,9 +4,9 @@ use Rattle.tinyjson_tokens.specs.Steps.{Leads}
 use Rattle.tinyjson.proofs.parser.reader.Reader.rest.Given as goal
 
 abbrev pub invariant-loop-progress : goal.invariant-loop-progress
-invariant-loop-progress g l = (n : Next) → Stands g.B.Builder.holds g.B.Builder.is l.initial.nest l.initial.progress n
+invariant-loop-progress g l = (n : Next) → Stands g.E.Events.holds g.E.Events.is l.initial.nest l.initial.progress n
     → (m : Next) × Leads g.S.Source.sight l.fn.limit l.initial.self.tokens.source n l.self.tokens.source m
-    × Stands g.B.Builder.holds g.B.Builder.is l.nest l.progress m
+    × Stands g.E.Events.holds g.E.Events.is l.nest l.progress m
 
 abbrev pub decreases-loop-progress : goal.decreases-loop-progress
 decreases-loop-progress g l = g.S.Source.left l.self.tokens.source

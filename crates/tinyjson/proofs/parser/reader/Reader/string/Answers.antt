@@ -14,11 +14,11 @@ returns-in_err-lent-clause-reads g c = λ limit fs h.
 pub returns-then-awaits_key-clause-reads : goal.returns-then-awaits_key-clause-reads
 returns-then-awaits_key-clause-reads g c = λ limit fs h.
     let w : (ms : Members) × (gs : List Frame) × (fs ≡ at_key ms ∷ gs) = search rules in
-    string_at_key g.B.Builder.holds g.B.Builder.is g.S.Source.sight limit _ _ _ fs w.0 w.1 w.2 _ _ c.args.nest.now c.colon.new.nest
+    string_at_key g.E.Events.holds g.E.Events.is g.S.Source.sight limit _ _ _ fs w.0 w.1 w.2 _ _ c.args.nest.now c.colon.new.nest
     (c.in_ok-lent.ensures.reads limit fs) h (c.colon.ensures.reads limit w.0 w.1)
 
 pub returns-clause-reads : goal.returns-clause-reads
 returns-clause-reads g c = λ limit fs h.
     let w : TakesValue fs = search rules in
-    joined g.B.Builder.holds g.B.Builder.is g.S.Source.sight limit _ _ fs awaited _ c.string-2.new.self
+    joined g.E.Events.holds g.E.Events.is g.S.Source.sight limit _ _ fs awaited _ c.string-2.new.self
     (c.in_ok-lent.ensures.reads limit fs) (rw c.characters.ensures at c.string-2.ensures fs h w)

@@ -1,5 +1,0 @@
-use Rattle.std.proofs.Common.{[]}
-use Rattle.tinyjson.proofs.parser.builder.Builder.empty_array.Goals as goal
-
-pub close_array-requires : goal.close_array-requires
-close_array-requires g c = ([], c.requires.0, c.in_ok-open_array.ensures c.requires.0 c.requires.1)
