@@ -83,7 +83,7 @@ fn nth_record<I: Iterator<Item = char> + Drop>(
     mut parser: JsonParser<I>,
     call: usize,
     record: Record,
-) -> Result<Record, JsonParseError> {
+) -> Result<Record, (JsonParseError, Record)> {
     for _ in 1..call {
         let _ = parser.parse_events(record.begun());
     }
@@ -109,7 +109,7 @@ fn events_of(
     text: &str,
     limit: Option<usize>,
     refuses_numbers: bool,
-) -> Result<Record, JsonParseError> {
+) -> Result<Record, (JsonParseError, Record)> {
     let record = Record::new(alloc, refuses_numbers);
     match limit {
         None => read_events(alloc, text, record),
@@ -142,13 +142,16 @@ fn checked(reply: &mut Reply, answer: Result<(), JsonParseError>) -> io::Result<
 }
 
 /// The events that were told, or an error.
-fn told(reply: &mut Reply, answer: &Result<Record, JsonParseError>) -> io::Result<()> {
+fn told(
+    reply: &mut Reply,
+    answer: &Result<Record, (JsonParseError, Record)>,
+) -> io::Result<()> {
     match answer {
         Ok(record) => {
             reply.word("events")?;
             reply.text(record.told.as_str())
         }
-        Err(error) => error_of(reply, *error),
+        Err((error, _)) => error_of(reply, *error),
     }
 }
 

@@ -3,9 +3,8 @@ use Rattle.std.proofs.Common.{◌≡◌, ℕ, ◌+◌, ◌≤◌, List, [], ◌�
 use Rattle.example_count.specs.Counts.{AtLeast, count, counted, items_count, members_count, one, open_count}
 use Rattle.example_count.specs.declared.counts.Counts.{Counts}
 use Rattle.tinyjson.specs.Events.{Open, in_array, at_key, at_value, Puts}
-use Rattle.tinyjson.specs.Tree.{Tree, Members, array, object, items_of, no_members, member, put, put_at, key_cmp}
+use Rattle.tinyjson.specs.Tree.{Tree, Members, items_of, no_members, member, put, put_at, key_cmp}
 use Rattle.tinyjson.specs.JsonKind.{JsonKind}
-use Rattle.tinyjson.specs.JsonKind.TheVariants as kind
 
 abbrev pub Holds : Counts → List Open → Type 0
 Holds e os = (k : JsonKind) → open_count k os ≤ counted e k

@@ -1,5 +1,5 @@
 -- How many values of a kind a tree has.
-use Rattle.std.specs.Prelude.{ℕ, ◌+◌, ◌≤◌, Bool, true, false, List, [], ◌∷◌, cond}
+use Rattle.std.specs.Prelude.{ℕ, ◌+◌, ◌≤◌, List, [], ◌∷◌}
 use Rattle.example_count.specs.declared.counts.Counts.{Counts}
 use Rattle.tinyjson.specs.Events.{Open, in_array, at_key, at_value}
 use Rattle.tinyjson.specs.Tree.{Tree, Items, Members, null, boolean, number, string, array, object}

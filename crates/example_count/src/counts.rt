@@ -114,5 +114,8 @@ impl Events for Counts {
 pub fn count_values(alloc: Global, text: &str) -> Result<Counts, JsonParseError>
     ensures { TellsText AtLeast None (chars text.now) result }
 {
-    read_events(alloc, text, Counts::none())
+    match read_events(alloc, text, Counts::none()) {
+        Ok(counts) => Ok(counts),
+        Err((error, _)) => Err(error),
+    }
 }

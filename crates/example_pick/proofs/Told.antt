@@ -1,5 +1,5 @@
 -- What stands after each event.
-use Rattle.std.proofs.Common.{◌≡◌, ℕ, suc, ◌+◌, ◌-◌, Bool, true, false, List, [], ◌∷◌, ◌++◌, length, Option, Some, None, option_map}
+use Rattle.std.proofs.Common.{◌≡◌, ℕ, suc, ◌+◌, ◌-◌, Bool, true, false, List, [], ◌∷◌, length, Option, Some, None, option_map}
 use Rattle.std.proofs.Common.{Result, Ok, Err, OnOk, refl, sym, ap, ◌∙◌, subst, arith}
 use Rattle.example_pick.specs.Picking.{Around, Holds, is_scalar, members_of, Picks, stored, without, Within}
 use Rattle.example_pick.proofs.Picks.{other_picks, removed_picks, stored_picks}

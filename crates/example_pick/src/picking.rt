@@ -163,6 +163,6 @@ pub fn pick_members<W: Wanted>(
     };
     match read_events(alloc, text, start) {
         Ok(picking) => Ok(picking.members),
-        Err(error) => Err(error),
+        Err((error, _)) => Err(error),
     }
 }

@@ -9,3 +9,4 @@ pub mod Memory
 pub mod Loop
 pub mod Check
 pub mod Events
+pub mod Left

@@ -1,12 +1,12 @@
 -- What stands while a text is read event by event, and what a reading into events returns.
-use Rattle.std.specs.Prelude.{◌≡◌, ℕ, List, [], ◌∷◌, ◌++◌, Option, Result, MatchResult, IfErr, ◌⊎◌, ⊤}
+use Rattle.std.specs.Prelude.{◌≡◌, ℕ, List, [], ◌∷◌, ◌++◌, Option, Result, Ok, Err, MatchResult, IfErr, ◌⊎◌, ⊤}
 use Rattle.tinyjson.specs.Error.{error_kind, error_position}
 use Rattle.tinyjson.specs.Parser.{Parser, Remains}
 use Rattle.tinyjson_grammar.specs.Grammar.{IsText, IsAccepted}
 use Rattle.tinyjson_grammar.specs.Position.{origin, advance}
 use Rattle.tinyjson_grammar.specs.Refusal.{IsInterrupted, MayGrow, RefusalSays}
 use Rattle.tinyjson_grammar.specs.Syntax.{AreWhite}
-use Rattle.tinyjson_grammar.specs.Tree.{Tree, Members, put}
+use Rattle.tinyjson_grammar.specs.Tree.{Tree, put}
 use Rattle.tinyjson.specs.declared.parser.error.JsonParseError.{JsonParseError}
 use Rattle.tinyjson_grammar.specs.declared.error.JsonParseErrorKind.TheVariants as kind
 use Rattle.tinyjson_grammar.specs.Characters.{BeginsLiteral}
@@ -22,6 +22,19 @@ Puts holds is [] t e = is e t
 Puts holds is (in_array ts ∷ os) t e = holds e (in_array (ts ++ t ∷ []) ∷ os)
 Puts holds is (at_key ms ∷ os) t e = ⊤
 Puts holds is (at_value ms k ∷ os) t e = holds e (at_key (put k t ms) ∷ os)
+
+-- What is held after an error: some containers are open, or a value is complete.
+abbrev pub HoldsSome : {E : Type 0} → (E → List Open → Type 0) → (E → Tree → Type 0) → E → Type 0
+HoldsSome holds is e = ((os : List Open) × holds e os) ⊎ ((t : Tree) × is e t)
+
+-- An error gives the events back: the result without them.
+abbrev pub without_events : {E : Type 0} → Result E (JsonParseError × E) → Result E JsonParseError
+without_events (Ok e) = Ok e
+without_events (Err w) = Err w.0
+
+-- An error that is not out of memory gives back events that hold what they were told.
+abbrev pub GivesBack : {E : Type 0} → (E → List Open → Type 0) → (E → Tree → Type 0) → Result E (JsonParseError × E) → Type 0
+GivesBack holds is result = IfErr result (λ w. ¬ (error_kind w.0 ≡ kind.OutOfMemory) → HoldsSome holds is w.1)
 
 -- The first character that is not white space begins a literal.
 pub record MeetsLiteral (xs : List ℕ) : Type 0 where

@@ -2,7 +2,7 @@
 ghost use Rattle.std.specs.Prelude.{◌≡◌, ℕ, List, [], Option, None, Some};
 ghost use Rattle.std.specs.Iterator.{IsFinite};
 ghost use Rattle.std.specs.Str.{chars};
-ghost use Rattle.tinyjson.specs.Events.{TellsRest, TellsText};
+ghost use Rattle.tinyjson.specs.Events.{GivesBack, TellsRest, TellsText, without_events};
 ghost use Rattle.tinyjson.specs.Parser.{ChecksText, Provides, Remains, Parses, ParsesText};
 ghost use Rattle.tinyjson_grammar.specs.Position.{origin};
 
@@ -137,21 +137,23 @@ impl<I: Iterator<Item = char>> JsonParser<I> {
         self.reader.text(self.limit)
     }
 
-    /// Reads all characters that are left as one text, and tells it to events, which are given back where
-    /// it has a value, of which nothing is built: so a text larger than memory is read.
+    /// Reads all characters that are left as one text into events, without building a value: so a text
+    /// larger than memory is read. The events are given back, beside the error too.
     ///
-    /// An error is that of [`JsonParser::parse`], or says that memory ran out, also for an event that was
-    /// refused. The line, the column and what is left are those after `parse`.
+    /// An error is that of [`JsonParser::parse`], or out of memory, also for an event that was refused. But
+    /// for out of memory the line, the column and what is left are those after `parse`, and the events hold
+    /// what they were told.
     ///
     /// ```
     /// let mut parser = JsonParser::new(alloc, "[1, {\"a\": 2.5}]".chars());
     /// let numbers = parser.parse_events(Numbers { count: 0 })?;
     /// assert_eq!(rt; numbers.count, 2);
     /// ```
-    pub fn parse_events<E: Events>(&mut self, events: E) -> Result<E, JsonParseError>
+    pub fn parse_events<E: Events>(&mut self, events: E) -> Result<E, (JsonParseError, E)>
         requires { E.holds events [] }
         ensures parses { (xs : List ℕ) → Remains I.next_gives self.old xs →
-            TellsRest I.next_gives E.is self.old xs result self.new }
+            TellsRest I.next_gives E.is self.old xs (without_events result) self.new }
+        ensures back { GivesBack E.holds E.is result }
         ensures limit { self.new.limit ≡ self.old.limit }
     {
         self.reader.told(self.limit, events)
@@ -230,50 +232,63 @@ fn check_text(alloc: Global, text: &str, limit: Option<usize>) -> Result<(), Jso
     Reader::new(alloc, TextBytes::new(text)).check(limit)
 }
 
-/// Tells a text to events, which are given back where it has a value. An error is that of
-/// [`JsonValue::from_str`], or says that memory ran out, also for an event that was refused.
+/// Reads a text into events, which are given back, beside an error too. The error is that of
+/// [`JsonValue::from_str`], or out of memory, also for an event that was refused. But for out of memory the
+/// events hold what they were told.
 ///
 /// ```
 /// let numbers = read_events(alloc, "[1, {\"a\": 2.5}]", Numbers { count: 0 })?;
 /// assert_eq!(rt; numbers.count, 2);
+///
+/// let refused = read_events(alloc, "[1, 2,]", Numbers { count: 0 });
+/// assert!(rt; refused.is_err_and(|(error, numbers)| {
+///     error.kind() == JsonParseErrorKind::InvalidCharacter(']') && numbers.count == 2
+/// }));
 /// ```
-pub fn read_events<E: Events>(alloc: Global, text: &str, events: E) -> Result<E, JsonParseError>
+pub fn read_events<E: Events>(
+    alloc: Global,
+    text: &str,
+    events: E,
+) -> Result<E, (JsonParseError, E)>
     requires { E.holds events [] }
-    ensures { TellsText E.is None (chars text.now) result }
+    ensures tells { TellsText E.is None (chars text.now) (without_events result) }
+    ensures back { GivesBack E.holds E.is result }
 {
     tell_text(alloc, text, None, events)
 }
 
-/// Tells a text to events as [`read_events`] does, if at most `limit` containers are open at once in it.
-/// An error is that of [`JsonValue::from_str_with_depth_limit`], or says that memory ran out.
+/// Reads a text into events as [`read_events`] does, if at most `limit` containers are open at once in it.
+/// An error is that of [`JsonValue::from_str_with_depth_limit`], or out of memory.
 ///
 /// ```
 /// let numbers = read_events_with_depth_limit(alloc, "[1, [2]]", 2, Numbers { count: 0 })?;
 /// assert_eq!(rt; numbers.count, 2);
 /// let result = read_events_with_depth_limit(alloc, "[1, [2]]", 1, Numbers { count: 0 });
-/// assert!(rt; result.is_err_and(|error| error.kind() == JsonParseErrorKind::TooDeep('[')));
+/// assert!(rt; result.is_err_and(|(error, _)| error.kind() == JsonParseErrorKind::TooDeep('[')));
 /// ```
 pub fn read_events_with_depth_limit<E: Events>(
     alloc: Global,
     text: &str,
     limit: usize,
     events: E,
-) -> Result<E, JsonParseError>
+) -> Result<E, (JsonParseError, E)>
     requires { E.holds events [] }
-    ensures { TellsText E.is (Some limit) (chars text.now) result }
+    ensures tells { TellsText E.is (Some limit) (chars text.now) (without_events result) }
+    ensures back { GivesBack E.holds E.is result }
 {
     tell_text(alloc, text, Some(limit), events)
 }
 
-/// Tells a text to events, with this limit on the containers that are open at once.
+/// Reads a text into events, with this limit on the containers that are open at once.
 fn tell_text<E: Events>(
     alloc: Global,
     text: &str,
     limit: Option<usize>,
     events: E,
-) -> Result<E, JsonParseError>
+) -> Result<E, (JsonParseError, E)>
     requires { E.holds events [] }
-    ensures { TellsText E.is limit (chars text.now) result }
+    ensures tells { TellsText E.is limit (chars text.now) (without_events result) }
+    ensures back { GivesBack E.holds E.is result }
 {
     Reader::new(alloc, TextBytes::new(text)).told(limit, events)
 }

@@ -27,7 +27,6 @@ use Rattle.tinyjson_normal.specs.Node.{IsText, Grows}
 use Rattle.tinyjson_normal.specs.Order.{IsOrdered, AreMembersBy, lasts, paired}
 use Rattle.tinyjson_normal.specs.Normal.{HasTree}
 use Rattle.tinyjson_normal.specs.declared.normal.NormalText.{NormalText}
-use Rattle.tinyjson_normal.specs.declared.reader.Boxed.{Boxed}
 use Rattle.tinyjson_normal.specs.declared.compact.Begun.{Begun}
 use Rattle.tinyjson_normal.specs.declared.compact.Compact.{Compact}
 use Rattle.tinyjson_normal.specs.declared.compact.Start.{Start}
@@ -495,17 +494,6 @@ closes_object r a b c ms os place places members ns h o em ordered et some none 
     (object_closed r b.text.items c.text.items h.0.text ms some none sorted)
 
 -- ---- compact text in a box
-
-put_in_box : (os : List Open) (t : Tree) (b : Boxed) → Puts Holds IsOf os t b.compact.value
-    → Puts (λ x w. Holds x.compact.value w) (λ x u. IsOf x.compact.value u) os t b
-put_in_box [] t b h = h
-put_in_box (in_array ts ∷ os) t b h = h
-put_in_box (at_key ms ∷ os) t b h = h
-put_in_box (at_value ms k ∷ os) t b h = h
-
-pub puts_boxed : {T E : Type 0} (r : Result T E) (os : List Open) (t : Tree) (b : Boxed) → OnOk r (Puts Holds IsOf os t b.compact.value)
-    → OnOk r (Puts (λ x w. Holds x.compact.value w) (λ x u. IsOf x.compact.value u) os t b)
-puts_boxed r os t b h = on_ok r (put_in_box os t b) h
 
 -- ---- what is kept of a text
 

@@ -1,7 +1,7 @@
 //! Texts that are read one after the other.
 ghost use Rattle.std.specs.Prelude.{[], IfOk};
 ghost use Rattle.std.specs.Str.{chars};
-ghost use Rattle.tinyjson.specs.Events.{TellsText};
+ghost use Rattle.tinyjson.specs.Events.{TellsText, without_events};
 ghost use Rattle.tinyjson.specs.Tree.{Tree};
 ghost use Rattle.tinyjson_grammar.specs.Soundness.{IsTree};
 ghost use Rattle.tinyjson_normal.specs.Compacting.{Holds, IsOf};
@@ -12,7 +12,7 @@ use crate::compact::Compact;
 use crate::normal::{Content, NormalText};
 use std::alloc::{AllocError, Global};
 use std::mem;
-use tinyjson::{Events, JsonNumber, JsonParseError, read_events, read_events_with_depth_limit};
+use tinyjson::{Events, JsonParseError, read_events, read_events_with_depth_limit};
 
 /// How many times the length of a text may be moved for the order of members.
 const MOVES: usize = 8;
@@ -67,10 +67,13 @@ impl NormalReader {
         let Ok(compact) = self.begin(text.len()) else {
             return of_nodes(self.alloc, text, limit);
         };
-        match tell(self.alloc, text, limit, Boxed { compact }) {
-            Ok(boxed) => Ok(self.finish(boxed)),
-            Err(error) if error.is_out_of_memory() => of_nodes(self.alloc, text, limit),
-            Err(error) => Err(error),
+        match read_into(self.alloc, text, limit, compact) {
+            Ok(compact) => Ok(self.finish(compact)),
+            Err((error, _)) if error.is_out_of_memory() => of_nodes(self.alloc, text, limit),
+            Err((error, compact)) => {
+                self.spare = Some(compact);
+                Err(error)
+            }
         }
     }
 
@@ -98,62 +101,16 @@ impl NormalReader {
     }
 
     /// What was built, without the comma behind it. The other memory is kept.
-    fn finish(&mut self, boxed: Boxed) -> NormalText
-        ensures { (t : Tree) → IsOf boxed.compact.value t → IsTree t → HasTree result t }
+    fn finish(&mut self, compact: Box<Compact>) -> NormalText
+        ensures { (t : Tree) → IsOf compact.value t → IsTree t → HasTree result t }
     {
-        let mut compact = boxed.compact;
+        let mut compact = compact;
         let mut text = mem::replace(&mut compact.text, Vec::new(self.alloc));
         text.truncate(text.len().saturating_sub(1));
         self.spare = Some(compact);
         NormalText {
             content: Content::Text(text),
         }
-    }
-}
-
-/// Compact text in a box, so that little is moved where it is handed on.
-#[derive(Drop)]
-struct Boxed {
-    compact: Box<Compact>,
-}
-
-impl Events for Boxed {
-    ghost use Rattle.tinyjson_normal.specs.Compacting.{Holds, IsOf};
-
-    ghost holds = { λ b os. Holds b.compact.value os };
-
-    ghost is = { λ b t. IsOf b.compact.value t };
-
-    fn open_array(&mut self) -> Result<(), AllocError> {
-        self.compact.open_array()
-    }
-
-    fn close_array(&mut self) -> Result<(), AllocError> {
-        self.compact.close_array()
-    }
-
-    fn open_object(&mut self) -> Result<(), AllocError> {
-        self.compact.open_object()
-    }
-
-    fn close_object(&mut self) -> Result<(), AllocError> {
-        self.compact.close_object()
-    }
-
-    fn key(&mut self, key: &str) -> Result<(), AllocError> {
-        self.compact.key(key)
-    }
-
-    fn string(&mut self, value: &str) -> Result<(), AllocError> {
-        self.compact.string(value)
-    }
-
-    fn number(&mut self, value: JsonNumber) -> Result<(), AllocError> {
-        self.compact.number(value)
-    }
-
-    fn literal(&mut self, value: Option<bool>) -> Result<(), AllocError> {
-        self.compact.literal(value)
     }
 }
 
@@ -168,23 +125,23 @@ fn new_box(alloc: Global) -> Result<Box<Compact>, AllocError> {
 fn of_nodes(alloc: Global, text: &str, limit: Option<usize>) -> Result<NormalText, JsonParseError>
     ensures { TellsText HasTree limit (chars text.now) result }
 {
-    match tell(alloc, text, limit, Arena::new(alloc)) {
+    match read_into(alloc, text, limit, Arena::new(alloc)) {
         Ok(arena) => Ok(NormalText {
             content: Content::Arena(arena),
         }),
-        Err(error) => Err(error),
+        Err((error, _)) => Err(error),
     }
 }
 
-/// Tells the text to events.
-fn tell<E: Events>(
+/// Reads the text into events.
+fn read_into<E: Events>(
     alloc: Global,
     text: &str,
     limit: Option<usize>,
     events: E,
-) -> Result<E, JsonParseError>
+) -> Result<E, (JsonParseError, E)>
     requires { E.holds events [] }
-    ensures { TellsText E.is limit (chars text.now) result }
+    ensures { TellsText E.is limit (chars text.now) (without_events result) }
 {
     match limit {
         None => read_events(alloc, text, events),

@@ -94,8 +94,10 @@ impl Events for Forget {
 
 /// What telling a text returns.
 pub(crate) fn told(alloc: Global, text: &str) -> Result<(), JsonParseError> {
-    read_events(alloc, text, Forget)?;
-    Ok(())
+    match read_events(alloc, text, Forget) {
+        Ok(_) => Ok(()),
+        Err((error, _)) => Err(error),
+    }
 }
 
 /// Whether nothing failed, and a writer took the bytes of this text.
@@ -108,6 +110,8 @@ pub(crate) fn parsed_to_events<I>(parser: &mut JsonParser<I>) -> Result<(), Json
 where
     I: Iterator<Item = char>,
 {
-    parser.parse_events(Forget)?;
-    Ok(())
+    match parser.parse_events(Forget) {
+        Ok(_) => Ok(()),
+        Err((error, _)) => Err(error),
+    }
 }

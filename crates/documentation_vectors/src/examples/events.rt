@@ -8,7 +8,7 @@ use tinyjson::{
 };
 
 /// How many numbers a text has.
-#[derive(Drop)]
+#[derive(Drop, Debug)]
 struct Numbers {
     count: usize,
 }
@@ -59,9 +59,9 @@ fn counted(rt: HostRuntime) -> Result<(), Fail> {
     assert_eq!(rt; numbers.count, 2);
 
     let refused = read_events(alloc, "[1, 2,]", Numbers { count: 0 });
-    assert!(rt;
-        refused.is_err_and(|error| error.kind() == JsonParseErrorKind::InvalidCharacter(']'))
-    );
+    assert!(rt; refused.is_err_and(|(error, numbers)| {
+        error.kind() == JsonParseErrorKind::InvalidCharacter(']') && numbers.count == 2
+    }));
     Ok(())
 }
 
@@ -80,6 +80,6 @@ fn counted_within_a_limit(rt: HostRuntime) -> Result<(), Fail> {
     let numbers = read_events_with_depth_limit(alloc, "[1, [2]]", 2, Numbers { count: 0 })?;
     assert_eq!(rt; numbers.count, 2);
     let result = read_events_with_depth_limit(alloc, "[1, [2]]", 1, Numbers { count: 0 });
-    assert!(rt; result.is_err_and(|error| error.kind() == JsonParseErrorKind::TooDeep('[')));
+    assert!(rt; result.is_err_and(|(error, _)| error.kind() == JsonParseErrorKind::TooDeep('[')));
     Ok(())
 }

@@ -4,7 +4,7 @@ use Rattle.std.proofs.Common.{◌⊎◌, inl, inr, sym, ap, ◌∙◌, subst, �
 use Rattle.std.specs.Prelude.{All}
 use Rattle.std.specs.Char.{IsScalar}
 use Rattle.tinyjson.specs.Error.{error_position}
-use Rattle.tinyjson.specs.Events.{IsBrokenOff, MeetsLiteral, TellsText}
+use Rattle.tinyjson.specs.Events.{IsBrokenOff, MeetsLiteral, TellsText, without_events}
 use Rattle.tinyjson.specs.private.Building.{Meets, Tells, TellsAll}
 use Rattle.tinyjson.specs.declared.parser.error.JsonParseError.{JsonParseError}
 use Rattle.tinyjson_grammar.proofs.Callers.{refuses}
@@ -25,8 +25,8 @@ use Rattle.tinyjson.proofs.Reading.Parse.{all_front, answered_value, held_interr
 -- ---- what the source gives begins with a value
 
 module _ {S T : Type 0} (sight : Sight S) (p q : S) (c : ℕ) where
-  pub literal_meets : (r : Result T JsonParseErrorKind) → Whites sight p q → sight.shows q (Some c) → BeginsLiteral c
-      → IfErr r (λ k. k ≡ OutOfMemory → Meets sight p)
+  pub literal_meets : (r : Result T (JsonParseErrorKind × T)) → Whites sight p q → sight.shows q (Some c) → BeginsLiteral c
+      → IfErr r (λ k. k.0 ≡ OutOfMemory → Meets sight p)
   literal_meets (Ok v) w s h = tt
   literal_meets (Err k) w s h = λ o zs g.
       let x = w.takes.gives zs g in
@@ -40,16 +40,16 @@ module _ {S T : Type 0} (sight : Sight S) (p q : S) (c : ℕ) where
         begins = h;
       })
 
-  pub grows_meets : (r : Result T JsonParseErrorKind) → Whites sight p q → sight.shows q (Some c)
-      → IfErr r (λ k. k ≡ OutOfMemory → IsTrue (begins_growth c)) → IfErr r (λ k. k ≡ OutOfMemory → Meets sight p)
+  pub grows_meets : (r : Result T (JsonParseErrorKind × T)) → Whites sight p q → sight.shows q (Some c)
+      → IfErr r (λ k. k.0 ≡ OutOfMemory → IsTrue (begins_growth c)) → IfErr r (λ k. k.0 ≡ OutOfMemory → Meets sight p)
   grows_meets (Ok v) w s h = tt
   grows_meets (Err k) w s h = λ o zs g. inl (grows_at sight p q c w s (h o) zs g)
 
 -- the rest of a text
 pub Tells_after : {S E : Type 0} (sight : Sight S) (limit : Option ℕ) (is : E → Tree → Type 0) (p q z : S) {n m : Next}
-    (r : Result E JsonParseErrorKind) → Leads sight limit p n q m → Tells is sight limit q m r z → Tells is sight limit p n r z
+    (r : Result E (JsonParseErrorKind × E)) → Leads sight limit p n q m → Tells is sight limit q m r z → Tells is sight limit p n r z
 Tells_after sight limit is p q z (Ok e) l h = (h.0, Leads_trans sight limit p q z l h.1, h.2)
-Tells_after sight limit is p q z (Err k) l h = Refuses_after sight limit p q z k l h
+Tells_after sight limit is p q z (Err w) l h = Refuses_after sight limit p q z w.0 l h
 
 -- ---- the whole call
 
@@ -100,8 +100,9 @@ module _ {S E : Type 0} (sight : Sight S) (limit : Option ℕ) (is : E → Tree 
         };
       }) r
 
-  pub heard : (p q : S) (r : Result E JsonParseError) → TellsAll is sight limit p r q → OnOk r (sight.shows q None)
-      → IfErr r (λ e. e.kind ≡ OutOfMemory → Meets sight p) → (xs : List ℕ) → sight.gives p xs → All IsScalar xs → Heard xs p r q
+  pub heard : (p q : S) (r : Result E (JsonParseError × E)) → TellsAll is sight limit p r q → OnOk r (sight.shows q None)
+      → IfErr r (λ w. w.0.kind ≡ OutOfMemory → Meets sight p) → (xs : List ℕ) → sight.gives p xs → All IsScalar xs
+      → Heard xs p (without_events r) q
   heard p q (Ok v) l s m xs g a =
       let w = answered_value sight limit xs (λ e. (t : Tree) × IsText limit xs t × is e t) p q v l.0 (λ i. (l.0, i, l.2)) l.1 s g a in
       record {
@@ -114,7 +115,7 @@ module _ {S E : Type 0} (sight : Sight S) (limit : Option ℕ) (is : E → Tree 
         refused = tt;
         broken_off = tt;
       }
-  heard p q (Err e) l s m xs g a = heard_error p q e xs g a l.0 l.1 m
+  heard p q (Err w) l s m xs g a = heard_error p q w.0 xs g a l.0 l.1 m
 
   -- of a source that stands at the origin
   pub heard_text : (p q : S) (xs : List ℕ) (r : Result E JsonParseError) → sight.place p ≡ origin → Heard xs p r q → TellsText is limit xs r

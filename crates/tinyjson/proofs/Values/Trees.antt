@@ -1,5 +1,5 @@
 -- Every value is seen as a tree of characters and canonical decimals, with members in order.
-use Rattle.std.proofs.Common.{ℕ, List, [], ◌∷◌, String, Global, string_bytes, map, IsTrue, sym, subst}
+use Rattle.std.proofs.Common.{List, [], ◌∷◌, String, Global, string_bytes, map, IsTrue, sym, subst}
 use Rattle.std.proofs.lemmas.Str.{scalars-chars, IsUtf8-string_bytes}
 use Rattle.tinyjson_number.specs.Numeral.{power_width}
 use Rattle.std.specs.Str.{all_scalars}

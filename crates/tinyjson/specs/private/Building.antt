@@ -1,14 +1,14 @@
 -- What events hold while a text is read into them. For private contracts.
-use Rattle.std.specs.Prelude.{◌≡◌, ℕ, List, [], ◌∷◌, ◌++◌, reverse, Option, Result, MatchResult, ◌⊎◌, true, ⊤}
+use Rattle.std.specs.Prelude.{◌≡◌, ℕ, List, [], ◌∷◌, reverse, Option, Result, MatchResult, IfErr, ◌⊎◌, true, ⊤}
 use Rattle.tinyjson_grammar.specs.Refusal.{MayGrow}
-use Rattle.tinyjson_grammar.specs.Tree.{Tree, Members, put}
+use Rattle.tinyjson_grammar.specs.Tree.{Tree, Members}
 use Rattle.tinyjson_grammar.specs.Machine.{Frame, in_array, at_key, at_value, awaited, after, finished, Next, next, stop}
 use Rattle.tinyjson_grammar.specs.declared.error.JsonParseErrorKind.{JsonParseErrorKind}
 use Rattle.tinyjson_grammar.specs.declared.error.JsonParseErrorKind.TheVariants.{OutOfMemory}
 use Rattle.tinyjson_tokens.specs.Source.{Sight}
 use Rattle.tinyjson_tokens.specs.Steps.{IsNext, Leads, Refuses}
 use Rattle.tinyjson.specs.Error.{error_position}
-use Rattle.tinyjson.specs.Events.{MeetsLiteral}
+use Rattle.tinyjson.specs.Events.{HoldsSome, MeetsLiteral}
 use Rattle.tinyjson.specs.declared.parser.error.JsonParseError.{JsonParseError}
 use Rattle.tinyjson.specs.declared.parser.nest.Awaited.{Awaited}
 use Rattle.tinyjson.specs.declared.parser.nest.Awaited.TheVariants.{Item, Key, Value}
@@ -78,15 +78,23 @@ module _ {B : Type 0} (holds : B → List Frame → Type 0) (is : B → Tree →
   Builds sight limit p n r s q = MatchResult r
       (λ _. (t : Tree) × Leads sight limit p n q (next [] (finished t)) × is s.events t) (λ k. Refuses sight limit p n k q)
 
+-- an error that is not out of memory left the events as they were
+abbrev pub KeepsEvents : {T E : Type 0} → Result T JsonParseErrorKind → Nest E → Nest E → Type 0
+KeepsEvents r old new = IfErr r (λ k. ¬ (k ≡ OutOfMemory) → new.events ≡ old.events)
+
+-- one that left events which hold what they were told
+abbrev pub LeavesSome : {T E : Type 0} → (E → List Frame → Type 0) → (E → Tree → Type 0) → Result T JsonParseErrorKind → Nest E → Type 0
+LeavesSome holds is r new = IfErr r (λ k. ¬ (k ≡ OutOfMemory) → HoldsSome holds is new.events)
+
 -- a text read into events, which are given back: they are of its tree
-abbrev pub Tells : {B S : Type 0} → (B → Tree → Type 0) → Sight S → Option ℕ → S → Next → Result B JsonParseErrorKind → S → Type 0
+abbrev pub Tells : {B S : Type 0} → (B → Tree → Type 0) → Sight S → Option ℕ → S → Next → Result B (JsonParseErrorKind × B) → S → Type 0
 Tells is sight limit p n r q = MatchResult r (λ b. (t : Tree) × Leads sight limit p n q (next [] (finished t)) × is b t)
-    (λ k. Refuses sight limit p n k q)
+    (λ w. Refuses sight limit p n w.0 q)
 
 -- the same, where an error says where the source stands
-abbrev pub TellsAll : {B S : Type 0} → (B → Tree → Type 0) → Sight S → Option ℕ → S → Result B JsonParseError → S → Type 0
+abbrev pub TellsAll : {B S : Type 0} → (B → Tree → Type 0) → Sight S → Option ℕ → S → Result B (JsonParseError × B) → S → Type 0
 TellsAll is sight limit p r q = MatchResult r (λ b. (t : Tree) × Leads sight limit p (next [] awaited) q (next [] (finished t)) × is b t)
-    (λ e. (error_position e ≡ sight.place q) × Refuses sight limit p (next [] awaited) e.kind q)
+    (λ w. (error_position w.0 ≡ sight.place q) × Refuses sight limit p (next [] awaited) w.0.kind q)
 
 -- what the source gives begins, after white space, with a string, a number, a container or a literal
 abbrev pub Meets : {S : Type 0} → Sight S → S → Type 0

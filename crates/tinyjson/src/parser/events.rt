@@ -1,4 +1,4 @@
-//! A text told event by event.
+//! A text read event by event.
 ghost use Rattle.std.specs.Prelude.{◌≡◌, ℕ, List, [], ◌∷◌, false, IsTrue, IfErr, OnOk};
 ghost use Rattle.std.specs.Prelude.{None, Option, Some};
 ghost use Rattle.std.specs.Str.{chars};
@@ -7,7 +7,7 @@ ghost use Rattle.tinyjson_grammar.specs.Machine.{awaited, next};
 ghost use Rattle.tinyjson_grammar.specs.Refusal.{begins_growth};
 ghost use Rattle.tinyjson_grammar.specs.Tree.{Tree, Members, no_members, items_of};
 ghost use Rattle.tinyjson_grammar.specs.Tree.{array, object, string, number};
-ghost use Rattle.tinyjson.specs.Events.{Open, in_array, at_key, at_value, Puts, literal_tree};
+ghost use Rattle.tinyjson.specs.Events.{Open, in_array, at_key, at_value, Puts, GivesBack, HoldsSome, literal_tree};
 ghost use Rattle.tinyjson_grammar.specs.declared.error.JsonParseErrorKind.TheVariants.{OutOfMemory};
 ghost use Rattle.tinyjson_grammar.specs.Characters.{BeginsLiteral};
 ghost use Rattle.tinyjson.specs.private.Building.{Meets, Tells, TellsAll};
@@ -19,13 +19,13 @@ use std::alloc::AllocError;
 use tinyjson_number::JsonNumber;
 use tinyjson_tokens::Tokens;
 
-/// What a text is told to, event by event, by [`read_events`](crate::read_events) or
-/// [`JsonParser::parse_events`](crate::JsonParser::parse_events), with no value built.
+/// What a text is read into, event by event, by [`read_events`](crate::read_events) or
+/// [`JsonParser::parse_events`](crate::JsonParser::parse_events), without building a value.
 ///
-/// `holds` says for which open containers it stands, the innermost first, and `is` for which tree, once all
-/// are closed: what is shown of each event holds of the text. An event that returns an error ends the
-/// reading, which says then that memory ran out. After an error nothing is said of what was told. A key or
-/// a string is lent for the call, so what keeps it makes a copy.
+/// `holds` relates it to the open containers, the innermost first, and `is` to the value, once all are
+/// closed: what is proved of each event is so proved of the text. An event that returns an error ends the
+/// reading, with out of memory. Of what an event left that returned an error nothing is known. A key or a
+/// string is lent for the call, so what keeps it makes a copy.
 ///
 /// ```
 /// fn number(&mut self, _: JsonNumber) -> Result<(), AllocError> {
@@ -104,71 +104,133 @@ pub trait Events: Drop {
             OnOk result (Puts holds is os (literal_tree value) self.new) };
 }
 
+impl<E: Events> Events for Box<E> {
+    ghost holds = { λ b os. E.holds b.value os };
+
+    ghost is = { λ b t. E.is b.value t };
+
+    fn open_array(&mut self) -> Result<(), AllocError> {
+        E::open_array(&mut **self)
+    }
+
+    fn close_array(&mut self) -> Result<(), AllocError> {
+        E::close_array(&mut **self)
+    }
+
+    fn empty_array(&mut self) -> Result<(), AllocError> {
+        E::empty_array(&mut **self)
+    }
+
+    fn open_object(&mut self) -> Result<(), AllocError> {
+        E::open_object(&mut **self)
+    }
+
+    fn close_object(&mut self) -> Result<(), AllocError> {
+        E::close_object(&mut **self)
+    }
+
+    fn empty_object(&mut self) -> Result<(), AllocError> {
+        E::empty_object(&mut **self)
+    }
+
+    fn key(&mut self, key: &str) -> Result<(), AllocError> {
+        E::key(&mut **self, key)
+    }
+
+    fn string(&mut self, value: &str) -> Result<(), AllocError> {
+        E::string(&mut **self, value)
+    }
+
+    fn number(&mut self, value: JsonNumber) -> Result<(), AllocError> {
+        E::number(&mut **self, value)
+    }
+
+    fn literal(&mut self, value: Option<bool>) -> Result<(), AllocError> {
+        E::literal(&mut **self, value)
+    }
+}
+
 impl<S: Tokens> Reader<S> {
-    /// Tells a whole text to events, which it gives back; an error says where the source stands. Of a
-    /// literal alone it says that memory ran out only where its event was refused.
+    /// Reads a whole text into events, which it gives back; an error says where the source stands. For a
+    /// literal alone it is out of memory only where its event was refused.
     pub(super) fn told<E: Events>(
         &mut self,
         limit: Option<usize>,
         events: E,
-    ) -> Result<E, JsonParseError>
+    ) -> Result<E, (JsonParseError, E)>
         requires { E.holds events [] }
         ensures reads { TellsAll E.is S.sight limit self.old.tokens.source result
             self.new.tokens.source }
         ensures end { OnOk result (S.sight.shows self.new.tokens.source None) }
-        ensures memory { IfErr result (λ e.
-            e.kind ≡ OutOfMemory → Meets S.sight self.old.tokens.source) }
+        ensures memory { IfErr result (λ w.
+            w.0.kind ≡ OutOfMemory → Meets S.sight self.old.tokens.source) }
+        ensures back { GivesBack E.holds E.is result }
     {
         match self.tell(limit, events) {
             Ok(events) => Ok(events),
-            Err(kind) => {
+            Err((kind, events)) => {
                 let (line, column) = self.tokens.position();
-                Err(JsonParseError { kind, line, column })
+                Err((JsonParseError { kind, line, column }, events))
             }
         }
     }
 
-    /// Tells the value of a whole text, and reads the end after it.
-    fn tell<E: Events>(&mut self, limit: Option<usize>, events: E) -> Result<E, JsonParseErrorKind>
+    /// Reads the value of a whole text, and the end after it.
+    fn tell<E: Events>(
+        &mut self,
+        limit: Option<usize>,
+        events: E,
+    ) -> Result<E, (JsonParseErrorKind, E)>
         requires { E.holds events [] }
         ensures reads { Tells E.is S.sight limit self.old.tokens.source (next [] awaited) result
             self.new.tokens.source }
         ensures end { OnOk result (S.sight.shows self.new.tokens.source None) }
-        ensures memory { IfErr result (λ kind.
-            kind ≡ OutOfMemory → Meets S.sight self.old.tokens.source) }
+        ensures memory { IfErr result (λ w.
+            w.0 ≡ OutOfMemory → Meets S.sight self.old.tokens.source) }
+        ensures some { IfErr result (λ w. ¬ (w.0 ≡ OutOfMemory) → HoldsSome E.holds E.is w.1) }
     {
         match self.tokens.skip_white() {
             Some(first @ ('n' | 't' | 'f')) => self.tell_literal(first, events),
             Some(first) => self.tell_value(limit, first, events),
-            None => Err(JsonParseErrorKind::UnexpectedEof),
+            None => Err((JsonParseErrorKind::UnexpectedEof, events)),
         }
     }
 
-    /// Tells the literal that begins with this letter, and reads the end after it.
-    fn tell_literal<E: Events>(&mut self, first: char, events: E) -> Result<E, JsonParseErrorKind>
+    /// Reads the literal that begins with this letter, and the end after it.
+    fn tell_literal<E: Events>(
+        &mut self,
+        first: char,
+        events: E,
+    ) -> Result<E, (JsonParseErrorKind, E)>
         requires shown { S.sight.shows self.old.tokens.source (Some first) }
         requires begins { BeginsLiteral first }
         requires holds { E.holds events [] }
         ensures reads { (limit : Option ℕ) → Tells E.is S.sight limit self.old.tokens.source
             (next [] awaited) result self.new.tokens.source }
         ensures end { OnOk result (S.sight.shows self.new.tokens.source None) }
+        ensures some { IfErr result (λ w. ¬ (w.0 ≡ OutOfMemory) → HoldsSome E.holds E.is w.1) }
     {
         let mut events = events;
-        let literal = self.tokens.literal(first)?;
+        let literal = match self.tokens.literal(first) {
+            Ok(literal) => literal,
+            Err(kind) => return Err((kind, events)),
+        };
         if events.literal(literal).is_err() {
-            return Err(JsonParseErrorKind::OutOfMemory);
+            return Err((JsonParseErrorKind::OutOfMemory, events));
         }
-        self.end()?;
-        Ok(events)
+        match self.end() {
+            Ok(()) => Ok(events),
+            Err(kind) => Err((kind, events)),
+        }
     }
 
-    /// Tells the value that begins with this character, which is no literal, and reads the end after it.
+    /// Reads the value that begins with this character, which is no literal, and the end after it.
     fn tell_value<E: Events>(
         &mut self,
         limit: Option<usize>,
         first: char,
         events: E,
-    ) -> Result<E, JsonParseErrorKind>
+    ) -> Result<E, (JsonParseErrorKind, E)>
         requires shown { S.sight.shows self.old.tokens.source (Some first) }
         requires no_white { is_white first ≡ false }
         requires no_literal { ¬ (BeginsLiteral first) }
@@ -176,10 +238,13 @@ impl<S: Tokens> Reader<S> {
         ensures reads { Tells E.is S.sight limit self.old.tokens.source (next [] awaited) result
             self.new.tokens.source }
         ensures end { OnOk result (S.sight.shows self.new.tokens.source None) }
-        ensures memory { IfErr result (λ kind. kind ≡ OutOfMemory → IsTrue (begins_growth first)) }
+        ensures memory { IfErr result (λ w. w.0 ≡ OutOfMemory → IsTrue (begins_growth first)) }
+        ensures some { IfErr result (λ w. ¬ (w.0 ≡ OutOfMemory) → HoldsSome E.holds E.is w.1) }
     {
         let mut nest = Nest::new(self.alloc, events);
-        self.build(limit, &mut nest, first)?;
-        Ok(nest.events)
+        match self.build(limit, &mut nest, first) {
+            Ok(()) => Ok(nest.events),
+            Err(kind) => Err((kind, nest.events)),
+        }
     }
 }

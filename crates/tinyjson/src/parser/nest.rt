@@ -11,7 +11,7 @@ ghost use Rattle.tinyjson_grammar.specs.Tree.{array, object, string, number};
 ghost use Rattle.tinyjson_grammar.specs.declared.error.JsonParseErrorKind.TheVariants.{OutOfMemory};
 ghost use Rattle.tinyjson_grammar.specs.Tree.{literal_tree};
 ghost use Rattle.tinyjson.specs.private.Building.{Agree, awaited_of, IsOpen, IsWithin, Joins};
-ghost use Rattle.tinyjson.specs.private.Building.{TakesValue};
+ghost use Rattle.tinyjson.specs.private.Building.{KeepsEvents, TakesValue};
 ghost use Rattle.tinyjson.specs.declared.parser.nest.Awaited.{Awaited};
 ghost use Rattle.tinyjson.specs.declared.parser.nest.Progress.TheVariants.{Complete};
 
@@ -155,8 +155,9 @@ impl<E: Events> Nest<E> {
     pub(super) fn close_array(&mut self) -> Result<Progress, JsonParseErrorKind>
         requires { (ts : List Tree) × (fs : List Frame) ×
             E.holds self.old.events (in_array ts ∷ fs) }
-        ensures { (ts : List Tree) (fs : List Frame) → IsWithin E.holds self.old (in_array ts) fs →
+        ensures joins { (ts : List Tree) (fs : List Frame) → IsWithin E.holds self.old (in_array ts) fs →
             Joins E.holds E.is (complete true fs (array (items_of ts)) true) result self.new }
+        ensures kept { KeepsEvents result self.old self.new }
     {
         self.awaited.pop();
         self.refuse_key(JsonKind::Array)?;
@@ -167,8 +168,9 @@ impl<E: Events> Nest<E> {
     #[inline(always)]
     pub(super) fn close_object(&mut self) -> Result<Progress, JsonParseErrorKind>
         requires { (ms : Members) × (fs : List Frame) × E.holds self.old.events (at_key ms ∷ fs) }
-        ensures { (ms : Members) (fs : List Frame) → IsWithin E.holds self.old (at_key ms) fs →
+        ensures joins { (ms : Members) (fs : List Frame) → IsWithin E.holds self.old (at_key ms) fs →
             Joins E.holds E.is (complete true fs (object ms) true) result self.new }
+        ensures kept { KeepsEvents result self.old self.new }
     {
         self.awaited.pop();
         self.refuse_key(JsonKind::Object)?;
@@ -179,8 +181,9 @@ impl<E: Events> Nest<E> {
     #[inline(always)]
     pub(super) fn empty_array(&mut self) -> Result<Progress, JsonParseErrorKind>
         requires { (fs : List Frame) × E.holds self.old.events fs }
-        ensures { (fs : List Frame) → IsOpen E.holds self.old fs →
+        ensures joins { (fs : List Frame) → IsOpen E.holds self.old fs →
             Joins E.holds E.is (complete true fs (array (items_of [])) true) result self.new }
+        ensures kept { KeepsEvents result self.old self.new }
     {
         self.refuse_key(JsonKind::Array)?;
         completed(self.events.empty_array())
@@ -190,8 +193,9 @@ impl<E: Events> Nest<E> {
     #[inline(always)]
     pub(super) fn empty_object(&mut self) -> Result<Progress, JsonParseErrorKind>
         requires { (fs : List Frame) × E.holds self.old.events fs }
-        ensures { (fs : List Frame) → IsOpen E.holds self.old fs →
+        ensures joins { (fs : List Frame) → IsOpen E.holds self.old fs →
             Joins E.holds E.is (complete true fs (object no_members) true) result self.new }
+        ensures kept { KeepsEvents result self.old self.new }
     {
         self.refuse_key(JsonKind::Object)?;
         completed(self.events.empty_object())
@@ -200,8 +204,9 @@ impl<E: Events> Nest<E> {
     /// Puts a string where it belongs, which is no key.
     #[inline(always)]
     pub(super) fn string(&mut self, value: &str) -> Result<Progress, JsonParseErrorKind>
-        ensures { (fs : List Frame) → IsOpen E.holds self.old fs → TakesValue fs →
+        ensures joins { (fs : List Frame) → IsOpen E.holds self.old fs → TakesValue fs →
             Joins E.holds E.is (complete true fs (string (chars value.now)) true) result self.new }
+        ensures kept { KeepsEvents result self.old self.new }
     {
         completed(self.events.string(value))
     }
@@ -209,8 +214,9 @@ impl<E: Events> Nest<E> {
     /// Puts a number where it belongs.
     #[inline(always)]
     pub(super) fn number(&mut self, value: JsonNumber) -> Result<Progress, JsonParseErrorKind>
-        ensures { (fs : List Frame) → IsOpen E.holds self.old fs →
+        ensures joins { (fs : List Frame) → IsOpen E.holds self.old fs →
             Joins E.holds E.is (complete true fs (number value.decimal) true) result self.new }
+        ensures kept { KeepsEvents result self.old self.new }
     {
         self.refuse_key(JsonKind::Number)?;
         completed(self.events.number(value))
@@ -219,8 +225,9 @@ impl<E: Events> Nest<E> {
     /// Puts a boolean, or null, where it belongs.
     #[inline(always)]
     pub(super) fn literal(&mut self, value: Option<bool>) -> Result<Progress, JsonParseErrorKind>
-        ensures { (fs : List Frame) → IsOpen E.holds self.old fs →
+        ensures joins { (fs : List Frame) → IsOpen E.holds self.old fs →
             Joins E.holds E.is (complete true fs (literal_tree value) true) result self.new }
+        ensures kept { KeepsEvents result self.old self.new }
     {
         self.refuse_key(literal_kind(value))?;
         completed(self.events.literal(value))

@@ -9,7 +9,7 @@ ghost use Rattle.tinyjson_grammar.specs.Machine.{Frame, Next, in_array, at_key, 
 ghost use Rattle.tinyjson_grammar.specs.Machine.{colon, finished, fits, next};
 ghost use Rattle.tinyjson_grammar.specs.Tree.{Tree, Members};
 ghost use Rattle.tinyjson.specs.private.Building.{awaited_of, Builds, Continues, IsOpen, IsWithin};
-ghost use Rattle.tinyjson.specs.private.Building.{Stands};
+ghost use Rattle.tinyjson.specs.private.Building.{KeepsEvents, LeavesSome, Stands};
 ghost use Rattle.tinyjson.specs.private.Steps.{GrowsFor};
 ghost use Rattle.tinyjson_tokens.specs.NumberSteps.{BeginsNumber};
 ghost use Rattle.tinyjson_tokens.specs.Steps.{NeedsNone, Reads};
@@ -62,6 +62,7 @@ impl<S: Tokens> Reader<S> {
             result nest.new self.new.tokens.source }
         ensures end { OnOk result (S.sight.shows self.new.tokens.source None) }
         ensures memory { IfErr result (λ kind. kind ≡ OutOfMemory → IsTrue (begins_growth first)) }
+        ensures some { LeavesSome E.holds E.is result nest.new }
     {
         let progress = self.value(limit, nest, first)?;
         self.rest(limit, nest, progress)
@@ -79,6 +80,7 @@ impl<S: Tokens> Reader<S> {
             Builds E.holds E.is S.sight limit self.old.tokens.source n result nest.new
             self.new.tokens.source }
         ensures end { OnOk result (S.sight.shows self.new.tokens.source None) }
+        ensures some { LeavesSome E.holds E.is result nest.new }
     {
         let mut progress = progress;
         loop {
@@ -121,6 +123,7 @@ impl<S: Tokens> Reader<S> {
             Continues E.holds E.is S.sight limit self.old.tokens.source (next fs awaited) result
             nest.new self.new.tokens.source }
         ensures left { OnOk result (S.left self.new.tokens.source < S.left self.old.tokens.source) }
+        ensures some { LeavesSome E.holds E.is result nest.new }
     {
         match self.tokens.skip_white() {
             Some(first) => self.value(limit, nest, first),
@@ -144,6 +147,7 @@ impl<S: Tokens> Reader<S> {
             nest.new self.new.tokens.source }
         ensures left { OnOk result (S.left self.new.tokens.source < S.left self.old.tokens.source) }
         ensures memory { ¬ (BeginsLiteral first) → GrowsFor first result }
+        ensures some { LeavesSome E.holds E.is result nest.new }
     {
         match first {
             'n' | 't' | 'f' => self.literal(nest, first),
@@ -168,6 +172,7 @@ impl<S: Tokens> Reader<S> {
             Continues E.holds E.is S.sight limit self.old.tokens.source (next fs awaited) result
             nest.new self.new.tokens.source }
         ensures left { OnOk result (S.left self.new.tokens.source < S.left self.old.tokens.source) }
+        ensures kept { KeepsEvents result nest.old nest.new }
     {
         let literal = self.tokens.literal(first)?;
         nest.literal(literal)
@@ -182,6 +187,7 @@ impl<S: Tokens> Reader<S> {
             Continues E.holds E.is S.sight limit self.old.tokens.source (next fs awaited) result
             nest.new self.new.tokens.source }
         ensures left { OnOk result (S.left self.new.tokens.source < S.left self.old.tokens.source) }
+        ensures some { LeavesSome E.holds E.is result nest.new }
     {
         let lent = self.tokens.string(&mut self.string)?;
         if nest.awaits_key() {
@@ -199,6 +205,7 @@ impl<S: Tokens> Reader<S> {
             Continues E.holds E.is S.sight limit self.old.tokens.source (next fs awaited) result
             nest.new self.new.tokens.source }
         ensures left { OnOk result (S.left self.new.tokens.source < S.left self.old.tokens.source) }
+        ensures kept { KeepsEvents result nest.old nest.new }
     {
         let number = self.tokens.number()?;
         nest.number(number)
@@ -217,6 +224,7 @@ impl<S: Tokens> Reader<S> {
             Continues E.holds E.is S.sight limit self.old.tokens.source (next fs awaited) result
             nest.new self.new.tokens.source }
         ensures left { OnOk result (S.left self.new.tokens.source < S.left self.old.tokens.source) }
+        ensures some { LeavesSome E.holds E.is result nest.new }
     {
         if !fits(limit, nest.depth()) {
             return Err(JsonParseErrorKind::TooDeep('['));
@@ -249,6 +257,7 @@ impl<S: Tokens> Reader<S> {
             Continues E.holds E.is S.sight limit self.old.tokens.source (next fs awaited) result
             nest.new self.new.tokens.source }
         ensures left { OnOk result (S.left self.new.tokens.source < S.left self.old.tokens.source) }
+        ensures some { LeavesSome E.holds E.is result nest.new }
     {
         if !fits(limit, nest.depth()) {
             return Err(JsonParseErrorKind::TooDeep('{'));
@@ -278,6 +287,7 @@ impl<S: Tokens> Reader<S> {
             Continues E.holds E.is S.sight limit self.old.tokens.source
             (next (at_key ms ∷ fs) awaited) result nest.new self.new.tokens.source }
         ensures left { OnOk result (S.left self.new.tokens.source ≤ S.left self.old.tokens.source) }
+        ensures some { LeavesSome E.holds E.is result nest.new }
     {
         match self.tokens.skip_white() {
             Some('"') => {
@@ -304,6 +314,7 @@ impl<S: Tokens> Reader<S> {
             (colon (cond lent (S.lent self.old.tokens.source) (text self.old.string))))
             result nest.new self.new.tokens.source }
         ensures left { OnOk result (S.left self.new.tokens.source ≤ S.left self.old.tokens.source) }
+        ensures some { LeavesSome E.holds E.is result nest.new }
     {
         if nest
             .key(self.tokens.characters(lent, &self.string))
@@ -337,6 +348,7 @@ impl<S: Tokens> Reader<S> {
             Continues E.holds E.is S.sight limit self.old.tokens.source n result nest.new
             self.new.tokens.source }
         ensures left { OnOk result (S.left self.new.tokens.source < S.left self.old.tokens.source) }
+        ensures some { LeavesSome E.holds E.is result nest.new }
     {
         match awaited {
             Awaited::Item => self.after_item(nest),
@@ -355,6 +367,7 @@ impl<S: Tokens> Reader<S> {
             Continues E.holds E.is S.sight limit self.old.tokens.source
             (next (in_array ts ∷ fs) after) result nest.new self.new.tokens.source }
         ensures left { OnOk result (S.left self.new.tokens.source < S.left self.old.tokens.source) }
+        ensures some { LeavesSome E.holds E.is result nest.new }
     {
         match self.tokens.skip_white() {
             Some(',') => {
@@ -386,6 +399,7 @@ impl<S: Tokens> Reader<S> {
             Continues E.holds E.is S.sight limit self.old.tokens.source
             (next (at_key ms ∷ fs) after) result nest.new self.new.tokens.source }
         ensures left { OnOk result (S.left self.new.tokens.source < S.left self.old.tokens.source) }
+        ensures some { LeavesSome E.holds E.is result nest.new }
     {
         match self.tokens.skip_white() {
             Some(',') => {

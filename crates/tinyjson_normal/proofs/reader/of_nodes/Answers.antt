@@ -5,7 +5,7 @@ returns-in-Ok c =
     let h = c.in-Ok.ensures in
     record { consumed = h.consumed; rest = h.rest; whole = h.whole; answer = h.answer; refused = h.refused; broken_off = h.broken_off }
 
-pub returns-in-Err : goal.returns-in-Err
-returns-in-Err c =
+pub returns : goal.returns
+returns c =
     let h = c.in-Err.ensures in
     record { consumed = h.consumed; rest = h.rest; whole = h.whole; answer = h.answer; refused = h.refused; broken_off = h.broken_off }

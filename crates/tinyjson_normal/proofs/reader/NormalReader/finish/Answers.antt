@@ -6,7 +6,7 @@ use Rattle.tinyjson_normal.proofs.reader.NormalReader.finish.Goals as goal
 
 pub returns : goal.returns
 returns c = λ t h k.
-    let text = c.args.boxed.compact.value.text in
+    let text = c.args.compact.value.text in
     let n = c.saturating_sub.result in
     let taken : c.replace-text.result.items ≡ text.items =
     ap (λ v. v.items) c.replace-text.ensures.value ∙ ap (λ z. z.text.items) c.deref_mut.ensures.value in

@@ -1,10 +1,11 @@
-use Rattle.std.proofs.Common.{rules, ◌∷◌}
+use Rattle.std.proofs.Common.{rules, ◌∷◌, inl}
 use Rattle.tinyjson_grammar.specs.Machine.{in_array, after}
 use Rattle.tinyjson_grammar.specs.declared.error.JsonParseErrorKind.TheVariants.{UnexpectedEof, ExpectedCommaOrBracket}
 use Rattle.tinyjson_tokens.proofs.Callers.{end_after, white_after, Leads_whites, Leads_one, Leads_end, Refuses_as, taken_complete}
 use Rattle.tinyjson.proofs.Reading.Building.{within}
 use Rattle.tinyjson.proofs.Reading.Containers.{array_comma, array_closes, array_other}
 use Rattle.tinyjson.proofs.Reading.Loop.{awaits, joined}
+use Rattle.tinyjson.proofs.Reading.Left.{left_kept}
 use Rattle.tinyjson.proofs.parser.reader.Reader.after_item.Goals as goal
 
 pub returns-in-Some-eq44-clause-reads : goal.returns-in-Some-eq44-clause-reads
@@ -21,7 +22,7 @@ returns-in-Some-eq93-clause-reads g c = λ limit ts fs h.
     joined holds g.E.Events.is sight limit _ _ (in_array ts ∷ fs) after _ c.close_array.new.self
     (Leads_one sight limit _ _ _ 93 (Leads_whites sight limit _ _ _ c.skip_white.ensures.white tt (white_after limit _))
     c.consume-in-Some-eq93.ensures.takes tt (array_closes limit fs ts 93 (search rules)) (taken_complete _ _))
-    (c.close_array.ensures ts fs (within holds c.args.nest.now (in_array ts) fs h))
+    (c.close_array.ensures.joins ts fs (within holds c.args.nest.now (in_array ts) fs h))
 
 pub returns-in-Some-clause-reads : goal.returns-in-Some-clause-reads
 returns-in-Some-clause-reads g c = λ limit ts fs h.
@@ -38,3 +39,12 @@ returns-in-None-clause-reads g c = λ limit ts fs h.
     Refuses_as sight limit _ _ UnexpectedEof
     (Leads_end sight limit _ _ (Leads_whites sight limit _ _ _ c.skip_white.ensures.white tt (white_after limit _))
     c.in-None.ensures.shows (end_after limit _) tt)
+
+pub returns-in-Some-eq93-clause-some : goal.returns-in-Some-eq93-clause-some
+returns-in-Some-eq93-clause-some g c = left_kept g.E.Events.holds g.E.Events.is _ c.args.nest.now c.close_array.new.self (inl (in_array c.requires.open.0 ∷ c.requires.open.1, c.requires.open.2.0)) c.close_array.ensures.kept
+
+pub returns-in-Some-clause-some : goal.returns-in-Some-clause-some
+returns-in-Some-clause-some g c = λ n. inl (in_array c.requires.open.0 ∷ c.requires.open.1, c.requires.open.2.0)
+
+pub returns-in-None-clause-some : goal.returns-in-None-clause-some
+returns-in-None-clause-some g c = λ n. inl (in_array c.requires.open.0 ∷ c.requires.open.1, c.requires.open.2.0)

@@ -1,10 +1,11 @@
-use Rattle.std.proofs.Common.{rules, ◌∷◌}
+use Rattle.std.proofs.Common.{rules, ◌∷◌, inl}
 use Rattle.tinyjson_grammar.specs.Machine.{at_key, after}
 use Rattle.tinyjson_grammar.specs.declared.error.JsonParseErrorKind.TheVariants.{UnexpectedEof, ExpectedCommaOrBrace}
 use Rattle.tinyjson_tokens.proofs.Callers.{end_after, white_after, Leads_whites, Leads_one, Leads_end, Refuses_as}
 use Rattle.tinyjson_tokens.proofs.Callers.{taken_complete}
 use Rattle.tinyjson.proofs.Reading.Containers.{object_comma, object_closes, object_other}
 use Rattle.tinyjson.proofs.Reading.Loop.{Continues_after, joined}
+use Rattle.tinyjson.proofs.Reading.Left.{left_kept}
 use Rattle.tinyjson.proofs.parser.reader.Reader.after_member.Goals as goal
 
 pub returns-in-Some-eq44-clause-reads : goal.returns-in-Some-eq44-clause-reads
@@ -21,7 +22,7 @@ returns-in-Some-eq125-clause-reads g c = λ limit ms fs h.
     joined g.E.Events.holds g.E.Events.is sight limit _ _ (at_key ms ∷ fs) after _ c.close_object.new.self
     (Leads_one sight limit _ _ _ 125 (Leads_whites sight limit _ _ _ c.skip_white.ensures.white tt (white_after limit _))
     c.consume-in-Some-eq125.ensures.takes tt (object_closes limit fs ms 125 (search rules)) (taken_complete _ _))
-    (c.close_object.ensures ms fs h)
+    (c.close_object.ensures.joins ms fs h)
 
 pub returns-in-Some-clause-reads : goal.returns-in-Some-clause-reads
 returns-in-Some-clause-reads g c = λ limit ms fs h.
@@ -38,3 +39,12 @@ returns-in-None-clause-reads g c = λ limit ms fs h.
     Refuses_as sight limit _ _ UnexpectedEof
     (Leads_end sight limit _ _ (Leads_whites sight limit _ _ _ c.skip_white.ensures.white tt (white_after limit _))
     c.in-None.ensures.shows (end_after limit _) tt)
+
+pub returns-in-Some-eq125-clause-some : goal.returns-in-Some-eq125-clause-some
+returns-in-Some-eq125-clause-some g c = left_kept g.E.Events.holds g.E.Events.is _ c.args.nest.now c.close_object.new.self (inl (at_key c.requires.within.0 ∷ c.requires.within.1, c.requires.within.2.0)) c.close_object.ensures.kept
+
+pub returns-in-Some-clause-some : goal.returns-in-Some-clause-some
+returns-in-Some-clause-some g c = λ n. inl (at_key c.requires.within.0 ∷ c.requires.within.1, c.requires.within.2.0)
+
+pub returns-in-None-clause-some : goal.returns-in-None-clause-some
+returns-in-None-clause-some g c = λ n. inl (at_key c.requires.within.0 ∷ c.requires.within.1, c.requires.within.2.0)

@@ -1,4 +1,4 @@
-use Rattle.std.proofs.Common.{rules, ◌≡◌, ◌∷◌, [], IfSome, false, true}
+use Rattle.std.proofs.Common.{rules, ◌≡◌, ◌∷◌, [], IfSome, false, true, inl, refl}
 use Rattle.tinyjson_grammar.specs.Machine.{fits, in_array, first}
 use Rattle.tinyjson.specs.private.Building.{IsOpen}
 use Rattle.tinyjson_grammar.specs.declared.error.JsonParseErrorKind.TheVariants.{TooDeep}
@@ -6,6 +6,7 @@ use Rattle.tinyjson_tokens.proofs.Callers.{Leads_trans, Leads_whites, Leads_one,
 use Rattle.tinyjson_tokens.proofs.Callers.{white_first, taken_complete}
 use Rattle.tinyjson.proofs.Reading.Containers.{array_begins, array_too_deep, array_closes_first, array_goes_on}
 use Rattle.tinyjson.proofs.Reading.Loop.{awaits, Continues_after, joined}
+use Rattle.tinyjson.proofs.Reading.Left.{left_kept}
 use Rattle.tinyjson.proofs.parser.reader.Reader.array.Goals as goal
 use Rattle.tinyjson.proofs.parser.reader.Reader.array.Goals.{in_default-via-in-Some+in_default, in_default-via-in_default}
 
@@ -29,7 +30,7 @@ returns-in-Some-eq93-clause-reads g c = λ fs h.
     (joined holds is sight limit _ _ (in_array [] ∷ fs) first _ c.empty_array.new.self
     (Leads_one sight limit _ _ _ 93 (Leads_whites sight limit _ _ _ c.skip_white.ensures.white tt (white_first limit _))
     c.consume-in-Some-eq93.ensures.takes tt (array_closes_first limit fs 93 (search rules)) (taken_complete _ _))
-    (c.empty_array.ensures fs h))
+    (c.empty_array.ensures.joins fs h))
 
 pub returns-then-is_err-clause-reads : goal.returns-then-is_err-clause-reads
 returns-then-is_err-clause-reads g c = λ fs h.
@@ -57,3 +58,12 @@ returns-else-is_err-clause-reads g c = λ fs h.
 
 pub empty_array-requires : goal.empty_array-requires
 empty_array-requires g c = (c.requires.open.0, c.requires.open.1.0)
+
+pub returns-then-not-fits-clause-some : goal.returns-then-not-fits-clause-some
+returns-then-not-fits-clause-some g c = λ n. inl (c.requires.open.0, c.requires.open.1.0)
+
+pub returns-in-Some-eq93-clause-some : goal.returns-in-Some-eq93-clause-some
+returns-in-Some-eq93-clause-some g c = left_kept g.E.Events.holds g.E.Events.is _ c.args.nest.now c.empty_array.new.self (inl (c.requires.open.0, c.requires.open.1.0)) c.empty_array.ensures.kept
+
+pub returns-then-is_err-clause-some : goal.returns-then-is_err-clause-some
+returns-then-is_err-clause-some g c = λ n. absurd (n refl)

@@ -20,3 +20,8 @@ pub returns-clause-reads : goal.returns-clause-reads
 returns-clause-reads g c =
     let w = c.in_ok-progress.ensures.reads [] c.requires.open in
     Builds_after g.E.Events.holds g.E.Events.is g.S.Source.sight c.args.limit _ _ _ _ c.rest.new.nest w.1 (c.rest.ensures.reads w.0 w.2)
+
+pub returns-in_err-progress-clause-some : goal.returns-in_err-progress-clause-some
+returns-in_err-progress-clause-some g c =
+    let p = err_from_is_err_and c.from_residual.result c.from_residual.ensures.1 in
+    rw (p.1, p.2) c.in_err-progress.ensures.some

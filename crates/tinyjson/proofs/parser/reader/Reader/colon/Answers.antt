@@ -1,7 +1,7 @@
-use Rattle.std.proofs.Common.{rules, ◌≡◌, ◌∷◌, cond, chars, subst}
+use Rattle.std.proofs.Common.{rules, ◌∷◌, cond, chars, subst, refl, inl}
 use Rattle.tinyjson.specs.View.{text}
 use Rattle.tinyjson.specs.private.Building.{IsOpen}
-use Rattle.tinyjson_grammar.specs.Machine.{at_value}
+use Rattle.tinyjson_grammar.specs.Machine.{at_key, at_value}
 use Rattle.tinyjson_grammar.specs.declared.error.JsonParseErrorKind.TheVariants.{UnexpectedEof, ExpectedColon}
 use Rattle.tinyjson_tokens.proofs.Callers.{end_colon, Leads_nil, Leads_whites, Leads_one, Leads_end, Halts_here}
 use Rattle.tinyjson_tokens.proofs.Callers.{Refuses_as, Refuses_memory, white_colon}
@@ -40,3 +40,20 @@ returns-in-None-clause-reads g c = λ limit ms fs h.
     Refuses_as sight limit _ _ UnexpectedEof
     (Leads_end sight limit _ _ (Leads_whites sight limit _ _ _ c.skip_white.ensures.white tt (white_colon limit _ _))
     c.in-None.ensures.shows (end_colon limit _ _) tt)
+
+pub returns-then-is_err-clause-some : goal.returns-then-is_err-clause-some
+returns-then-is_err-clause-some g c = λ n. absurd (n refl)
+
+pub returns-in-Some-clause-some : goal.returns-in-Some-clause-some
+returns-in-Some-clause-some g c = 
+    let o = c.requires.open in
+    let h : IsOpen g.E.Events.holds c.args.nest.now (at_key o.0 ∷ o.1) = o.2 in
+    let keyed : IsOpen g.E.Events.holds c.key.new.self (at_value o.0 (chars c.characters.result.now) ∷ o.1) = search rules in
+    λ n. inl (at_value o.0 (chars c.characters.result.now) ∷ o.1, keyed.0)
+
+pub returns-in-None-clause-some : goal.returns-in-None-clause-some
+returns-in-None-clause-some g c = 
+    let o = c.requires.open in
+    let h : IsOpen g.E.Events.holds c.args.nest.now (at_key o.0 ∷ o.1) = o.2 in
+    let keyed : IsOpen g.E.Events.holds c.key.new.self (at_value o.0 (chars c.characters.result.now) ∷ o.1) = search rules in
+    λ n. inl (at_value o.0 (chars c.characters.result.now) ∷ o.1, keyed.0)

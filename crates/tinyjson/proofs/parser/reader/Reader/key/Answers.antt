@@ -3,6 +3,7 @@ use Rattle.std.proofs.lemmas.Result.{err_from_is_err_and}
 use Rattle.tinyjson_grammar.specs.Machine.{at_key}
 use Rattle.tinyjson_tokens.proofs.Callers.{Leads_whites, Leads_trans, Refuses_after, white_awaited}
 use Rattle.tinyjson.proofs.Reading.Loop.{awaits, Continues_after}
+use Rattle.tinyjson.proofs.Reading.Left.{left_open}
 use Rattle.tinyjson.proofs.parser.reader.Reader.key.Goals as goal
 
 pub returns-in_err-lent-in-Some-eq34-clause-reads : goal.returns-in_err-lent-in-Some-eq34-clause-reads
@@ -29,3 +30,6 @@ pub returns-in_default-2-clause-reads : goal.returns-in_default-2-clause-reads
 returns-in_default-2-clause-reads g c = λ limit ms fs h.
     awaits g.E.Events.holds g.E.Events.is g.S.Source.sight limit _ _ (at_key ms ∷ fs) c.args.nest.now
     (Leads_whites g.S.Source.sight limit _ _ _ c.skip_white.ensures.white tt (white_awaited limit _)) h
+
+pub returns-in_err-lent-in-Some-eq34-clause-some : goal.returns-in_err-lent-in-Some-eq34-clause-some
+returns-in_err-lent-in-Some-eq34-clause-some g c = left_open g.E.Events.holds g.E.Events.is _ c.args.nest.now (at_key c.requires.open.0 ∷ c.requires.open.1) c.requires.open.2

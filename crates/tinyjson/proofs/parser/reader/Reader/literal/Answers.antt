@@ -1,6 +1,7 @@
 use Rattle.std.proofs.lemmas.Result.{err_from_is_err_and}
 use Rattle.tinyjson_grammar.specs.Machine.{awaited}
 use Rattle.tinyjson.proofs.Reading.Loop.{joined}
+use Rattle.tinyjson.proofs.Reading.Left.{same_events}
 use Rattle.tinyjson.proofs.parser.reader.Reader.literal.Goals as goal
 
 pub returns-in_err-literal-clause-reads : goal.returns-in_err-literal-clause-reads
@@ -11,4 +12,7 @@ returns-in_err-literal-clause-reads g c = λ limit fs h.
 pub returns-clause-reads : goal.returns-clause-reads
 returns-clause-reads g c = λ limit fs h.
     joined g.E.Events.holds g.E.Events.is g.S.Source.sight limit _ _ fs awaited _ c.literal-2.new.self
-    (c.in_ok-literal.ensures.reads limit fs) (c.literal-2.ensures fs h)
+    (c.in_ok-literal.ensures.reads limit fs) (c.literal-2.ensures.joins fs h)
+
+pub returns-in_err-literal-clause-kept : goal.returns-in_err-literal-clause-kept
+returns-in_err-literal-clause-kept g c = same_events _ c.args.nest.now

@@ -1,3 +1,4 @@
+use Rattle.std.proofs.Common.{inl}
 use Rattle.tinyjson_grammar.specs.declared.error.JsonParseErrorKind.TheVariants.{UnexpectedEof}
 use Rattle.tinyjson_tokens.proofs.Callers.{end_awaited, Leads_whites, Leads_end, Refuses_as, white_awaited}
 use Rattle.tinyjson.proofs.Reading.Loop.{Continues_after}
@@ -17,3 +18,6 @@ returns-in-None-clause-reads g c = λ fs h.
     Refuses_as sight limit _ _ UnexpectedEof
     (Leads_end sight limit _ _ (Leads_whites sight limit _ _ _ c.skip_white.ensures.white tt (white_awaited limit _))
     c.in-None.ensures.shows (end_awaited limit _) tt)
+
+pub returns-in-None-clause-some : goal.returns-in-None-clause-some
+returns-in-None-clause-some g c = λ n. inl (c.requires.open.0, c.requires.open.1.0)

@@ -1,4 +1,4 @@
-use Rattle.std.proofs.Common.{rules, ◌≡◌, ◌∷◌, IfSome, false, true}
+use Rattle.std.proofs.Common.{rules, ◌≡◌, ◌∷◌, IfSome, false, true, inl, refl}
 use Rattle.tinyjson_grammar.specs.Machine.{fits, at_key, first}
 use Rattle.tinyjson_grammar.specs.Tree.{no_members}
 use Rattle.tinyjson.specs.private.Building.{IsOpen}
@@ -7,6 +7,7 @@ use Rattle.tinyjson_tokens.proofs.Callers.{Leads_trans, Leads_whites, Leads_one,
 use Rattle.tinyjson_tokens.proofs.Callers.{white_first, taken_complete}
 use Rattle.tinyjson.proofs.Reading.Containers.{object_begins, object_too_deep, object_closes_first, object_goes_on}
 use Rattle.tinyjson.proofs.Reading.Loop.{Continues_after, joined}
+use Rattle.tinyjson.proofs.Reading.Left.{left_kept}
 use Rattle.tinyjson.proofs.parser.reader.Reader.object.Goals as goal
 use Rattle.tinyjson.proofs.parser.reader.Reader.object.Goals.{in_default-via-in-Some+in_default, in_default-via-in_default}
 
@@ -30,7 +31,7 @@ returns-in-Some-eq125-clause-reads g c = λ fs h.
     (joined holds is sight limit _ _ (at_key no_members ∷ fs) first _ c.empty_object.new.self
     (Leads_one sight limit _ _ _ 125 (Leads_whites sight limit _ _ _ c.skip_white.ensures.white tt (white_first limit _))
     c.consume-in-Some-eq125.ensures.takes tt (object_closes_first limit fs 125 (search rules)) (taken_complete _ _))
-    (c.empty_object.ensures fs h))
+    (c.empty_object.ensures.joins fs h))
 
 pub returns-then-is_err-clause-reads : goal.returns-then-is_err-clause-reads
 returns-then-is_err-clause-reads g c = λ fs h.
@@ -58,3 +59,12 @@ returns-else-is_err-clause-reads g c = λ fs h.
 
 pub empty_object-requires : goal.empty_object-requires
 empty_object-requires g c = (c.requires.open.0, c.requires.open.1.0)
+
+pub returns-then-not-fits-clause-some : goal.returns-then-not-fits-clause-some
+returns-then-not-fits-clause-some g c = λ n. inl (c.requires.open.0, c.requires.open.1.0)
+
+pub returns-in-Some-eq125-clause-some : goal.returns-in-Some-eq125-clause-some
+returns-in-Some-eq125-clause-some g c = left_kept g.E.Events.holds g.E.Events.is _ c.args.nest.now c.empty_object.new.self (inl (c.requires.open.0, c.requires.open.1.0)) c.empty_object.ensures.kept
+
+pub returns-then-is_err-clause-some : goal.returns-then-is_err-clause-some
+returns-then-is_err-clause-some g c = λ n. absurd (n refl)

@@ -2,6 +2,7 @@ use Rattle.std.proofs.Common.{Ok, Err}
 use Rattle.std.proofs.lemmas.Result.{err_from_is_err_and}
 use Rattle.tinyjson_tokens.proofs.Callers.{Leads_nil, Refuses_after}
 use Rattle.tinyjson.proofs.Reading.Loop.{Builds_after, Continues_after, Continues_from, complete_at, ends, open_at}
+use Rattle.tinyjson.proofs.Reading.Left.{left_complete}
 use Rattle.tinyjson.proofs.parser.reader.Reader.rest.Goals as goal
 
 pub loop-progress-init : goal.loop-progress-init
@@ -73,3 +74,22 @@ returns-in-None-clause-reads g c = λ n h.
     let w = complete_at holds is sight limit c.loop-progress.nest _ _ c.in-Complete.is i.2 in
     Builds_after holds is sight limit _ _ _ _ c.loop-progress.nest i.1
     (ends holds is sight limit _ _ i.0 c.end.result c.loop-progress.nest w c.in-None.ensures (c.end.ensures.reads limit))
+
+pub returns-in_err-progress-in-Awaits-clause-some : goal.returns-in_err-progress-in-Awaits-clause-some
+returns-in_err-progress-in-Awaits-clause-some g c =
+    let p = err_from_is_err_and c.from_residual.result c.from_residual.ensures.1 in
+    rw (p.1, p.2) c.in_err-progress-in-Awaits.ensures.some
+
+pub returns-in_err-progress-in-Some-clause-some : goal.returns-in_err-progress-in-Some-clause-some
+returns-in_err-progress-in-Some-clause-some g c =
+    let r = c.from_residual-in_err-progress-in-Some in
+    let p = err_from_is_err_and r.result r.ensures.1 in
+    rw (p.1, p.2) c.in_err-progress-in-Some.ensures.some
+
+pub returns-in-None-clause-some : goal.returns-in-None-clause-some
+returns-in-None-clause-some g c =
+    let holds = g.E.Events.holds in
+    let is = g.E.Events.is in
+    let i = c.loop-progress.invariant c.requires.sound.0 c.requires.sound.1 in
+    let w = complete_at holds is g.S.Source.sight c.args.limit c.loop-progress.nest _ _ c.in-Complete.is i.2 in
+    left_complete holds is _ c.loop-progress.nest i.0 w c.in-None.ensures

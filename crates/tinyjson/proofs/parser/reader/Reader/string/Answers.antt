@@ -1,9 +1,10 @@
-use Rattle.std.proofs.Common.{rules, ◌≡◌, ◌∷◌, List}
+use Rattle.std.proofs.Common.{rules, ◌≡◌, ◌∷◌, List, inl}
 use Rattle.std.proofs.lemmas.Result.{err_from_is_err_and}
 use Rattle.tinyjson_grammar.specs.Machine.{Frame, at_key, awaited}
 use Rattle.tinyjson_grammar.specs.Tree.{Members}
 use Rattle.tinyjson.specs.private.Building.{TakesValue}
 use Rattle.tinyjson.proofs.Reading.Loop.{joined, string_at_key}
+use Rattle.tinyjson.proofs.Reading.Left.{left_kept, left_open}
 use Rattle.tinyjson.proofs.parser.reader.Reader.string.Goals as goal
 
 pub returns-in_err-lent-clause-reads : goal.returns-in_err-lent-clause-reads
@@ -21,4 +22,10 @@ pub returns-clause-reads : goal.returns-clause-reads
 returns-clause-reads g c = λ limit fs h.
     let w : TakesValue fs = search rules in
     joined g.E.Events.holds g.E.Events.is g.S.Source.sight limit _ _ fs awaited _ c.string-2.new.self
-    (c.in_ok-lent.ensures.reads limit fs) (rw c.characters.ensures at c.string-2.ensures fs h w)
+    (c.in_ok-lent.ensures.reads limit fs) (rw c.characters.ensures at c.string-2.ensures.joins fs h w)
+
+pub returns-in_err-lent-clause-some : goal.returns-in_err-lent-clause-some
+returns-in_err-lent-clause-some g c = left_open g.E.Events.holds g.E.Events.is _ c.args.nest.now c.requires.open.0 c.requires.open.1
+
+pub returns-clause-some : goal.returns-clause-some
+returns-clause-some g c = left_kept g.E.Events.holds g.E.Events.is _ c.args.nest.now c.string-2.new.self (inl (c.requires.open.0, c.requires.open.1.0)) c.string-2.ensures.kept

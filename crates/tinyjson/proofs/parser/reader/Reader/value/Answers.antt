@@ -1,9 +1,10 @@
-use Rattle.std.proofs.Common.{rules, ℕ, Ok, Err, Result, IsTrue, refl}
+use Rattle.std.proofs.Common.{rules, ℕ, Ok, Err, Result, IsTrue, refl, inl}
 use Rattle.tinyjson.specs.private.Steps.{GrowsFor}
 use Rattle.tinyjson_grammar.specs.Refusal.{begins_growth}
 use Rattle.tinyjson_grammar.specs.declared.error.JsonParseErrorKind.{JsonParseErrorKind}
 use Rattle.tinyjson_grammar.specs.declared.error.JsonParseErrorKind.TheVariants.{InvalidCharacter}
 use Rattle.tinyjson_tokens.proofs.Callers.{Leads_nil, Leads_shown, Refuses_as, invalid}
+use Rattle.tinyjson.proofs.Reading.Left.{left_kept}
 use Rattle.tinyjson.proofs.parser.reader.Reader.value.Goals as goal
 
 grows_for : {T : Type 0} (c : ℕ) (r : Result T JsonParseErrorKind) → IsTrue (begins_growth c) → GrowsFor c r
@@ -40,3 +41,12 @@ returns-in_default-2-clause-memory g c = λ _ e. absurd cc
 
 pub returns-in-123-clause-memory : goal.returns-in-123-clause-memory
 returns-in-123-clause-memory g c = λ _. grows_for c.args.first c.object.result (rw c.in-123.is refl)
+
+pub returns-in-n-clause-some : goal.returns-in-n-clause-some
+returns-in-n-clause-some g c = left_kept g.E.Events.holds g.E.Events.is _ c.args.nest.now c.literal.new.nest (inl (c.requires.open.0, c.requires.open.1.0)) c.literal.ensures.kept
+
+pub returns-in_default-clause-some : goal.returns-in_default-clause-some
+returns-in_default-clause-some g c = left_kept g.E.Events.holds g.E.Events.is _ c.args.nest.now c.number.new.nest (inl (c.requires.open.0, c.requires.open.1.0)) c.number.ensures.kept
+
+pub returns-in_default-2-clause-some : goal.returns-in_default-2-clause-some
+returns-in_default-2-clause-some g c = λ n. inl (c.requires.open.0, c.requires.open.1.0)
