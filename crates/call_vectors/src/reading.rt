@@ -142,10 +142,7 @@ fn checked(reply: &mut Reply, answer: Result<(), JsonParseError>) -> io::Result<
 }
 
 /// The events that were told, or an error.
-fn told(
-    reply: &mut Reply,
-    answer: &Result<Record, (JsonParseError, Record)>,
-) -> io::Result<()> {
+fn told(reply: &mut Reply, answer: &Result<Record, (JsonParseError, Record)>) -> io::Result<()> {
     match answer {
         Ok(record) => {
             reply.word("events")?;

@@ -241,9 +241,11 @@ fn check_text(alloc: Global, text: &str, limit: Option<usize>) -> Result<(), Jso
 /// assert_eq!(rt; numbers.count, 2);
 ///
 /// let refused = read_events(alloc, "[1, 2,]", Numbers { count: 0 });
-/// assert!(rt; refused.is_err_and(|(error, numbers)| {
-///     error.kind() == JsonParseErrorKind::InvalidCharacter(']') && numbers.count == 2
-/// }));
+/// assert!(rt;
+///     refused.is_err_and(|(error, numbers)| {
+///         error.kind() == JsonParseErrorKind::InvalidCharacter(']') && numbers.count == 2
+///     })
+/// );
 /// ```
 pub fn read_events<E: Events>(
     alloc: Global,

@@ -59,9 +59,11 @@ fn counted(rt: HostRuntime) -> Result<(), Fail> {
     assert_eq!(rt; numbers.count, 2);
 
     let refused = read_events(alloc, "[1, 2,]", Numbers { count: 0 });
-    assert!(rt; refused.is_err_and(|(error, numbers)| {
-        error.kind() == JsonParseErrorKind::InvalidCharacter(']') && numbers.count == 2
-    }));
+    assert!(rt;
+        refused.is_err_and(|(error, numbers)| {
+            error.kind() == JsonParseErrorKind::InvalidCharacter(']') && numbers.count == 2
+        })
+    );
     Ok(())
 }
 

@@ -45,14 +45,14 @@ pub returns-then-is_err-clause-some : goal.returns-then-is_err-clause-some
 returns-then-is_err-clause-some g c = λ n. absurd (n refl)
 
 pub returns-in-Some-clause-some : goal.returns-in-Some-clause-some
-returns-in-Some-clause-some g c = 
+returns-in-Some-clause-some g c =
     let o = c.requires.open in
     let h : IsOpen g.E.Events.holds c.args.nest.now (at_key o.0 ∷ o.1) = o.2 in
     let keyed : IsOpen g.E.Events.holds c.key.new.self (at_value o.0 (chars c.characters.result.now) ∷ o.1) = search rules in
     λ n. inl (at_value o.0 (chars c.characters.result.now) ∷ o.1, keyed.0)
 
 pub returns-in-None-clause-some : goal.returns-in-None-clause-some
-returns-in-None-clause-some g c = 
+returns-in-None-clause-some g c =
     let o = c.requires.open in
     let h : IsOpen g.E.Events.holds c.args.nest.now (at_key o.0 ∷ o.1) = o.2 in
     let keyed : IsOpen g.E.Events.holds c.key.new.self (at_value o.0 (chars c.characters.result.now) ∷ o.1) = search rules in
