@@ -32,7 +32,7 @@ abbrev pub without_events : {E : Type 0} → Result E (JsonParseError × E) → 
 without_events (Ok e) = Ok e
 without_events (Err w) = Err w.0
 
--- An error that is not out of memory gives back events that hold what they were told.
+-- An error that is not out of memory gives back events that hold some open containers, or are of some value.
 abbrev pub GivesBack : {E : Type 0} → (E → List Open → Type 0) → (E → Tree → Type 0) → Result E (JsonParseError × E) → Type 0
 GivesBack holds is result = IfErr result (λ w. ¬ (error_kind w.0 ≡ kind.OutOfMemory) → HoldsSome holds is w.1)
 

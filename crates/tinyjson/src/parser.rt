@@ -140,9 +140,9 @@ impl<I: Iterator<Item = char>> JsonParser<I> {
     /// Reads all characters that are left as one text into events, without building a value: so a text
     /// larger than memory is read. The events are given back, beside the error too.
     ///
-    /// An error is that of [`JsonParser::parse`], or out of memory, also for an event that was refused. But
-    /// for out of memory the line, the column and what is left are those after `parse`, and the events hold
-    /// what they were told.
+    /// An error is that of [`JsonParser::parse`], or out of memory, also for an event that was refused.
+    /// Unless it is out of memory, the line, the column and what is left are those after `parse`, and the
+    /// events still `hold` some open containers, or are those of some value.
     ///
     /// ```
     /// let mut parser = JsonParser::new(alloc, "[1, {\"a\": 2.5}]".chars());
@@ -233,8 +233,8 @@ fn check_text(alloc: Global, text: &str, limit: Option<usize>) -> Result<(), Jso
 }
 
 /// Reads a text into events, which are given back, beside an error too. The error is that of
-/// [`JsonValue::from_str`], or out of memory, also for an event that was refused. But for out of memory the
-/// events hold what they were told.
+/// [`JsonValue::from_str`], or out of memory, also for an event that was refused. Unless it is out of
+/// memory, the events still `hold` some open containers, or are those of some value.
 ///
 /// ```
 /// let numbers = read_events(alloc, "[1, {\"a\": 2.5}]", Numbers { count: 0 })?;
