@@ -15,26 +15,26 @@ use Rattle.tinyjson_grammar.proofs.Callers.{compact_text}
 use Rattle.tinyjson_grammar.proofs.Callers.Laws.{only_tree}
 use Rattle.tinyjson_grammar.specs.Soundness as sound
 use Rattle.tinyjson_grammar.proofs.Callers.{text_sound}
-use Rattle.tinyjson_normal.proofs.Gathered.{gathered_by}
-use Rattle.tinyjson_normal.proofs.Growing.{text_stays}
-use Rattle.tinyjson_normal.proofs.Slices.{run_part}
-use Rattle.tinyjson_normal.proofs.Waiting.{put_last}
+use Rattle.tinyjson_document.proofs.Callers.{gathered_by}
+use Rattle.tinyjson_document.proofs.Callers.{text_stays}
+use Rattle.tinyjson_document.proofs.Callers.{run_part}
+use Rattle.tinyjson_document.proofs.Callers.{put_last}
 use Rattle.tinyjson_normal.specs.Compacting.{value_bytes, items_bytes, key_bytes, entry_bytes, entries_bytes, members_bytes}
 use Rattle.tinyjson_normal.specs.Compacting.{next_from, members_of, placed, all_placed, AreBegun, Has, HasKey, IsOpen}
 use Rattle.tinyjson_normal.specs.Compacting.{Standing, Splits, HoldsIn, standing, Holds, IsOf}
-use Rattle.tinyjson_normal.specs.Holding.{Entry, put_all, AreEntriesBy}
-use Rattle.tinyjson_normal.specs.Node.{IsText, Grows}
-use Rattle.tinyjson_normal.specs.Order.{IsOrdered, AreMembersBy, lasts, paired}
+use Rattle.tinyjson_document.specs.Holding.{Entry, put_all, AreEntriesBy}
+use Rattle.tinyjson_document.specs.Cell.{IsText, Grows}
+use Rattle.tinyjson_document.specs.Order.{IsOrdered, AreMembersBy, lasts, paired}
 use Rattle.tinyjson_normal.specs.Normal.{HasTree}
 use Rattle.tinyjson_normal.specs.declared.normal.NormalText.{NormalText}
 use Rattle.tinyjson_normal.specs.declared.compact.Begun.{Begun}
 use Rattle.tinyjson_normal.specs.declared.compact.Compact.{Compact}
 use Rattle.tinyjson_normal.specs.declared.compact.Start.{Start}
-use Rattle.tinyjson_normal.specs.declared.store.Member.{Member}
-use Rattle.tinyjson_normal.specs.declared.store.Node.{Node}
-use Rattle.tinyjson_normal.specs.declared.store.Node.TheVariants as node
-use Rattle.tinyjson_normal.specs.declared.store.Span.{Span}
-use Rattle.tinyjson_normal.specs.declared.store.Store.{Store}
+use Rattle.tinyjson_document.specs.declared.store.Member.{Member}
+use Rattle.tinyjson_document.specs.declared.store.Cell.{Cell}
+use Rattle.tinyjson_document.specs.declared.store.Cell.TheVariants as node
+use Rattle.tinyjson_document.specs.declared.store.Span.{Span}
+use Rattle.tinyjson_document.specs.declared.store.Store.{Store}
 
 -- ---- compact text has no levels
 
@@ -384,7 +384,7 @@ abbrev keys_of : List Begun → List Span
 keys_of [] = []
 keys_of (b ∷ bs) = b.key ∷ keys_of bs
 
-abbrev spans_of : List Begun → ℕ → List Node
+abbrev spans_of : List Begun → ℕ → List Cell
 spans_of [] end = []
 spans_of (b ∷ bs) end = node.String (record { from = b.from; to = next_from bs end }) ∷ spans_of bs end
 
@@ -402,7 +402,7 @@ next_is s at end (x ∷ es) (b ∷ bs) h e = h.1
 
 module _ (s : Store) (text : List ℕ) where
   -- at the place of the value stands the member of the key
-  abbrev Stands : List ℕ → Tree → Node → Type 0
+  abbrev Stands : List ℕ → Tree → Cell → Type 0
   Stands k t n = placed text n ≡ entry_bytes k t
 
   stand : (front : List ℕ) (at : ℕ) (es : List Entry) (bs : List Begun) → AreBegun s at es bs → text ≡ front ++ entries_bytes es

@@ -1,25 +1,7 @@
--- A node stands for the same tree while the store grows.
-pub mod Growing
--- What waits, when a value comes or a container is closed.
-pub mod Waiting
--- Slices up to the end.
-pub mod Slices
--- The order of members.
-pub mod Order
--- What a sorted object keeps.
-pub mod Gathered
--- Members whose keys rise.
-pub mod Rising
 -- Members that were picked from others.
 pub mod Picked
--- Texts that grow by more than is meant.
-pub mod Appending
 -- What stands in compact text.
 pub mod Compacting
--- What a walk writes.
-pub mod Writing
--- Values that hold no others.
-pub mod Passing
 -- The characters of a compact text.
 pub mod Scalars
 -- Whether a text is the compact text of its tree.

@@ -14,9 +14,9 @@ use Rattle.std.proofs.lemmas.List.Sorted.{length_permutation, sum_by-IsPermutati
 use Rattle.std.proofs.lemmas.List.Sums.{length-filter}
 use Rattle.std.proofs.lemmas.Cmp.{nat_list_cmp_total}
 use Rattle.std.proofs.lemmas.List.MinMax.{ranks_by}
-use Rattle.tinyjson_normal.specs.Order.{IsOrdered, key_in, key_lt, is_below_next, lasts, rise}
-use Rattle.tinyjson_normal.specs.declared.store.Member.{Member}
-use Rattle.tinyjson_normal.proofs.Rising.{rise_lasts, rise_sorted}
+use Rattle.tinyjson_document.specs.Order.{IsOrdered, key_in, key_lt, is_below_next, lasts, rise}
+use Rattle.tinyjson_document.specs.declared.store.Member.{Member}
+use Rattle.tinyjson_document.proofs.Callers.{rise_lasts, rise_sorted}
 
 module _ {X : Type 0} where
   first_or_later : (x y : X) (xs : List X) → Contains (x ∷ xs) y → (x ≡ y) ⊎ Contains xs y

@@ -8,14 +8,14 @@ use Rattle.tinyjson_grammar.specs.Tree.{Tree, null, boolean, number, string, arr
 use Rattle.tinyjson_grammar.specs.Tree.{Items, no_items, item, Members, no_members, member}
 use Rattle.tinyjson_number.specs.Canonical.{IsDecimalAt}
 use Rattle.tinyjson_number.specs.Numeral.{power_width}
-use Rattle.tinyjson_normal.specs.Node.{IsText, Is, Are, AreMembers}
+use Rattle.tinyjson_document.specs.Cell.{IsText, Is, Are, AreMembers}
 use Rattle.tinyjson_normal.specs.Normal.{IsKept}
 use Rattle.tinyjson_normal.specs.declared.normal.Content.{Content}
 use Rattle.tinyjson_normal.specs.declared.normal.Content.TheVariants as content
-use Rattle.tinyjson_normal.specs.declared.store.Member.{Member}
-use Rattle.tinyjson_normal.specs.declared.store.Node.{Node}
-use Rattle.tinyjson_normal.specs.declared.store.Span.{Span}
-use Rattle.tinyjson_normal.specs.declared.store.Store.{Store}
+use Rattle.tinyjson_document.specs.declared.store.Member.{Member}
+use Rattle.tinyjson_document.specs.declared.store.Cell.{Cell}
+use Rattle.tinyjson_document.specs.declared.store.Span.{Span}
+use Rattle.tinyjson_document.specs.declared.store.Store.{Store}
 
 -- an indent of scalars, where there is one
 module _ (w : Option (List ℕ)) (indent : IfSome w AreScalars) (s : Store) where
@@ -24,7 +24,7 @@ module _ (w : Option (List ℕ)) (indent : IfSome w AreScalars) (s : Store) wher
       text_of_scalars w indent 0 (string cs) (subst AreScalars (sym h.characters) (scalars-chars h.bytes h.utf8))
 
   mutual
-    pub normal_scalars : (k : ℕ) (t : Tree) (n : Node) → Is s t n → AreScalars (text w k t)
+    pub normal_scalars : (k : ℕ) (t : Tree) (n : Cell) → Is s t n → AreScalars (text w k t)
     normal_scalars k null n h = refl
     normal_scalars k (boolean true) n h = refl
     normal_scalars k (boolean false) n h = refl
@@ -36,7 +36,7 @@ module _ (w : Option (List ℕ)) (indent : IfSome w AreScalars) (s : Store) wher
     normal_scalars k (object ms) n h = scalars_append (members_text w (k + 1) true ms) _
         (members_scalars (k + 1) true ms h.2 h.4) (closing_scalars w indent k (has_no_members ms) 125 refl)
 
-    items_scalars : (k : ℕ) (first : Bool) (ts : Items) (ns : List Node) → Are s ts ns → AreScalars (items_text w k first ts)
+    items_scalars : (k : ℕ) (first : Bool) (ts : Items) (ns : List Cell) → Are s ts ns → AreScalars (items_text w k first ts)
     items_scalars k first no_items ns h = refl
     items_scalars k first (item t ts) [] h = absurd h
     items_scalars k first (item t ts) (n ∷ ns) h = scalars_append (before w k first) _ (before_scalars w indent k first)

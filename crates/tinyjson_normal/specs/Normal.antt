@@ -4,7 +4,7 @@ use Rattle.tinyjson.specs.Grammar.{IsText}
 use Rattle.tinyjson.specs.Soundness as sound
 use Rattle.tinyjson.specs.Text.{compact}
 use Rattle.tinyjson.specs.Tree.{Tree}
-use Rattle.tinyjson_normal.specs.Holding as nodes
+use Rattle.tinyjson_document.specs.Holding as nodes
 use Rattle.tinyjson_normal.specs.declared.normal.Content.{Content}
 use Rattle.tinyjson_normal.specs.declared.normal.Content.TheVariants as content
 use Rattle.tinyjson_normal.specs.declared.normal.NormalText.{NormalText}

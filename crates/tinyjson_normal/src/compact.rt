@@ -7,17 +7,17 @@ ghost use Rattle.tinyjson_grammar.specs.Text.{quoted};
 ghost use Rattle.tinyjson.specs.Events.{literal_tree};
 ghost use Rattle.tinyjson_normal.specs.Compacting.{Holds, all_placed, members_of, next_from};
 ghost use Rattle.tinyjson_normal.specs.Compacting.{placed, value_bytes};
-ghost use Rattle.tinyjson_normal.specs.Order.{IsOrdered, lasts};
-ghost use Rattle.tinyjson_normal.specs.declared.store.Member.{Member as Pair};
+ghost use Rattle.tinyjson_document.specs.Order.{IsOrdered, lasts};
+ghost use Rattle.tinyjson_document.specs.declared.store.Member.{Member as Pair};
 ghost use Rattle.tinyjson_number.specs.Text.{decimal_text};
 
-use crate::append::{ROOM, append, append_number, append_quoted};
 use crate::ranking::keep_ordered;
-use crate::sorting::rise;
-use crate::store::{Member, Node, Span, Store, part};
 use std::alloc::{AllocError, Global};
 use tinyjson::{Events, JsonNumber};
 use tinyjson_bytes::plain_end;
+use tinyjson_document::append::{ROOM, append, append_number, append_quoted};
+use tinyjson_document::sorting::rise;
+use tinyjson_document::store::{Cell, Member, Span, Store, part};
 use tinyjson_output::{Buffer, flush, quote, write_number};
 
 /// Where an open container begins: what is inside of it in the text, and its members among those of all.
@@ -291,7 +291,7 @@ fn pair_begun(members: &mut Vec<Member>, begun: &[Begun], end: usize) -> Result<
         let to = next_from(others, end);
         members.push(Member {
             key: first.key,
-            value: Node::String(Span {
+            value: Cell::String(Span {
                 from: first.from,
                 to,
             }),
@@ -324,11 +324,11 @@ fn copy_placed(text: &[u8], moved: &mut Vec<u8>, members: &[Member]) -> Result<(
 }
 
 /// What stands in the text at the place of a member.
-fn placed(text: &[u8], value: Node) -> &[u8]
+fn placed(text: &[u8], value: Cell) -> &[u8]
     ensures { result.now ≡ placed text.now value }
 {
     match value {
-        Node::String(span) => part(text, span),
+        Cell::String(span) => part(text, span),
         _ => b"",
     }
 }

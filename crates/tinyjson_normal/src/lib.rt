@@ -2,15 +2,10 @@
 //! an arena of nodes where members would be moved too often.
 #![tactic(auto)]
 
-mod append;
-mod arena;
 mod compact;
 pub mod normal;
 mod ranking;
 pub mod reader;
-mod sorting;
-mod store;
-mod walk;
 
 pub use normal::{NormalText, is_normal};
 pub use reader::NormalReader;

@@ -11,12 +11,12 @@ ghost use Rattle.tinyjson.specs.Written.{WritesPrefix, WritesText};
 ghost use Rattle.tinyjson_grammar.specs.Soundness.{IsTree};
 ghost use Rattle.tinyjson_normal.specs.Normal.{HasTree, IsNormal};
 
-use crate::arena::Arena;
 use crate::reader::NormalReader;
 use std::alloc::{AllocError, Global};
 use std::io::{self, ErrorKind, Write};
 use std::str;
 use tinyjson::{JsonGenerateError, JsonGenerateResult, JsonParseError, read_events};
+use tinyjson_document::arena::Arena;
 use tinyjson_output::write_all;
 
 /// The indent of [`NormalText::format`].

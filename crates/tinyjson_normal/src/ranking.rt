@@ -2,13 +2,13 @@
 //! the keys themselves.
 ghost use Rattle.std.specs.Prelude.{◌≡◌, true, List, IfOk, OnOk, length};
 ghost use Rattle.std.specs.List.{All, Contains};
-ghost use Rattle.tinyjson_normal.specs.Order.{IsOrdered, lasts};
-ghost use Rattle.tinyjson_normal.specs.declared.store.Member.{Member as Pair};
+ghost use Rattle.tinyjson_document.specs.Order.{IsOrdered, lasts};
+ghost use Rattle.tinyjson_document.specs.declared.store.Member.{Member as Pair};
 
-use crate::sorting::{push_lasts, rise, sort};
-use crate::store::{Member, part};
 use std::alloc::AllocError;
 use tinyjson_bytes::{Keys, place_mask, rank};
+use tinyjson_document::sorting::{push_lasts, rise, sort};
+use tinyjson_document::store::{Member, part};
 
 /// Up to this many members are sorted at once, unless the object before had as many keys.
 const FEW: usize = 32;

@@ -7,12 +7,12 @@ ghost use Rattle.tinyjson_grammar.specs.Soundness.{IsTree};
 ghost use Rattle.tinyjson_normal.specs.Compacting.{Holds, IsOf};
 ghost use Rattle.tinyjson_normal.specs.Normal.{HasTree};
 
-use crate::arena::Arena;
 use crate::compact::Compact;
 use crate::normal::{Content, NormalText};
 use std::alloc::{AllocError, Global};
 use std::mem;
 use tinyjson::{Events, JsonParseError, read_events, read_events_with_depth_limit};
+use tinyjson_document::arena::Arena;
 
 /// How many times the length of a text may be moved for the order of members.
 const MOVES: usize = 8;

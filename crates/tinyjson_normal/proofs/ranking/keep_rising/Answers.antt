@@ -1,5 +1,5 @@
 use Rattle.std.proofs.Common.{sym, ◌∙◌, ap, arith}
-use Rattle.tinyjson_normal.specs.Order.{rise}
+use Rattle.tinyjson_document.specs.Order.{rise}
 use Rattle.tinyjson_normal.proofs.Picked.{picked_ordered}
 use Rattle.tinyjson_normal.proofs.ranking.keep_rising.Goals as goal
 

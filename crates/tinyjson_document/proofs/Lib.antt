@@ -1,0 +1,20 @@
+-- A cell stands for the same tree while the store grows.
+pub mod Growing
+-- What waits, when a value comes or a container is closed.
+pub mod Waiting
+-- Slices up to the end.
+pub mod Slices
+-- The order of members.
+pub mod Order
+-- What a sorted object keeps.
+pub mod Gathered
+-- Members whose keys rise.
+pub mod Rising
+-- Texts that grow by more than is meant.
+pub mod Appending
+-- What a walk writes.
+pub mod Writing
+-- Values that hold no others.
+pub mod Passing
+-- For proofs of callers.
+pub mod Callers

@@ -1,0 +1,15 @@
+use Rattle.std.proofs.Common.{◌≡◌, true, sym, ap, subst, ◌∙◌, IfOk}
+use Rattle.tinyjson_document.specs.Cell.{IsRun}
+use Rattle.tinyjson_document.specs.Order.{rise}
+use Rattle.tinyjson_document.proofs.Rising.{rise_adds}
+use Rattle.tinyjson_document.proofs.store.Store.add_object.Goals as goal
+
+pub returns-then-rise-clause-members : goal.returns-then-rise-clause-members
+returns-then-rise-clause-members c =
+    let texts = c.args.self.now.texts.items in
+    let ms = c.args.members.now.items in
+    let all = c.add_rising.new.self.members.items in
+    let they : rise texts ms ≡ true = sym (c.rise.ensures ∙ ap (λ z. rise z c.deref-2.result.now) c.deref.ensures.value
+    ∙ ap (rise texts) c.deref-2.ensures.value) ∙ c.if-rise.true in
+    rise_adds texts all ms c.add_rising.result they (subst (λ z. IfOk c.add_rising.result (λ p. IsRun all p z))
+    c.deref-then-rise.ensures.value c.add_rising.ensures.members)

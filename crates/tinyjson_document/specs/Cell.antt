@@ -1,0 +1,71 @@
+-- Which tree a node stands for, by recursion on the tree. For private contracts.
+use Rattle.std.specs.Prelude.{◌≡◌, ℕ, ◌+◌, List, [], ◌∷◌, ◌++◌, length, ⊤}
+use Rattle.std.specs.Str.{IsUtf8, chars}
+use Rattle.tinyjson_number.specs.Decimal.{Decimal}
+use Rattle.tinyjson_number.specs.Number.{Canonical}
+use Rattle.tinyjson_grammar.specs.Tree.{Tree, null, boolean, number, string, array, object}
+use Rattle.tinyjson_grammar.specs.Tree.{Items, no_items, item, Members, no_members, member}
+use Rattle.tinyjson_document.specs.declared.store.Span.{Span}
+use Rattle.tinyjson_document.specs.declared.store.Cell.{Cell}
+use Rattle.tinyjson_document.specs.declared.store.Cell.TheVariants as node
+use Rattle.tinyjson_document.specs.declared.store.Member.{Member}
+use Rattle.tinyjson_document.specs.declared.store.Store.{Store}
+
+-- the elements from the one place to the other
+pub record IsRun {A : Type 0} (xs : List A) (s : Span) (ys : List A) : Type 0 where
+  pub front : List A
+  pub back : List A
+  pub whole : xs ≡ front ++ (ys ++ back)
+  pub from : s.from ≡ length front
+  pub to : s.to ≡ length front + length ys
+
+-- the bytes are these characters in UTF-8
+abbrev pub IsBytes : List ℕ → List ℕ → Type 0
+IsBytes cs bytes = IsUtf8 bytes × (cs ≡ chars bytes)
+
+-- the characters that stand there in UTF-8
+pub record IsText (s : Store) (cs : List ℕ) (p : Span) : Type 0 where
+  pub bytes : List ℕ
+  pub run : IsRun s.texts.items p bytes
+  pub utf8 : IsUtf8 bytes
+  pub characters : cs ≡ chars bytes
+
+-- the number that stands there
+pub record IsNumberAt (s : Store) (d : Decimal) (n : ℕ) : Type 0 where
+  pub front : List Canonical
+  pub here : Canonical
+  pub back : List Canonical
+  pub whole : s.numbers.items ≡ front ++ (here ∷ back)
+  pub place : n ≡ length front
+  pub decimal : here.decimal ≡ d
+
+abbrev mutual
+  pub Is : Store → Tree → Cell → Type 0
+  Is s null n = n ≡ node.Null
+  Is s (boolean b) n = n ≡ node.Boolean b
+  Is s (number d) n = (i : ℕ) × (n ≡ node.Number i) × IsNumberAt s d i
+  Is s (string cs) n = (p : Span) × (n ≡ node.String p) × IsText s cs p
+  Is s (array ts) n = (p : Span) × (n ≡ node.Array p) × (ns : List Cell) × IsRun s.items.items p ns × Are s ts ns
+  Is s (object ms) n = (p : Span) × (n ≡ node.Object p) × (es : List Member) × IsRun s.members.items p es × AreMembers s ms es
+
+  pub Are : Store → Items → List Cell → Type 0
+  Are s no_items [] = ⊤
+  Are s no_items (n ∷ ns) = ⊥
+  Are s (item t ts) [] = ⊥
+  Are s (item t ts) (n ∷ ns) = Is s t n × Are s ts ns
+
+  pub AreMembers : Store → Members → List Member → Type 0
+  AreMembers s no_members [] = ⊤
+  AreMembers s no_members (e ∷ es) = ⊥
+  AreMembers s (member k t ms) [] = ⊥
+  AreMembers s (member k t ms) (e ∷ es) = IsText s k e.key × Is s t e.value × AreMembers s ms es
+
+-- more stands after the list
+abbrev pub Extends : {A : Type 0} → List A → List A → Type 0
+Extends {A} xs ys = (more : List A) × (ys ≡ xs ++ more)
+
+pub record Grows (old new : Store) : Type 0 where
+  pub texts : Extends old.texts.items new.texts.items
+  pub numbers : Extends old.numbers.items new.numbers.items
+  pub items : Extends old.items.items new.items.items
+  pub members : Extends old.members.items new.members.items

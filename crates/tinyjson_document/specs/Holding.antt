@@ -1,0 +1,82 @@
+-- For which open containers an arena stands, and for which tree, once all are closed.
+use Rattle.std.specs.Prelude.{◌≡◌, ℕ, List, [], ◌∷◌, ◌++◌, length, ⊤}
+use Rattle.tinyjson_grammar.specs.Tree.{Tree, items_of, Members, no_members, put}
+use Rattle.tinyjson.specs.Events.{Open, in_array, at_key, at_value}
+use Rattle.tinyjson_document.specs.Cell.{Is, Are, IsText}
+use Rattle.tinyjson_document.specs.declared.store.Span.{Span}
+use Rattle.tinyjson_document.specs.declared.store.Cell.{Cell}
+use Rattle.tinyjson_document.specs.declared.store.Store.{Store}
+use Rattle.tinyjson_document.specs.declared.arena.Place.{Place}
+use Rattle.tinyjson_document.specs.declared.arena.Arena.{Arena}
+
+-- a key and its value
+abbrev pub Entry : Type 0
+Entry = List ℕ × Tree
+
+-- each value put at its key in turn: of equal keys the last stays
+abbrev pub put_all : Members → List Entry → Members
+put_all ms [] = ms
+put_all ms (e ∷ es) = put_all (put e.0 e.1 ms) es
+
+-- keys and values that wait, in the order of the text, where R says what a value stands for at its key
+abbrev pub AreEntriesBy : Store → (List ℕ → Tree → Cell → Type 0) → List Entry → List Span → List Cell → Type 0
+AreEntriesBy s R [] [] [] = ⊤
+AreEntriesBy s R [] [] (v ∷ vs) = ⊥
+AreEntriesBy s R [] (k ∷ ks) vs = ⊥
+AreEntriesBy s R (e ∷ es) [] vs = ⊥
+AreEntriesBy s R (e ∷ es) (k ∷ ks) [] = ⊥
+AreEntriesBy s R (e ∷ es) (k ∷ ks) (v ∷ vs) = IsText s e.0 k × R e.0 e.1 v × AreEntriesBy s R es ks vs
+
+abbrev pub AreEntries : Store → List Entry → List Span → List Cell → Type 0
+AreEntries s es ks vs = AreEntriesBy s (λ k t n. Is s t n) es ks vs
+
+-- the members of an object, from its keys and values
+pub record Gathers (s : Store) (ms : Members) (ks : List Span) (vs : List Cell) : Type 0 where
+  pub entries : List Entry
+  pub members : ms ≡ put_all no_members entries
+  pub waiting : AreEntries s entries ks vs
+
+-- those of an object whose last key has no value yet
+pub record Awaits (s : Store) (ms : Members) (k : List ℕ) (ks : List Span) (vs : List Cell) : Type 0 where
+  pub before : List Span
+  pub key : Span
+  pub keys : ks ≡ before ++ (key ∷ [])
+  pub text : IsText s k key
+  pub gathered : Gathers s ms before vs
+
+-- an open container has these keys and values
+abbrev pub IsOpen : Store → Open → List Span → List Cell → Type 0
+IsOpen s (in_array ts) ks vs = (ks ≡ []) × Are s (items_of ts) vs
+IsOpen s (at_key ms) ks vs = Gathers s ms ks vs
+IsOpen s (at_value ms k) ks vs = Awaits s ms k ks vs
+
+-- what waits: the places where the open containers begin, keys and values
+pub record Waiting : Type 0 where
+  pub places : List Place
+  pub keys : List Span
+  pub values : List Cell
+
+-- the last of what waits belongs to the innermost container
+pub record Splits (all outer : Waiting) (ks : List Span) (vs : List Cell) : Type 0 where
+  pub place : Place
+  pub places : all.places ≡ outer.places ++ (place ∷ [])
+  pub keys : all.keys ≡ outer.keys ++ ks
+  pub values : all.values ≡ outer.values ++ vs
+  pub first_key : place.keys ≡ length outer.keys
+  pub first_value : place.values ≡ length outer.values
+
+abbrev pub HoldsIn : Store → Waiting → List Open → Type 0
+HoldsIn s w [] = (w.places ≡ []) × (w.keys ≡ []) × (w.values ≡ [])
+HoldsIn s w (o ∷ os) =
+    (outer : Waiting) × (ks : List Span) × (vs : List Cell) × Splits w outer ks vs × IsOpen s o ks vs × HoldsIn s outer os
+
+abbrev pub waiting_in : Arena → Waiting
+waiting_in a = record { places = a.open.items; keys = a.keys.items; values = a.values.items }
+
+-- the arena stands for these open containers, the innermost first
+abbrev pub Holds : Arena → List Open → Type 0
+Holds a os = HoldsIn a.store (waiting_in a) os
+
+-- the arena stands for the tree: no container is open
+abbrev pub IsTree : Arena → Tree → Type 0
+IsTree a t = (n : Cell) × (a.values.items ≡ n ∷ []) × Is a.store t n

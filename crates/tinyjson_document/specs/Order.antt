@@ -1,0 +1,64 @@
+-- Members in the order of their keys, of equal keys the last. For private contracts.
+use Rattle.std.specs.Prelude.{⊤, ℕ, Bool, true, false, ◌&&◌, cond, min, List, [], ◌∷◌, length}
+use Rattle.std.specs.List.{slice_range}
+use Rattle.std.specs.List.Sorted.{IsPermutation, IsSortedBy, IsStableBy}
+use Rattle.std.specs.Str.{bytes_eq}
+use Rattle.std.specs.Cmp.Lexicographic.{slice_cmp}
+use Rattle.std.specs.Ordering.{nat_cmp, is_lt}
+use Rattle.tinyjson_document.specs.declared.store.Span.{Span}
+use Rattle.tinyjson_document.specs.declared.store.Cell.{Cell}
+use Rattle.tinyjson_document.specs.declared.store.Member.{Member}
+use Rattle.tinyjson_document.specs.declared.store.Store.{Store}
+use Rattle.tinyjson_document.specs.Cell.{IsText}
+use Rattle.tinyjson_grammar.specs.Tree.{Tree, Members, no_members, member}
+
+-- what stands from the one place to the other, as far as there is any
+abbrev pub part : {A : Type 0} → List A → Span → List A
+part xs p = slice_range xs (min p.from (min p.to (length xs))) (min p.to (length xs))
+
+-- the key of a member
+abbrev pub key_in : List ℕ → Member → List ℕ
+key_in xs m = part xs m.key
+
+-- the key of the one member is below that of the other
+abbrev pub key_lt : List ℕ → Member → Member → Bool
+key_lt xs m n = is_lt (slice_cmp nat_cmp (key_in xs m) (key_in xs n))
+
+-- each key with its value
+abbrev pub paired : List Span → List Cell → List Member
+paired [] vs = []
+paired (k ∷ ks) [] = []
+paired (k ∷ ks) (v ∷ vs) = record { key = k; value = v } ∷ paired ks vs
+
+-- the first of the members has that key
+abbrev pub comes_again : List ℕ → Member → List Member → Bool
+comes_again xs m [] = false
+comes_again xs m (n ∷ ns) = bytes_eq (key_in xs m) (key_in xs n)
+
+-- of neighbours with one key the last
+abbrev pub lasts : List ℕ → List Member → List Member
+lasts xs [] = []
+lasts xs (m ∷ ms) = cond (comes_again xs m ms) (lasts xs ms) (m ∷ lasts xs ms)
+
+-- the first of the members has a key above that one
+abbrev pub is_below_next : List ℕ → Member → List Member → Bool
+is_below_next xs m [] = true
+is_below_next xs m (n ∷ ns) = key_lt xs m n
+
+-- each key is below the next one
+abbrev pub rise : List ℕ → List Member → Bool
+rise xs [] = true
+rise xs (m ∷ ms) = is_below_next xs m ms && rise xs ms
+
+-- the members in the order of their keys, those of equal keys in their own
+pub record IsOrdered (xs : List ℕ) (ms ns : List Member) : Type 0 where
+  pub permuted : IsPermutation ms ns
+  pub sorted : IsSortedBy (key_lt xs) ns
+  pub stable : IsStableBy (key_lt xs) ms ns
+
+-- the members of an object, where R says what a value stands for at its key
+abbrev pub AreMembersBy : Store → (List ℕ → Tree → Cell → Type 0) → Members → List Member → Type 0
+AreMembersBy s R no_members [] = ⊤
+AreMembersBy s R no_members (e ∷ es) = ⊥
+AreMembersBy s R (member k t ms) [] = ⊥
+AreMembersBy s R (member k t ms) (e ∷ es) = IsText s k e.key × R k t e.value × AreMembersBy s R ms es

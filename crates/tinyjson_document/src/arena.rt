@@ -1,0 +1,164 @@
+//! The arena, and the events that it is built by.
+ghost use Rattle.std.specs.Prelude.{◌++◌, [], encode_utf8_all};
+ghost use Rattle.tinyjson.specs.Events.{literal_tree};
+ghost use Rattle.tinyjson.specs.Indent.{indent_of};
+ghost use Rattle.tinyjson.specs.Text.{text};
+ghost use Rattle.tinyjson.specs.Tree.{Tree};
+ghost use Rattle.tinyjson.specs.Written.{WritesPrefix};
+ghost use Rattle.tinyjson_document.specs.Holding.{Holds, IsTree};
+ghost use Rattle.tinyjson_document.specs.Cell.{Is};
+ghost use Rattle.tinyjson_document.specs.declared.store.Store.{Store as Nodes};
+
+use crate::sorting::pair;
+use crate::store::{Cell, Member, Span, Store};
+use crate::walk::Walk;
+use std::alloc::{AllocError, Global};
+use std::io::{self, ErrorKind, Write};
+use tinyjson::{Events, JsonNumber};
+use tinyjson_output::{flush, write_bytes};
+
+/// Where the keys and the values of an open container begin among those that wait.
+#[derive(Clone, Copy)]
+pub(crate) struct Place {
+    pub(crate) keys: usize,
+    pub(crate) values: usize,
+}
+
+/// A value that is built by the events of a text: values and keys wait until their container is closed.
+#[derive(Drop)]
+pub struct Arena {
+    pub(crate) store: Store,
+    pub(crate) open: Vec<Place>,
+    pub(crate) keys: Vec<Span>,
+    pub(crate) values: Vec<Cell>,
+    /// The members of the object that is being closed.
+    sorted: Vec<Member>,
+    /// The most containers that were open at once.
+    deepest: usize,
+}
+
+impl Arena {
+    /// An arena in which no container is open and no value stands.
+    pub fn new(alloc: Global) -> Self
+        ensures { Holds result [] }
+    {
+        Arena {
+            store: Store::new(alloc),
+            open: Vec::new(alloc),
+            keys: Vec::new(alloc),
+            values: Vec::new(alloc),
+            sorted: Vec::new(alloc),
+            deepest: 0,
+        }
+    }
+
+    /// Writes the text of the tree, compact or indented by a text, in UTF-8, and the bytes behind it, by way of a
+    /// buffer that is written out at the end.
+    pub fn write_to<'a, W: Write>(
+        &'a self,
+        alloc: Global,
+        indent: Option<&'a str>,
+        behind: &[u8],
+        out: &mut W,
+    ) -> io::Result<()>
+        ensures { (t : Tree) → IsTree self.now t →
+            WritesPrefix (W.contents out.old) (W.contents out.new)
+            (encode_utf8_all (text (indent_of indent.entry) 0 t) ++ behind.now) result }
+    {
+        let Some(root) = self.values.first() else {
+            return Err(io::Error::from(ErrorKind::InvalidData));
+        };
+        let mut walk = Walk::new(alloc, &self.store, indent, self.deepest);
+        walk.begin(out, *root)?;
+        walk.finish(out)?;
+        write_bytes(out, &mut walk.buffer, behind)?;
+        flush(out, &mut walk.buffer)
+    }
+}
+
+impl Events for Arena {
+    ghost use Rattle.tinyjson_document.specs.Holding.{Holds, IsTree};
+
+    ghost holds = { Holds };
+
+    ghost is = { IsTree };
+
+    fn open_array(&mut self) -> Result<(), AllocError> {
+        self.open.push(Place {
+            keys: self.keys.len(),
+            values: self.values.len(),
+        })?;
+        self.deepest = self.deepest.max(self.open.len());
+        Ok(())
+    }
+
+    fn close_array(&mut self) -> Result<(), AllocError> {
+        let Some(place) = self.open.pop() else {
+            return Err(AllocError);
+        };
+        let span = self.store.take_items(&mut self.values, place.values)?;
+        self.values.push(Cell::Array(span))?;
+        Ok(())
+    }
+
+    fn open_object(&mut self) -> Result<(), AllocError> {
+        self.open.push(Place {
+            keys: self.keys.len(),
+            values: self.values.len(),
+        })?;
+        self.deepest = self.deepest.max(self.open.len());
+        Ok(())
+    }
+
+    /// The members are sorted by their keys. Of equal keys the last stays.
+    fn close_object(&mut self) -> Result<(), AllocError> {
+        let Some(place) = self.open.pop() else {
+            return Err(AllocError);
+        };
+        let Some(keys) = self.keys.get(place.keys..) else {
+            return Err(AllocError);
+        };
+        let Some(values) = self.values.get(place.values..) else {
+            return Err(AllocError);
+        };
+        pair(&mut self.sorted, keys, values)?;
+        let span = self.store.add_object(&mut self.sorted)?;
+        self.keys.truncate(place.keys);
+        self.values.truncate(place.values);
+        self.values.push(Cell::Object(span))?;
+        Ok(())
+    }
+
+    fn key(&mut self, key: &str) -> Result<(), AllocError> {
+        let span = self.store.add_text(key)?;
+        self.keys.push(span)?;
+        Ok(())
+    }
+
+    fn string(&mut self, value: &str) -> Result<(), AllocError> {
+        let span = self.store.add_text(value)?;
+        self.values.push(Cell::String(span))?;
+        Ok(())
+    }
+
+    fn number(&mut self, value: JsonNumber) -> Result<(), AllocError> {
+        let index = self.store.add_number(value)?;
+        self.values.push(Cell::Number(index))?;
+        Ok(())
+    }
+
+    fn literal(&mut self, value: Option<bool>) -> Result<(), AllocError> {
+        self.values.push(literal_cell(value))?;
+        Ok(())
+    }
+}
+
+/// The node of a boolean, or of `null`.
+fn literal_cell(literal: Option<bool>) -> Cell
+    ensures { (s : Nodes) → Is s (literal_tree literal) result }
+{
+    match literal {
+        None => Cell::Null,
+        Some(boolean) => Cell::Boolean(boolean),
+    }
+}

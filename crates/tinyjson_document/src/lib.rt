@@ -1,0 +1,13 @@
+//! A JSON text that is read once and looked into: a document keeps the tree in vectors, with no map, and a node is
+//! a place in it.
+#![tactic(auto)]
+
+#[doc(hidden)]
+pub mod append;
+#[doc(hidden)]
+pub mod arena;
+#[doc(hidden)]
+pub mod sorting;
+#[doc(hidden)]
+pub mod store;
+mod walk;

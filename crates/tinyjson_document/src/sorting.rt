@@ -1,0 +1,103 @@
+//! The members of an object in the order of their keys.
+ghost use Rattle.std.specs.Prelude.{◌≡◌, ◌++◌, ◌∷◌, [], cond, OnOk};
+ghost use Rattle.std.specs.List.Sorted.{IsPermutation, IsSortedBy, IsStableBy};
+ghost use Rattle.tinyjson_document.specs.Order.{comes_again, is_below_next, key_lt, lasts, paired, rise};
+
+use crate::store::{Cell, Member, Span, part};
+use std::alloc::AllocError;
+
+/// Makes a member of each key and its value.
+pub(crate) fn pair(
+    members: &mut Vec<Member>,
+    keys: &[Span],
+    values: &[Cell],
+) -> Result<(), AllocError>
+    ensures { OnOk result (members.new.items ≡ paired keys.now values.now) }
+{
+    members.clear();
+    let count = keys.len().min(values.len());
+    members.reserve(count)?;
+    for i in 0..count {
+        members.push(Member {
+            key: keys[i],
+            value: values[i],
+        })?;
+    }
+    Ok(())
+}
+
+/// Sorts the members by the bytes of their keys. Those of equal keys stay in their order.
+pub fn sort(texts: &[u8], members: &mut Vec<Member>) -> Result<(), AllocError>
+    ensures permutation { IsPermutation members.old.items members.new.items }
+    ensures sorted { OnOk result (IsSortedBy (key_lt texts.now) members.new.items) }
+    ensures stable { IsStableBy (key_lt texts.now) members.old.items members.new.items }
+{
+    members.sort_by(|a, b| part(texts, a.key).cmp(part(texts, b.key)))?;
+    Ok(())
+}
+
+/// Whether each key is below the next one.
+pub fn rise(texts: &[u8], members: &[Member]) -> bool
+    ensures { result ≡ rise texts.now members.now }
+{
+    let mut rest = members;
+    while let Some((member, others)) = rest.split_first() {
+        if !is_below_next(texts, *member, others) {
+            return false;
+        }
+        rest = others;
+    }
+    true
+}
+
+/// Whether the key of a member is below that of the first of the others.
+fn is_below_next(texts: &[u8], member: Member, others: &[Member]) -> bool
+    ensures { result ≡ is_below_next texts.now member others.now }
+{
+    match others.first() {
+        Some(next) => part(texts, member.key).cmp(part(texts, next.key)).is_lt(),
+        None => true,
+    }
+}
+
+/// Pushes the sorted members, of those with one key the last.
+pub fn push_lasts(
+    texts: &[u8],
+    members: &mut Vec<Member>,
+    sorted: &[Member],
+) -> Result<(), AllocError>
+    ensures { OnOk result (members.new.items ≡ members.old.items ++ lasts texts.now sorted.now) }
+{
+    let mut rest = sorted;
+    while let Some((member, others)) = rest.split_first() {
+        push_last(texts, members, *member, others)?;
+        rest = others;
+    }
+    Ok(())
+}
+
+/// Pushes a member, unless its key comes again.
+fn push_last(
+    texts: &[u8],
+    members: &mut Vec<Member>,
+    member: Member,
+    others: &[Member],
+) -> Result<(), AllocError>
+    ensures { OnOk result (members.new.items ≡ members.old.items
+        ++ cond (comes_again texts.now member others.now) [] (member ∷ [])) }
+{
+    if !comes_again(texts, member, others) {
+        members.push(member)?;
+    }
+    Ok(())
+}
+
+/// Whether the first of the others has the key of this member.
+fn comes_again(texts: &[u8], member: Member, others: &[Member]) -> bool
+    ensures { result ≡ comes_again texts.now member others.now }
+{
+    match others.first() {
+        Some(next) => part(texts, member.key) == part(texts, next.key),
+        None => false,
+    }
+}

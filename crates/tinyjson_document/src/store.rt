@@ -1,0 +1,178 @@
+//! Nodes, and what they stand on: vectors that only grow.
+ghost use Rattle.std.specs.Prelude.{◌≡◌, [], List, IfOk, OnOk, drop, take};
+ghost use Rattle.std.specs.Str.{chars};
+ghost use Rattle.tinyjson_document.specs.Cell.{IsRun, IsText, IsNumberAt, Grows};
+ghost use Rattle.tinyjson_document.specs.declared.store.Member.{Member};
+ghost use Rattle.tinyjson_document.specs.Order.{IsOrdered, lasts, part};
+
+use crate::append::append;
+use crate::sorting::{push_lasts, rise, sort};
+use std::alloc::{AllocError, Global};
+use std::mem;
+use tinyjson_number::JsonNumber;
+
+/// The places of a vector from `from` up to `to`.
+#[derive(Clone, Copy)]
+pub struct Span {
+    pub from: usize,
+    pub to: usize,
+}
+
+/// What stands at these places, as far as there is any.
+pub fn part<T>(all: &[T], span: Span) -> &[T]
+    ensures { result.now ≡ part all.now span }
+{
+    let to = span.to.min(all.len());
+    let from = span.from.min(to);
+    &all[from..to]
+}
+
+/// A value. Its text, its number, its items or its members stand in the store.
+#[derive(Clone, Copy)]
+pub enum Cell {
+    Null,
+    Boolean(bool),
+    Number(usize),
+    String(Span),
+    Array(Span),
+    Object(Span),
+}
+
+/// A member of an object. Its key is a run of the texts.
+#[derive(Clone, Copy)]
+pub struct Member {
+    pub key: Span,
+    pub value: Cell,
+}
+
+/// What nodes stand on. A node stays what it is while the vectors grow.
+#[derive(Drop)]
+pub struct Store {
+    /// The characters of strings and keys, in UTF-8.
+    pub texts: Vec<u8>,
+    pub numbers: Vec<JsonNumber>,
+    pub items: Vec<Cell>,
+    pub members: Vec<Member>,
+}
+
+impl Store {
+    pub fn new(alloc: Global) -> Self {
+        Store {
+            texts: Vec::new(alloc),
+            numbers: Vec::new(alloc),
+            items: Vec::new(alloc),
+            members: Vec::new(alloc),
+        }
+    }
+
+    /// Appends the characters.
+    pub fn add_text(&mut self, text: &str) -> Result<Span, AllocError>
+        ensures text { IfOk result (IsText self.new (chars text.now)) }
+        ensures grows { OnOk result (Grows self.old self.new) }
+    {
+        let from = self.texts.len();
+        append(&mut self.texts, text.as_bytes())?;
+        Ok(Span {
+            from,
+            to: self.texts.len(),
+        })
+    }
+
+    /// Appends the number.
+    pub fn add_number(&mut self, number: JsonNumber) -> Result<usize, AllocError>
+        ensures number { IfOk result (IsNumberAt self.new number.decimal) }
+        ensures grows { OnOk result (Grows self.old self.new) }
+    {
+        let index = self.numbers.len();
+        self.numbers.push(number)?;
+        Ok(index)
+    }
+
+    /// Appends the items of an array.
+    pub fn add_items(&mut self, items: &[Cell]) -> Result<Span, AllocError>
+        ensures items { IfOk result (λ span. IsRun self.new.items.items span items.now) }
+        ensures grows { OnOk result (Grows self.old self.new) }
+    {
+        let from = self.items.len();
+        self.items.extend_from_slice(items)?;
+        Ok(Span {
+            from,
+            to: self.items.len(),
+        })
+    }
+
+    /// Moves the items of an array here, which are the last of the values that wait. The first items of all are
+    /// not copied.
+    pub fn take_items(&mut self, values: &mut Vec<Cell>, from: usize) -> Result<Span, AllocError>
+        ensures items { IfOk result (λ span.
+            IsRun self.new.items.items span (drop from values.old.items)) }
+        ensures rest { OnOk result (values.new.items ≡ take from values.old.items) }
+        ensures grows { OnOk result (Grows self.old self.new) }
+    {
+        if from == 0 && self.items.is_empty() {
+            return Ok(self.swap_items(values));
+        }
+        let Some(items) = values.get(from..) else {
+            return Err(AllocError);
+        };
+        let span = self.add_items(items)?;
+        values.truncate(from);
+        Ok(span)
+    }
+
+    /// Makes all values that wait the items, where there are none.
+    fn swap_items(&mut self, values: &mut Vec<Cell>) -> Span
+        requires none { self.old.items.items ≡ [] }
+        ensures items { IsRun self.new.items.items result values.old.items }
+        ensures rest { values.new.items ≡ [] }
+        ensures grows { Grows self.old self.new }
+    {
+        mem::swap(&mut self.items, values);
+        Span {
+            from: 0,
+            to: self.items.len(),
+        }
+    }
+
+    /// Appends the members of an object in the order of their keys, of those with one key the last.
+    pub fn add_object(&mut self, members: &mut Vec<Member>) -> Result<Span, AllocError>
+        ensures members { IfOk result (λ span. (ns : List Member)
+            × IsOrdered self.old.texts.items members.old.items ns
+            × IsRun self.new.members.items span (lasts self.old.texts.items ns)) }
+        ensures grows { OnOk result (Grows self.old self.new) }
+    {
+        if rise(&self.texts, members) {
+            return self.add_rising(members);
+        }
+        sort(&self.texts, members)?;
+        self.add_members(members)
+    }
+
+    /// Appends the members of an object, whose keys rise.
+    fn add_rising(&mut self, members: &[Member]) -> Result<Span, AllocError>
+        ensures members { IfOk result (λ span.
+            IsRun self.new.members.items span members.now) }
+        ensures grows { OnOk result (Grows self.old self.new) }
+    {
+        let from = self.members.len();
+        self.members.extend_from_slice(members)?;
+        Ok(Span {
+            from,
+            to: self.members.len(),
+        })
+    }
+
+    /// Appends the members of an object, which are sorted: of those with one key the last.
+    pub fn add_members(&mut self, sorted: &[Member]) -> Result<Span, AllocError>
+        ensures members { IfOk result (λ span. IsRun self.new.members.items span
+            (lasts self.old.texts.items sorted.now)) }
+        ensures grows { OnOk result (Grows self.old self.new) }
+    {
+        let from = self.members.len();
+        push_lasts(&self.texts, &mut self.members, sorted)?;
+        Ok(Span {
+            from,
+            to: self.members.len(),
+        })
+    }
+}

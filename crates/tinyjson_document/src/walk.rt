@@ -1,0 +1,439 @@
+//! The text of a tree in an arena, written without recursion: what is left of the open containers is on a stack.
+ghost use Rattle.std.specs.Prelude.{◌≡◌, ◌≤◌, ◌<◌, ◌+◌, ◌-◌, ◌++◌, ◌∷◌, [], ℕ, List, suc, length};
+ghost use Rattle.std.specs.Prelude.{reverse, false, IfOk, OnOk, MatchOption, IfSome, Option, cond};
+ghost use Rattle.std.specs.Str.{encode_utf8_all};
+ghost use Rattle.tinyjson_grammar.specs.Tree.{Tree};
+ghost use Rattle.tinyjson.specs.Indent.{indent_of};
+ghost use Rattle.tinyjson_grammar.specs.Text.{text, before, quoted, newline, after_colon};
+ghost use Rattle.tinyjson_grammar.specs.Characters.{name_separator};
+ghost use Rattle.tinyjson_number.specs.Text.{decimal_text};
+ghost use Rattle.tinyjson_document.specs.declared.walk.Rest.TheVariants.{Items, Members};
+ghost use Rattle.tinyjson_document.specs.Cell.{Is, IsBytes};
+ghost use Rattle.tinyjson_document.specs.declared.store.Store.{Store as Nodes};
+ghost use Rattle.tinyjson_document.specs.Walking.{head, holds_others, IsRest, AreLeft, Advances, Passes, cost};
+ghost use Rattle.tinyjson_document.specs.Walking.{rest_cost, left_cost};
+ghost use Rattle.tinyjson_output.specs.Buffer.{buffered, Sends, SendsText};
+
+use crate::store::{Cell, Member, Store, part};
+use std::alloc::{AllocError, Global};
+use std::io::{self, ErrorKind, Write};
+use tinyjson_number::JsonNumber;
+use tinyjson_output::{
+    Buffer, quick_number, quick_text, quote, separate, write_bytes, write_colon, write_newline,
+    write_number,
+};
+
+/// What an open container has still to write before its closing bracket. `first` says that nothing of it is
+/// written yet.
+#[derive(Clone, Copy, Drop)]
+pub(crate) enum Rest<'a> {
+    Items { rest: &'a [Cell], first: bool },
+    Members { rest: &'a [Member], first: bool },
+}
+
+/// A walk over a tree, compact or indented by a text, the innermost container last, with room for so many.
+#[derive(Drop)]
+pub(crate) struct Walk<'a> {
+    pub(crate) store: &'a Store,
+    pub(crate) indent: Option<&'a str>,
+    pub(crate) most: usize,
+    pub(crate) buffer: Buffer,
+    pub(crate) stack: Vec<Rest<'a>>,
+}
+
+impl<'a> Walk<'a> {
+    pub(crate) fn new(alloc: Global, store: &'a Store, indent: Option<&'a str>, most: usize) -> Self
+        ensures store { result.store ≡ store.entry }
+        ensures indent { result.indent ≡ indent.entry }
+        ensures stack { result.stack.items ≡ [] }
+        ensures buffer { buffered result.buffer ≡ [] }
+    {
+        Walk {
+            store,
+            indent,
+            most,
+            buffer: Buffer::new(),
+            stack: Vec::new(alloc),
+        }
+    }
+
+    /// Writes a value, or its opening bracket, and opens what is left of it. A container that is empty is not opened.
+    pub(crate) fn begin<W: Write>(&mut self, out: &mut W, node: Cell) -> io::Result<()>
+        ensures sent { (t : Tree) (k : ℕ) (xs : List ℕ) → Is self.old.store.now t node
+            → length self.old.stack.items ≡ k
+            → AreLeft (indent_of self.old.indent) self.old.store.now
+            (reverse self.old.stack.items) xs
+            → Advances W.contents out.old out.new self.old self.new
+            (text (indent_of self.old.indent) k t ++ xs) result }
+        ensures less { OnOk result
+            (left_cost self.old.store.now self.old.most (reverse self.new.stack.items)
+            < cost self.old.store.now (self.old.most - length self.old.stack.items) node
+            + left_cost self.old.store.now self.old.most (reverse self.old.stack.items)) }
+        ensures store { self.new.store ≡ self.old.store }
+        ensures most { self.new.most ≡ self.old.most }
+        ensures indent { self.new.indent ≡ self.old.indent }
+    {
+        match empty_text(node) {
+            Some(brackets) => write_bytes(out, &mut self.buffer, brackets),
+            None => self.open(out, node),
+        }
+    }
+
+    /// Writes a value, or its opening bracket, and opens what is left of it.
+    #[inline(always)]
+    fn open<W: Write>(&mut self, out: &mut W, node: Cell) -> io::Result<()>
+        ensures sent { (t : Tree) (k : ℕ) (xs : List ℕ) → Is self.old.store.now t node
+            → length self.old.stack.items ≡ k
+            → AreLeft (indent_of self.old.indent) self.old.store.now
+            (reverse self.old.stack.items) xs
+            → Advances W.contents out.old out.new self.old self.new
+            (text (indent_of self.old.indent) k t ++ xs) result }
+        ensures less { OnOk result
+            (left_cost self.old.store.now self.old.most (reverse self.new.stack.items)
+            < cost self.old.store.now (self.old.most - length self.old.stack.items) node
+            + left_cost self.old.store.now self.old.most (reverse self.old.stack.items)) }
+        ensures store { self.new.store ≡ self.old.store }
+        ensures most { self.new.most ≡ self.old.most }
+        ensures indent { self.new.indent ≡ self.old.indent }
+    {
+        write_head(out, &mut self.buffer, self.store, node)?;
+        match rest_of(self.store, node) {
+            Some(rest) => Ok(push(&mut self.stack, self.most, rest)?),
+            None => Ok(()),
+        }
+    }
+
+    /// Writes all that is left.
+    pub(crate) fn finish<W: Write>(&mut self, out: &mut W) -> io::Result<()>
+        ensures { (xs : List ℕ) → AreLeft (indent_of self.old.indent) self.old.store.now
+            (reverse self.old.stack.items) xs
+            → SendsText W.contents out.old out.new self.old.buffer self.new.buffer xs result }
+    {
+        while let Some(rest) = self.stack.pop() {
+            self.resume(out, rest)?;
+        }
+        Ok(())
+    }
+
+    /// Writes what comes next of what is left of a container: an item or a member, or how it begins, or the
+    /// closing bracket.
+    fn resume<W: Write>(&mut self, out: &mut W, rest: Rest<'a>) -> io::Result<()>
+        ensures sent { (xs : List ℕ) → AreLeft (indent_of self.old.indent) self.old.store.now
+            (rest.entry ∷ reverse self.old.stack.items) xs
+            → Advances W.contents out.old out.new self.old self.new xs result }
+        ensures less { OnOk result
+            (left_cost self.old.store.now self.old.most (reverse self.new.stack.items)
+            < left_cost self.old.store.now self.old.most
+            (rest.entry ∷ reverse self.old.stack.items)) }
+        ensures store { self.new.store ≡ self.old.store }
+        ensures most { self.new.most ≡ self.old.most }
+        ensures indent { self.new.indent ≡ self.old.indent }
+    {
+        let rest = self.pass(out, rest)?;
+        match rest {
+            Rest::Items { rest, first } => self.resume_items(out, rest, first),
+            Rest::Members { rest, first } => self.resume_members(out, rest, first),
+        }
+    }
+
+    /// Writes the items or members up to the first whose value holds others, and returns what is left.
+    fn pass<W: Write>(&mut self, out: &mut W, rest: Rest<'a>) -> io::Result<Rest<'a>>
+        ensures sent { (xs : List ℕ) → AreLeft (indent_of self.old.indent) self.old.store.now
+            (rest.entry ∷ reverse self.old.stack.items) xs
+            → Passes W.contents out.old out.new self.old self.new xs result }
+        ensures less { IfOk result (λ r. (f : ℕ) →
+            rest_cost self.old.store.now f r ≤ rest_cost self.old.store.now f rest.entry) }
+        ensures stack { self.new.stack.items ≡ self.old.stack.items }
+        ensures store { self.new.store ≡ self.old.store }
+        ensures most { self.new.most ≡ self.old.most }
+        ensures indent { self.new.indent ≡ self.old.indent }
+    {
+        match rest {
+            Rest::Items { rest, first } => self.pass_items(out, rest, first),
+            Rest::Members { rest, first } => self.pass_members(out, rest, first),
+        }
+    }
+
+    fn pass_items<W: Write>(
+        &mut self,
+        out: &mut W,
+        items: &'a [Cell],
+        first: bool,
+    ) -> io::Result<Rest<'a>>
+        ensures sent { (xs : List ℕ) → AreLeft (indent_of self.old.indent) self.old.store.now
+            (Items items.entry first ∷ reverse self.old.stack.items) xs
+            → Passes W.contents out.old out.new self.old self.new xs result }
+        ensures less { IfOk result (λ r. (f : ℕ) → rest_cost self.old.store.now f r
+            ≤ rest_cost self.old.store.now f (Items items.entry first)) }
+        ensures stack { self.new.stack.items ≡ self.old.stack.items }
+        ensures store { self.new.store ≡ self.old.store }
+        ensures most { self.new.most ≡ self.old.most }
+        ensures indent { self.new.indent ≡ self.old.indent }
+    {
+        let (store, indent, level) = (self.store, self.indent, self.stack.len());
+        let mut rest = items;
+        let mut first = first;
+        while let Some((node, others)) = rest.split_first() {
+            if holds_others(*node) {
+                return Ok(Rest::Items { rest, first });
+            }
+            separate(out, &mut self.buffer, indent, level + 1, first)?;
+            write_leaf(out, &mut self.buffer, store, *node)?;
+            rest = others;
+            first = false;
+        }
+        Ok(Rest::Items { rest, first })
+    }
+
+    fn pass_members<W: Write>(
+        &mut self,
+        out: &mut W,
+        members: &'a [Member],
+        first: bool,
+    ) -> io::Result<Rest<'a>>
+        ensures sent { (xs : List ℕ) → AreLeft (indent_of self.old.indent) self.old.store.now
+            (Members members.entry first ∷ reverse self.old.stack.items) xs
+            → Passes W.contents out.old out.new self.old self.new xs result }
+        ensures less { IfOk result (λ r. (f : ℕ) → rest_cost self.old.store.now f r
+            ≤ rest_cost self.old.store.now f (Members members.entry first)) }
+        ensures stack { self.new.stack.items ≡ self.old.stack.items }
+        ensures store { self.new.store ≡ self.old.store }
+        ensures most { self.new.most ≡ self.old.most }
+        ensures indent { self.new.indent ≡ self.old.indent }
+    {
+        let (store, indent, level) = (self.store, self.indent, self.stack.len());
+        let mut rest = members;
+        let mut first = first;
+        while let Some((member, others)) = rest.split_first() {
+            if holds_others(member.value) {
+                return Ok(Rest::Members { rest, first });
+            }
+            separate(out, &mut self.buffer, indent, level + 1, first)?;
+            let key = part(&store.texts, member.key);
+            write_key(out, &mut self.buffer, indent, key)?;
+            write_leaf(out, &mut self.buffer, store, member.value)?;
+            rest = others;
+            first = false;
+        }
+        Ok(Rest::Members { rest, first })
+    }
+
+    fn resume_items<W: Write>(
+        &mut self,
+        out: &mut W,
+        items: &'a [Cell],
+        first: bool,
+    ) -> io::Result<()>
+        ensures sent { (xs : List ℕ) → AreLeft (indent_of self.old.indent) self.old.store.now
+            (Items items.entry first ∷ reverse self.old.stack.items) xs
+            → Advances W.contents out.old out.new self.old self.new xs result }
+        ensures less { OnOk result
+            (left_cost self.old.store.now self.old.most (reverse self.new.stack.items)
+            < left_cost self.old.store.now self.old.most
+            (Items items.entry first ∷ reverse self.old.stack.items)) }
+        ensures store { self.new.store ≡ self.old.store }
+        ensures most { self.new.most ≡ self.old.most }
+        ensures indent { self.new.indent ≡ self.old.indent }
+    {
+        let level = self.stack.len();
+        let Some((node, rest)) = items.split_first() else {
+            return close(out, &mut self.buffer, self.indent, level, first, b"]");
+        };
+        separate(out, &mut self.buffer, self.indent, level + 1, first)?;
+        push(
+            &mut self.stack,
+            self.most,
+            Rest::Items { rest, first: false },
+        )?;
+        self.begin(out, *node)
+    }
+
+    fn resume_members<W: Write>(
+        &mut self,
+        out: &mut W,
+        members: &'a [Member],
+        first: bool,
+    ) -> io::Result<()>
+        ensures sent { (xs : List ℕ) → AreLeft (indent_of self.old.indent) self.old.store.now
+            (Members members.entry first ∷ reverse self.old.stack.items) xs
+            → Advances W.contents out.old out.new self.old self.new xs result }
+        ensures less { OnOk result
+            (left_cost self.old.store.now self.old.most (reverse self.new.stack.items)
+            < left_cost self.old.store.now self.old.most
+            (Members members.entry first ∷ reverse self.old.stack.items)) }
+        ensures store { self.new.store ≡ self.old.store }
+        ensures most { self.new.most ≡ self.old.most }
+        ensures indent { self.new.indent ≡ self.old.indent }
+    {
+        let level = self.stack.len();
+        let Some((member, rest)) = members.split_first() else {
+            return close(out, &mut self.buffer, self.indent, level, first, b"}");
+        };
+        separate(out, &mut self.buffer, self.indent, level + 1, first)?;
+        let key = part(&self.store.texts, member.key);
+        write_key(out, &mut self.buffer, self.indent, key)?;
+        push(
+            &mut self.stack,
+            self.most,
+            Rest::Members { rest, first: false },
+        )?;
+        self.begin(out, member.value)
+    }
+}
+
+/// Whether a value is a container that is not empty.
+fn holds_others(node: Cell) -> bool
+    ensures { result ≡ holds_others node }
+{
+    match node {
+        Cell::Array(span) | Cell::Object(span) => span.from != span.to,
+        _ => false,
+    }
+}
+
+/// Writes a value that holds no others.
+fn write_leaf<W: Write>(
+    out: &mut W,
+    buffer: &mut Buffer,
+    store: &Store,
+    node: Cell,
+) -> io::Result<()>
+    ensures { (w : Option (List ℕ)) (k : ℕ) (t : Tree) → holds_others node ≡ false
+        → Is store.now t node
+        → SendsText W.contents out.old out.new buffer.old buffer.new (text w k t) result }
+{
+    match node {
+        Cell::Array(_) => write_bytes(out, buffer, b"[]"),
+        Cell::Object(_) => write_bytes(out, buffer, b"{}"),
+        _ => write_head(out, buffer, store, node),
+    }
+}
+
+/// Puts what is left of a container on the stack, if there is room.
+fn push<'a>(stack: &mut Vec<Rest<'a>>, most: usize, rest: Rest<'a>) -> Result<(), AllocError>
+    ensures stack { OnOk result (stack.new.items ≡ stack.old.items ++ rest.entry ∷ []) }
+    ensures room { OnOk result (length stack.new.items ≤ most) }
+{
+    if stack.len() >= most {
+        return Err(AllocError);
+    }
+    stack.push(rest)?;
+    Ok(())
+}
+
+/// What is left of a value after its opening bracket, if it has one.
+fn rest_of<'a>(store: &'a Store, node: Cell) -> Option<Rest<'a>>
+    ensures rest { (w : Option (List ℕ)) (t : Tree) (k : ℕ) → Is store.now t node →
+        MatchOption result (text w k t ≡ head t) (λ r. (xs : List ℕ)
+        × IsRest w k store.now r xs × (text w k t ≡ head t ++ xs)) }
+    ensures less { (f : ℕ) → IfSome result
+        (λ r. suc (rest_cost store.now f r) ≡ cost store.now (suc f) node) }
+{
+    match node {
+        Cell::Array(span) => Some(Rest::Items {
+            rest: part(&store.items, span),
+            first: true,
+        }),
+        Cell::Object(span) => Some(Rest::Members {
+            rest: part(&store.members, span),
+            first: true,
+        }),
+        _ => None,
+    }
+}
+
+/// The whole text of a container that is empty.
+#[inline(always)]
+fn empty_text(node: Cell) -> Option<&'static [u8]>
+    ensures { (s : Nodes) (w : Option (List ℕ)) (k : ℕ) (t : Tree) → Is s t node →
+        IfSome result (λ brackets. encode_utf8_all (text w k t) ≡ brackets.now) }
+{
+    match node {
+        Cell::Array(span) if span.from == span.to => Some(b"[]"),
+        Cell::Object(span) if span.from == span.to => Some(b"{}"),
+        _ => None,
+    }
+}
+
+/// Writes a value that holds no others, or an opening bracket.
+fn write_head<W: Write>(
+    out: &mut W,
+    buffer: &mut Buffer,
+    store: &Store,
+    node: Cell,
+) -> io::Result<()>
+    ensures { (t : Tree) → Is store.now t node
+        → SendsText W.contents out.old out.new buffer.old buffer.new (head t) result }
+{
+    match node {
+        Cell::Null => write_bytes(out, buffer, b"null"),
+        Cell::Boolean(true) => write_bytes(out, buffer, b"true"),
+        Cell::Boolean(false) => write_bytes(out, buffer, b"false"),
+        Cell::Number(index) => match store.numbers.get(index) {
+            Some(number) => write_decimal(out, buffer, number),
+            None => Err(io::Error::from(ErrorKind::InvalidData)),
+        },
+        Cell::String(span) => write_text(out, buffer, part(&store.texts, span)),
+        Cell::Array(_) => write_bytes(out, buffer, b"["),
+        Cell::Object(_) => write_bytes(out, buffer, b"{"),
+    }
+}
+
+fn write_decimal<W: Write>(out: &mut W, buffer: &mut Buffer, number: &JsonNumber) -> io::Result<()>
+    ensures { SendsText W.contents out.old out.new buffer.old buffer.new
+        (decimal_text number.now.decimal) result }
+{
+    if quick_number(buffer, number) {
+        return Ok(());
+    }
+    write_number(out, buffer, number)
+}
+
+/// Writes characters between quotes.
+fn write_text<W: Write>(out: &mut W, buffer: &mut Buffer, bytes: &[u8]) -> io::Result<()>
+    ensures { (cs : List ℕ) → IsBytes cs bytes.now
+        → SendsText W.contents out.old out.new buffer.old buffer.new (quoted cs) result }
+{
+    if quick_text(buffer, bytes) {
+        return Ok(());
+    }
+    match str::from_utf8(bytes) {
+        Ok(text) => quote(out, buffer, text),
+        Err(_) => Err(io::Error::from(ErrorKind::InvalidData)),
+    }
+}
+
+/// Writes the key of a member, and what stands between it and the value.
+fn write_key<W: Write>(
+    out: &mut W,
+    buffer: &mut Buffer,
+    indent: Option<&str>,
+    key: &[u8],
+) -> io::Result<()>
+    ensures { (cs : List ℕ) → IsBytes cs key.now
+        → SendsText W.contents out.old out.new buffer.old buffer.new
+        (quoted cs ++ (name_separator ∷ after_colon (indent_of indent.entry))) result }
+{
+    write_text(out, buffer, key)?;
+    write_colon(out, buffer, indent)
+}
+
+/// Writes the closing bracket of a container at the level, in indented text on a line of its own unless the
+/// container is empty.
+fn close<W: Write>(
+    out: &mut W,
+    buffer: &mut Buffer,
+    indent: Option<&str>,
+    level: usize,
+    is_empty: bool,
+    bracket: &[u8],
+) -> io::Result<()>
+    ensures { Sends W.contents out.old out.new buffer.old buffer.new
+        (encode_utf8_all (cond is_empty [] (newline (indent_of indent.entry) level))
+        ++ bracket.now) result }
+{
+    if !is_empty {
+        write_newline(out, buffer, indent, level)?;
+    }
+    write_bytes(out, buffer, bracket)
+}

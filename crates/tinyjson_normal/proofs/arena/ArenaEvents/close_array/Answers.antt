@@ -1,8 +1,0 @@
-use Rattle.std.proofs.Common.{refl}
-use Rattle.tinyjson_normal.proofs.Waiting.{closes_array}
-use Rattle.tinyjson_normal.proofs.arena.ArenaEvents.close_array.Goals as goal
-
-pub returns : goal.returns
-returns c = λ ts fs h.
-    closes_array c.args.self.now _ ts fs c.in_ok-span.span c.in-Some.place _ _ _ h c.in-Some.ensures.items refl
-    c.in_ok-span.ensures.rest c.in_ok-span.ensures.grows c.in_ok-span.ensures.items refl refl c.in_ok-push.ensures.items

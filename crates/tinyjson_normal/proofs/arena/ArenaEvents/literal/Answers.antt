@@ -1,6 +1,0 @@
-use Rattle.std.proofs.Common.{refl}
-use Rattle.tinyjson_normal.proofs.Waiting.{puts_kept}
-use Rattle.tinyjson_normal.proofs.arena.ArenaEvents.literal.Goals as goal
-
-pub returns : goal.returns
-returns c = λ os h. puts_kept c.args.self.now _ os _ _ h refl (c.literal_node.ensures _) refl refl c.in_ok-push.ensures.items

@@ -1,7 +1,0 @@
-use Rattle.std.proofs.Common.{refl}
-use Rattle.tinyjson_normal.proofs.Waiting.{puts}
-use Rattle.tinyjson_normal.proofs.arena.ArenaEvents.number.Goals as goal
-
-pub returns : goal.returns
-returns c = λ fs h. puts c.args.self.now _ fs _ _ h c.in_ok-index.ensures.grows
-    (c.in_ok-index.index, refl, c.in_ok-index.ensures.number) refl refl c.in_ok-push.ensures.items
