@@ -16,5 +16,10 @@ pub mod Appending
 pub mod Writing
 -- Values that hold no others.
 pub mod Passing
+-- What is known of a place in a document.
+pub mod Had
+pub mod Places
+-- The member with a key, by bisection.
+pub mod Finding
 -- For proofs of callers.
 pub mod Callers

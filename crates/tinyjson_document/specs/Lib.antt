@@ -1,5 +1,9 @@
--- Which tree a cell stands for.
+-- What public contracts say of documents, and the parts of a tree.
+pub mod Document
+pub mod Parts
+-- Which tree a cell stands for, and that there is one at the most.
 pub mod Cell
+pub mod Known
 -- For which open containers an arena stands.
 pub mod Holding
 -- The order of members.

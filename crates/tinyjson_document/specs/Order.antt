@@ -1,5 +1,5 @@
 -- Members in the order of their keys, of equal keys the last. For private contracts.
-use Rattle.std.specs.Prelude.{⊤, ℕ, Bool, true, false, ◌&&◌, cond, min, List, [], ◌∷◌, length}
+use Rattle.std.specs.Prelude.{⊤, ℕ, Bool, true, false, ◌&&◌, cond, min, Option, Some, None, List, [], ◌∷◌, length}
 use Rattle.std.specs.List.{slice_range}
 use Rattle.std.specs.List.Sorted.{IsPermutation, IsSortedBy, IsStableBy}
 use Rattle.std.specs.Str.{bytes_eq}
@@ -49,6 +49,11 @@ is_below_next xs m (n ∷ ns) = key_lt xs m n
 abbrev pub rise : List ℕ → List Member → Bool
 rise xs [] = true
 rise xs (m ∷ ms) = is_below_next xs m ms && rise xs ms
+
+-- the first of the members with a key of these bytes
+abbrev pub member_with : List ℕ → List ℕ → List Member → Option Member
+member_with xs bs [] = None
+member_with xs bs (m ∷ ms) = cond (bytes_eq bs (key_in xs m)) (Some m) (member_with xs bs ms)
 
 -- the members in the order of their keys, those of equal keys in their own
 pub record IsOrdered (xs : List ℕ) (ms ns : List Member) : Type 0 where

@@ -34,7 +34,7 @@ pub struct Arena {
     /// The members of the object that is being closed.
     sorted: Vec<Member>,
     /// The most containers that were open at once.
-    deepest: usize,
+    pub(crate) deepest: usize,
 }
 
 impl Arena {

@@ -6,8 +6,15 @@
 pub mod append;
 #[doc(hidden)]
 pub mod arena;
+pub mod document;
+pub mod iterators;
+pub mod node;
 #[doc(hidden)]
 pub mod sorting;
 #[doc(hidden)]
 pub mod store;
 mod walk;
+
+pub use document::Document;
+pub use iterators::{Items, Members};
+pub use node::Node;

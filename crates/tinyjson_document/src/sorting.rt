@@ -1,7 +1,8 @@
 //! The members of an object in the order of their keys.
-ghost use Rattle.std.specs.Prelude.{◌≡◌, ◌++◌, ◌∷◌, [], cond, OnOk};
+ghost use Rattle.std.specs.Prelude.{◌≡◌, ◌++◌, ◌∷◌, [], cond, option_map, true, OnOk};
 ghost use Rattle.std.specs.List.Sorted.{IsPermutation, IsSortedBy, IsStableBy};
 ghost use Rattle.tinyjson_document.specs.Order.{comes_again, is_below_next, key_lt, lasts, paired, rise};
+ghost use Rattle.tinyjson_document.specs.Order.{member_with};
 
 use crate::store::{Cell, Member, Span, part};
 use std::alloc::AllocError;
@@ -99,5 +100,17 @@ fn comes_again(texts: &[u8], member: Member, others: &[Member]) -> bool
     match others.first() {
         Some(next) => part(texts, member.key) == part(texts, next.key),
         None => false,
+    }
+}
+
+/// The member with the key, where the keys rise.
+pub fn find<'a>(texts: &[u8], members: &'a [Member], key: &[u8]) -> Option<&'a Member>
+    ensures { rise texts.now members.now ≡ true →
+        option_map (λ m. m.now) result ≡ member_with texts.now key.now members.now }
+{
+    let found = members.binary_search_by(|member| part(texts, member.key).cmp(key));
+    match found {
+        Ok(index) => Some(&members[index]),
+        Err(_) => None,
     }
 }

@@ -1,14 +1,14 @@
 //! Nodes, and what they stand on: vectors that only grow.
-ghost use Rattle.std.specs.Prelude.{◌≡◌, [], List, IfOk, OnOk, drop, take};
+ghost use Rattle.std.specs.Prelude.{◌≡◌, ℕ, [], List, IfOk, OnOk, Some, drop, option_map, take};
 ghost use Rattle.std.specs.Str.{chars};
-ghost use Rattle.tinyjson_document.specs.Cell.{IsRun, IsText, IsNumberAt, Grows};
+ghost use Rattle.tinyjson_document.specs.Cell.{IsBytes, IsRun, IsText, IsNumberAt, Grows};
 ghost use Rattle.tinyjson_document.specs.declared.store.Member.{Member};
 ghost use Rattle.tinyjson_document.specs.Order.{IsOrdered, lasts, part};
 
 use crate::append::append;
 use crate::sorting::{push_lasts, rise, sort};
 use std::alloc::{AllocError, Global};
-use std::mem;
+use std::{mem, str};
 use tinyjson_number::JsonNumber;
 
 /// The places of a vector from `from` up to `to`.
@@ -25,6 +25,17 @@ pub fn part<T>(all: &[T], span: Span) -> &[T]
     let to = span.to.min(all.len());
     let from = span.from.min(to);
     &all[from..to]
+}
+
+/// The characters that stand there, if it is UTF-8.
+pub fn text_at(texts: &[u8], span: Span) -> Option<&str>
+    ensures { (cs : List ℕ) → IsBytes cs (part texts.now span) →
+        option_map (λ s. chars s.now) result ≡ Some cs }
+{
+    match str::from_utf8(part(texts, span)) {
+        Ok(text) => Some(text),
+        Err(_) => None,
+    }
 }
 
 /// A value. Its text, its number, its items or its members stand in the store.

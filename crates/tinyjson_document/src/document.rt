@@ -1,0 +1,100 @@
+//! The document: a text that was read.
+ghost use Rattle.tinyjson_document.specs.Known.{Known, Known_prop};
+
+use crate::arena::Arena;
+use crate::node::Node;
+use crate::store::{Cell, Store};
+use std::alloc::Global;
+use tinyjson::{JsonParseError, read_events, read_events_with_depth_limit};
+
+/// A JSON text that was read once, kept to be looked into: its values stand in vectors, the members of an object
+/// in the order of their keys.
+///
+/// ```
+/// let document = Document::read(alloc, r#"{"name": "n", "tags": ["a", "b"]}"#)?;
+/// let tags = document.root().member("tags").expect(&rt, "tags");
+/// assert_eq!(rt; tags.len(), 2);
+/// ```
+#[derive(Drop)]
+pub struct Document {
+    pub(crate) store: Store,
+    root: Cell,
+    /// The most containers that are nested.
+    pub(crate) deepest: usize,
+    ghost known: { Known store root } by { Known_prop store root },
+}
+
+impl Document {
+    ghost use Rattle.std.specs.Prelude.{◌≡◌, None, Some};
+    ghost use Rattle.std.specs.Str.{chars};
+    ghost use Rattle.tinyjson.specs.Events.{TellsText};
+    ghost use Rattle.tinyjson_grammar.specs.Soundness as sound;
+    ghost use Rattle.tinyjson_grammar.specs.Tree.{Tree};
+    ghost use Rattle.tinyjson_document.specs.Document.{document_tree, HasTree, tree};
+    ghost use Rattle.tinyjson_document.specs.Holding.{IsTree};
+
+    /// Reads a text, as `JsonValue::from_str` does: a tree exactly where that gives a value, and else its error,
+    /// unless memory runs out.
+    ///
+    /// ```
+    /// let result = Document::read(alloc, "01");
+    /// assert!(rt; result.is_err_and(|error| error.kind() == JsonParseErrorKind::LeadingZero));
+    /// ```
+    pub fn read(alloc: Global, text: &str) -> Result<Document, JsonParseError>
+        ensures { TellsText HasTree None (chars text.now) result }
+    {
+        match read_events(alloc, text, Arena::new(alloc)) {
+            Ok(arena) => Ok(Document::of_arena(arena)),
+            Err((error, _)) => Err(error),
+        }
+    }
+
+    /// Reads a text in which at most `limit` containers are open at once, as
+    /// `JsonValue::from_str_with_depth_limit` does.
+    ///
+    /// ```
+    /// assert!(rt; Document::read_with_depth_limit(alloc, "[[1]]", 2).is_ok());
+    /// let result = Document::read_with_depth_limit(alloc, "[[1]]", 1);
+    /// assert!(rt; result.is_err_and(|error| error.kind() == JsonParseErrorKind::TooDeep('[')));
+    /// ```
+    pub fn read_with_depth_limit(
+        alloc: Global,
+        text: &str,
+        limit: usize,
+    ) -> Result<Document, JsonParseError>
+        ensures { TellsText HasTree (Some limit) (chars text.now) result }
+    {
+        match read_events_with_depth_limit(alloc, text, limit, Arena::new(alloc)) {
+            Ok(arena) => Ok(Document::of_arena(arena)),
+            Err((error, _)) => Err(error),
+        }
+    }
+
+    /// The value of the text.
+    ///
+    /// ```
+    /// let document = Document::read(alloc, "[1]")?;
+    /// assert!(rt; document.root().is_array());
+    /// ```
+    pub fn root(&self) -> Node<'_>
+        ensures { tree result ≡ document_tree self.now }
+    {
+        Node {
+            document: self,
+            cell: self.root,
+        }
+    }
+
+    /// What was read into an arena.
+    fn of_arena(arena: Arena) -> Document
+        requires { (t : Tree) × IsTree arena t × sound.IsTree t }
+        ensures { (t : Tree) → IsTree arena t → HasTree result t }
+    {
+        let root = arena.values[0];
+        Document {
+            store: arena.store,
+            root,
+            deepest: arena.deepest,
+        }
+    }
+}

@@ -1,0 +1,196 @@
+//! A value in a document.
+ghost use Rattle.tinyjson_document.specs.Known.{Known, Known_prop};
+
+use crate::document::Document;
+use crate::iterators::{Items, Members};
+use crate::sorting::find;
+use crate::store::{Cell, Span, part, text_at};
+use tinyjson::{JsonKind, JsonNumber};
+
+/// A value in a document: a place, which is copied as it is.
+///
+/// Contracts see it as its `tree`, the part of the document's tree that it stands for.
+///
+/// ```
+/// let document = Document::read(alloc, r#"{"b": [1.50], "a": null}"#)?;
+/// let root = document.root();
+/// assert!(rt; root.is_object());
+/// assert!(rt; root.member("a").is_some_and(|node| node.is_null()));
+/// ```
+#[derive(Clone, Copy)]
+pub struct Node<'d> {
+    pub(crate) document: &'d Document,
+    pub(crate) cell: Cell,
+    ghost known: { Known document.now.store cell } by { Known_prop document.now.store cell },
+}
+
+impl<'d> Node<'d> {
+    ghost use Rattle.std.specs.Prelude.{◌≡◌, option_map};
+    ghost use Rattle.std.specs.Str.{chars};
+    ghost use Rattle.tinyjson.specs.Access.{is_array, is_boolean, is_null, is_number, is_object};
+    ghost use Rattle.tinyjson.specs.Access.{is_string};
+    ghost use Rattle.tinyjson.specs.Index.{tree_at, tree_at_key};
+    ghost use Rattle.tinyjson_grammar.specs.Kind.{kind_of};
+    ghost use Rattle.tinyjson_document.specs.Document.{tree, items_left, members_left};
+    ghost use Rattle.tinyjson_document.specs.Parts.{boolean_in, number_in, string_in, size};
+    ghost use Rattle.tinyjson_document.specs.Parts.{items_in, members_in};
+
+    /// Which kind of value it is.
+    ///
+    /// ```
+    /// assert!(rt; document.root().kind() == JsonKind::Object);
+    /// ```
+    pub fn kind(&self) -> JsonKind
+        ensures { result ≡ kind_of (tree self.now) }
+    {
+        match self.cell {
+            Cell::Null => JsonKind::Null,
+            Cell::Boolean(_) => JsonKind::Boolean,
+            Cell::Number(_) => JsonKind::Number,
+            Cell::String(_) => JsonKind::String,
+            Cell::Array(_) => JsonKind::Array,
+            Cell::Object(_) => JsonKind::Object,
+        }
+    }
+
+    /// Whether it is null.
+    pub fn is_null(&self) -> bool
+        ensures { result ≡ is_null (tree self.now) }
+    {
+        matches!(self.cell, Cell::Null)
+    }
+
+    /// Whether it is a truth value.
+    pub fn is_bool(&self) -> bool
+        ensures { result ≡ is_boolean (tree self.now) }
+    {
+        matches!(self.cell, Cell::Boolean(_))
+    }
+
+    /// Whether it is a number.
+    pub fn is_number(&self) -> bool
+        ensures { result ≡ is_number (tree self.now) }
+    {
+        matches!(self.cell, Cell::Number(_))
+    }
+
+    /// Whether it is a string.
+    pub fn is_string(&self) -> bool
+        ensures { result ≡ is_string (tree self.now) }
+    {
+        matches!(self.cell, Cell::String(_))
+    }
+
+    /// Whether it is an array.
+    pub fn is_array(&self) -> bool
+        ensures { result ≡ is_array (tree self.now) }
+    {
+        matches!(self.cell, Cell::Array(_))
+    }
+
+    /// Whether it is an object.
+    pub fn is_object(&self) -> bool
+        ensures { result ≡ is_object (tree self.now) }
+    {
+        matches!(self.cell, Cell::Object(_))
+    }
+
+    /// Its truth value, or `None` where it is of another kind.
+    pub fn boolean(&self) -> Option<bool>
+        ensures { result ≡ boolean_in (tree self.now) }
+    {
+        match self.cell {
+            Cell::Boolean(boolean) => Some(boolean),
+            _ => None,
+        }
+    }
+
+    /// Its number, exact, or `None` where it is of another kind.
+    pub fn number(&self) -> Option<&'d JsonNumber>
+        ensures { option_map (λ n. n.now.decimal) result ≡ number_in (tree self.now) }
+    {
+        match self.cell {
+            Cell::Number(index) => self.document.store.numbers.get(index),
+            _ => None,
+        }
+    }
+
+    /// Its characters, or `None` where it is no string.
+    pub fn string(&self) -> Option<&'d str>
+        ensures { option_map (λ s. chars s.now) result ≡ string_in (tree self.now) }
+    {
+        match self.cell {
+            Cell::String(span) => text_at(&self.document.store.texts, span),
+            _ => None,
+        }
+    }
+
+    /// How many items or members it has: of a scalar none.
+    pub fn len(&self) -> usize
+        ensures { result ≡ size (tree self.now) }
+    {
+        match self.cell {
+            Cell::Array(span) => part(&self.document.store.items, span).len(),
+            Cell::Object(span) => part(&self.document.store.members, span).len(),
+            _ => 0,
+        }
+    }
+
+    /// The item at the index, from 0 on, or `None` where there is none or it is no array.
+    pub fn item(&self, index: usize) -> Option<Node<'d>>
+        ensures { option_map tree result ≡ tree_at (tree self.now) index }
+    {
+        let Cell::Array(span) = self.cell else {
+            return None;
+        };
+        let cell = part(&self.document.store.items, span).get(index)?;
+        Some(Node {
+            document: self.document,
+            cell: *cell,
+        })
+    }
+
+    /// The member at the key, of equal keys the last one of the text, or `None` where there is none or it is no
+    /// object. It is found by bisection.
+    pub fn member(&self, key: &str) -> Option<Node<'d>>
+        ensures { option_map tree result ≡ tree_at_key (tree self.now) (chars key.now) }
+    {
+        let Cell::Object(span) = self.cell else {
+            return None;
+        };
+        let store = &self.document.store;
+        let member = find(&store.texts, part(&store.members, span), key.as_bytes())?;
+        Some(Node {
+            document: self.document,
+            cell: member.value,
+        })
+    }
+
+    /// Its items, in their order: of what is no array none.
+    pub fn items(&self) -> Items<'d>
+        ensures { items_left result ≡ items_in (tree self.now) }
+    {
+        let span = match self.cell {
+            Cell::Array(span) => span,
+            _ => Span { from: 0, to: 0 },
+        };
+        Items {
+            document: self.document,
+            rest: part(&self.document.store.items, span),
+        }
+    }
+
+    /// Its members with their keys, in the order of the keys' bytes: of what is no object none.
+    pub fn members(&self) -> Members<'d>
+        ensures { members_left result ≡ members_in (tree self.now) }
+    {
+        let span = match self.cell {
+            Cell::Object(span) => span,
+            _ => Span { from: 0, to: 0 },
+        };
+        Members {
+            document: self.document,
+            rest: part(&self.document.store.members, span),
+        }
+    }
+}
