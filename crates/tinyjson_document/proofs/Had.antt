@@ -23,7 +23,7 @@ use Rattle.tinyjson_document.specs.declared.store.Store.{Store}
 use Rattle.tinyjson_document.specs.Cell.{IsRun, IsText, IsNumberAt, Is, Are, AreMembers}
 use Rattle.tinyjson_document.specs.Known.{Known, kind_in, kind_is, run_one, text_one, number_one, Decimal_set}
 
-Codes_set : IsSet (List ℕ)
+pub Codes_set : IsSet (List ℕ)
 Codes_set = is_set (hedberg ℕ_discrete)
 
 head_same : {A : Type 0} (x y : A) (xs ys : List A) → x ∷ xs ≡ y ∷ ys → x ≡ y

@@ -11,11 +11,10 @@ ghost use Rattle.tinyjson_document.specs.declared.store.Store.{Store as Nodes};
 
 use crate::sorting::pair;
 use crate::store::{Cell, Member, Span, Store};
-use crate::walk::Walk;
+use crate::walk::Root;
 use std::alloc::{AllocError, Global};
 use std::io::{self, ErrorKind, Write};
 use tinyjson::{Events, JsonNumber};
-use tinyjson_output::{flush, write_bytes};
 
 /// Where the keys and the values of an open container begin among those that wait.
 #[derive(Clone, Copy)]
@@ -52,8 +51,7 @@ impl Arena {
         }
     }
 
-    /// Writes the text of the tree, compact or indented by a text, in UTF-8, and the bytes behind it, by way of a
-    /// buffer that is written out at the end.
+    /// Writes the text of the tree, compact or indented by a text, in UTF-8, and the bytes behind it.
     pub fn write_to<'a, W: Write>(
         &'a self,
         alloc: Global,
@@ -68,11 +66,12 @@ impl Arena {
         let Some(root) = self.values.first() else {
             return Err(io::Error::from(ErrorKind::InvalidData));
         };
-        let mut walk = Walk::new(alloc, &self.store, indent, self.deepest);
-        walk.begin(out, *root)?;
-        walk.finish(out)?;
-        write_bytes(out, &mut walk.buffer, behind)?;
-        flush(out, &mut walk.buffer)
+        let root = Root {
+            store: &self.store,
+            cell: *root,
+            most: self.deepest,
+        };
+        root.write_to(alloc, indent, behind, out)
     }
 }
 

@@ -13,6 +13,7 @@ pub mod node;
 pub mod sorting;
 #[doc(hidden)]
 pub mod store;
+mod text;
 mod walk;
 
 pub use document::Document;

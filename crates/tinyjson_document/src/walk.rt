@@ -13,14 +13,15 @@ ghost use Rattle.tinyjson_document.specs.declared.store.Store.{Store as Nodes};
 ghost use Rattle.tinyjson_document.specs.Walking.{head, holds_others, IsRest, AreLeft, Advances, Passes, cost};
 ghost use Rattle.tinyjson_document.specs.Walking.{rest_cost, left_cost};
 ghost use Rattle.tinyjson_output.specs.Buffer.{buffered, Sends, SendsText};
+ghost use Rattle.tinyjson_output.specs.Written.{WritesPrefix};
 
 use crate::store::{Cell, Member, Store, part};
 use std::alloc::{AllocError, Global};
 use std::io::{self, ErrorKind, Write};
 use tinyjson_number::JsonNumber;
 use tinyjson_output::{
-    Buffer, quick_number, quick_text, quote, separate, write_bytes, write_colon, write_newline,
-    write_number,
+    Buffer, flush, quick_number, quick_text, quote, separate, write_bytes, write_colon,
+    write_newline, write_number,
 };
 
 /// What an open container has still to write before its closing bracket. `first` says that nothing of it is
@@ -39,6 +40,36 @@ pub(crate) struct Walk<'a> {
     pub(crate) most: usize,
     pub(crate) buffer: Buffer,
     pub(crate) stack: Vec<Rest<'a>>,
+}
+
+/// A value in a store, in which no more than so many containers are nested.
+#[derive(Clone, Copy)]
+pub(crate) struct Root<'a> {
+    pub(crate) store: &'a Store,
+    pub(crate) cell: Cell,
+    pub(crate) most: usize,
+}
+
+impl<'a> Root<'a> {
+    /// Writes the text of the tree, compact or indented by a text, in UTF-8, and the bytes behind it, by way of a
+    /// buffer that is written out at the end.
+    pub(crate) fn write_to<W: Write>(
+        &self,
+        alloc: Global,
+        indent: Option<&'a str>,
+        behind: &[u8],
+        out: &mut W,
+    ) -> io::Result<()>
+        ensures { (t : Tree) → Is self.now.store.now t self.now.cell →
+            WritesPrefix (W.contents out.old) (W.contents out.new)
+            (encode_utf8_all (text (indent_of indent.entry) 0 t) ++ behind.now) result }
+    {
+        let mut walk = Walk::new(alloc, self.store, indent, self.most);
+        walk.begin(out, self.cell)?;
+        walk.finish(out)?;
+        write_bytes(out, &mut walk.buffer, behind)?;
+        flush(out, &mut walk.buffer)
+    }
 }
 
 impl<'a> Walk<'a> {

@@ -1,0 +1,84 @@
+//! The text of a value in a document.
+use crate::node::Node;
+use crate::walk::Root;
+use std::alloc::Global;
+use std::io::{self, Write};
+use tinyjson::{JsonGenerateError, JsonGenerateResult};
+
+/// The indent of [`Node::format`].
+const INDENT: &str = "  ";
+
+impl<'d> Node<'d> {
+    ghost use Rattle.std.specs.Prelude.{◌≡◌, codes, IfOk, IfSome, IsTrue, string_bytes};
+    ghost use Rattle.std.specs.Str.{all_scalars, chars};
+    ghost use Rattle.tinyjson.specs.Indent.{indent_of};
+    ghost use Rattle.tinyjson.specs.Text.{compact, indented, text};
+    ghost use Rattle.tinyjson.specs.Written.{WritesText};
+    ghost use Rattle.tinyjson_document.specs.Document.{tree};
+
+    /// Writes its compact text, in UTF-8, and flushes nothing: the bytes that `JsonValue::write_to` of the value
+    /// writes.
+    ///
+    /// It ends with the first error: the writer's own, an interruption too; one of kind `WriteZero` where the
+    /// writer takes nothing; or one of kind `OutOfMemory` where there is no memory for the open containers. Then
+    /// a prefix of the text is written.
+    pub fn write_to<W: Write>(&self, alloc: Global, out: &mut W) -> io::Result<()>
+        ensures { WritesText (W.contents out.old) (W.contents out.new)
+            (compact (tree self.now)) result }
+    {
+        self.write(alloc, None, out)
+    }
+
+    /// Writes its text indented with two spaces, in UTF-8, and flushes nothing: the bytes that
+    /// `JsonValue::format_to` of the value writes. The errors are those of [`Node::write_to`].
+    pub fn format_to<W: Write>(&self, alloc: Global, out: &mut W) -> io::Result<()>
+        ensures { WritesText (W.contents out.old) (W.contents out.new)
+            (indented (tree self.now) (codes "  ") 0) result }
+    {
+        self.write(alloc, Some(INDENT), out)
+    }
+
+    /// Its compact text: what `stringify` of the value returns.
+    pub fn to_string(&self, alloc: Global) -> JsonGenerateResult
+        ensures { IfOk result (λ s. chars (string_bytes s) ≡ compact (tree self.now)) }
+    {
+        self.written(alloc, None)
+    }
+
+    /// Its text indented with two spaces: what `format` of the value returns.
+    pub fn format(&self, alloc: Global) -> JsonGenerateResult
+        ensures { IfOk result (λ s. chars (string_bytes s)
+            ≡ indented (tree self.now) (codes "  ") 0) }
+    {
+        self.written(alloc, Some(INDENT))
+    }
+
+    /// Writes its text, compact or indented by a text.
+    fn write<W: Write>(&self, alloc: Global, indent: Option<&str>, out: &mut W) -> io::Result<()>
+        ensures { WritesText (W.contents out.old) (W.contents out.new)
+            (text (indent_of indent.entry) 0 (tree self.now)) result }
+    {
+        let root = Root {
+            store: &self.document.store,
+            cell: self.cell,
+            most: self.document.deepest,
+        };
+        root.write_to(alloc, indent, b"", out)
+    }
+
+    /// Its text, compact or indented by a text.
+    fn written(&self, alloc: Global, indent: Option<&str>) -> JsonGenerateResult
+        requires { IfSome (indent_of indent) (λ i. IsTrue (all_scalars i)) }
+        ensures { IfOk result (λ s.
+            chars (string_bytes s) ≡ text (indent_of indent.entry) 0 (tree self.now)) }
+    {
+        let mut bytes = Vec::new(alloc);
+        let Ok(()) = self.write(alloc, indent, &mut bytes) else {
+            return Err(JsonGenerateError);
+        };
+        match String::from_utf8(bytes) {
+            Ok(text) => Ok(text),
+            Err(_) => Err(JsonGenerateError),
+        }
+    }
+}
