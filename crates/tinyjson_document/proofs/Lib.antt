@@ -21,5 +21,7 @@ pub mod Had
 pub mod Places
 -- The member with a key, by bisection.
 pub mod Finding
+-- What a value is seen as.
+pub mod Values
 -- For proofs of callers.
 pub mod Callers

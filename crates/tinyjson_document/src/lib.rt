@@ -14,8 +14,10 @@ pub mod sorting;
 #[doc(hidden)]
 pub mod store;
 mod text;
+pub mod view;
 mod walk;
 
 pub use document::Document;
 pub use iterators::{Items, Members};
 pub use node::Node;
+pub use view::JsonView;

@@ -9,11 +9,13 @@ use tinyjson::{JsonGenerateError, JsonGenerateResult};
 const INDENT: &str = "  ";
 
 impl<'d> Node<'d> {
-    ghost use Rattle.std.specs.Prelude.{◌≡◌, codes, IfOk, IfSome, IsTrue, string_bytes};
+    ghost use Rattle.std.specs.Prelude.{◌≡◌, ◌++◌, ◌∷◌, [], codes, encode_utf8_all, IfOk, IfSome};
+    ghost use Rattle.std.specs.Prelude.{IsTrue, string_bytes};
     ghost use Rattle.std.specs.Str.{all_scalars, chars};
     ghost use Rattle.tinyjson.specs.Indent.{indent_of};
     ghost use Rattle.tinyjson.specs.Text.{compact, indented, text};
-    ghost use Rattle.tinyjson.specs.Written.{WritesText};
+    ghost use Rattle.tinyjson.specs.Characters.{line_feed};
+    ghost use Rattle.tinyjson.specs.Written.{WritesPrefix, WritesText};
     ghost use Rattle.tinyjson_document.specs.Document.{tree};
 
     /// Writes its compact text, in UTF-8, and flushes nothing: the bytes that `JsonValue::write_to` of the value
@@ -26,7 +28,7 @@ impl<'d> Node<'d> {
         ensures { WritesText (W.contents out.old) (W.contents out.new)
             (compact (tree self.now)) result }
     {
-        self.write(alloc, None, out)
+        self.write(alloc, None, b"", out)
     }
 
     /// Writes its text indented with two spaces, in UTF-8, and flushes nothing: the bytes that
@@ -35,7 +37,24 @@ impl<'d> Node<'d> {
         ensures { WritesText (W.contents out.old) (W.contents out.new)
             (indented (tree self.now) (codes "  ") 0) result }
     {
-        self.write(alloc, Some(INDENT), out)
+        self.write(alloc, Some(INDENT), b"", out)
+    }
+
+    /// Writes what [`Node::write_to`] writes and a line feed.
+    pub fn write_line_to<W: Write>(&self, alloc: Global, out: &mut W) -> io::Result<()>
+        ensures { WritesPrefix (W.contents out.old) (W.contents out.new)
+            (encode_utf8_all (compact (tree self.now)) ++ line_feed ∷ []) result }
+    {
+        self.write(alloc, None, b"\n", out)
+    }
+
+    /// Writes what [`Node::format_to`] writes and a line feed.
+    pub fn format_line_to<W: Write>(&self, alloc: Global, out: &mut W) -> io::Result<()>
+        ensures { WritesPrefix (W.contents out.old) (W.contents out.new)
+            (encode_utf8_all (indented (tree self.now) (codes "  ") 0) ++ line_feed ∷ [])
+            result }
+    {
+        self.write(alloc, Some(INDENT), b"\n", out)
     }
 
     /// Its compact text: what `stringify` of the value returns.
@@ -53,17 +72,24 @@ impl<'d> Node<'d> {
         self.written(alloc, Some(INDENT))
     }
 
-    /// Writes its text, compact or indented by a text.
-    fn write<W: Write>(&self, alloc: Global, indent: Option<&str>, out: &mut W) -> io::Result<()>
-        ensures { WritesText (W.contents out.old) (W.contents out.new)
-            (text (indent_of indent.entry) 0 (tree self.now)) result }
+    /// Writes its text, compact or indented by a text, and the bytes behind it.
+    fn write<W: Write>(
+        &self,
+        alloc: Global,
+        indent: Option<&str>,
+        behind: &[u8],
+        out: &mut W,
+    ) -> io::Result<()>
+        ensures { WritesPrefix (W.contents out.old) (W.contents out.new)
+            (encode_utf8_all (text (indent_of indent.entry) 0 (tree self.now)) ++ behind.now)
+            result }
     {
         let root = Root {
             store: &self.document.store,
             cell: self.cell,
             most: self.document.deepest,
         };
-        root.write_to(alloc, indent, b"", out)
+        root.write_to(alloc, indent, behind, out)
     }
 
     /// Its text, compact or indented by a text.
@@ -73,7 +99,7 @@ impl<'d> Node<'d> {
             chars (string_bytes s) ≡ text (indent_of indent.entry) 0 (tree self.now)) }
     {
         let mut bytes = Vec::new(alloc);
-        let Ok(()) = self.write(alloc, indent, &mut bytes) else {
+        let Ok(()) = self.write(alloc, indent, b"", &mut bytes) else {
             return Err(JsonGenerateError);
         };
         match String::from_utf8(bytes) {

@@ -1,4 +1,3 @@
-use Rattle.std.proofs.Common.{append-nil}
 use Rattle.tinyjson_document.specs.Document.{tree}
 use Rattle.tinyjson_document.proofs.Places.{known_had}
 use Rattle.tinyjson_document.proofs.node.Node.write.Goals as goal
@@ -6,4 +5,4 @@ use Rattle.tinyjson_document.proofs.node.Node.write.Goals as goal
 pub returns : goal.returns
 returns g c =
     let n = c.args.self.now in
-    rw append-nil at (c.write_to.ensures (tree n) (known_had n.document.now.store n.cell n.known))
+    c.write_to.ensures (tree n) (known_had n.document.now.store n.cell n.known)
