@@ -1,9 +1,9 @@
 //! The text of a value in a document.
 use crate::node::Node;
 use crate::walk::Root;
-use std::alloc::Global;
+use std::alloc::{AllocError, Global};
 use std::io::{self, Write};
-use tinyjson::{JsonGenerateError, JsonGenerateResult};
+use tinyjson::{JsonGenerateError, JsonGenerateResult, JsonValue};
 
 /// The indent of [`Node::format`].
 const INDENT: &str = "  ";
@@ -16,6 +16,7 @@ impl<'d> Node<'d> {
     ghost use Rattle.tinyjson.specs.Text.{compact, indented, text};
     ghost use Rattle.tinyjson.specs.Characters.{line_feed};
     ghost use Rattle.tinyjson.specs.Written.{WritesPrefix, WritesText};
+    ghost use Rattle.tinyjson.specs.View.{view};
     ghost use Rattle.tinyjson_document.specs.Document.{tree};
 
     /// Writes its compact text, in UTF-8, and flushes nothing: the bytes that `JsonValue::write_to` of the value
@@ -70,6 +71,21 @@ impl<'d> Node<'d> {
             ≡ indented (tree self.now) (codes "  ") 0) }
     {
         self.written(alloc, Some(INDENT))
+    }
+
+    /// Its value, which is read from its compact text.
+    ///
+    /// The error says that memory ran out.
+    pub fn to_value(&self, alloc: Global) -> Result<JsonValue, AllocError>
+        ensures { IfOk result (λ v. view v ≡ tree self.now) }
+    {
+        let Ok(text) = self.to_string(alloc) else {
+            return Err(AllocError);
+        };
+        match JsonValue::from_str(alloc, text.as_str()) {
+            Ok(value) => Ok(value),
+            Err(_) => Err(AllocError),
+        }
     }
 
     /// Writes its text, compact or indented by a text, and the bytes behind it.
