@@ -50,138 +50,134 @@ pub fn find<'v>(
 {
     let mut finder = Finder {
         alloc,
+        root: value,
         patterns: Patterns::new(alloc),
     };
-    finder.find_from(query.segments.as_slice(), value, value)
+    finder.find_from(query.segments.as_slice(), value)
 }
 
 /// The state of an evaluation.
 #[derive(Drop)]
-struct Finder {
+struct Finder<'v> {
     alloc: Global,
+    /// What `$` names.
+    root: &'v JsonValue,
     patterns: Patterns,
 }
 
-impl Finder {
+impl<'v> Finder<'v> {
     /// What the segments select, one after the other, from a value on.
     #[cycle(selecting)]
-    fn find_from<'v>(
+    fn find_from(
         &mut self,
         segments: &[Segment],
-        root: &'v JsonValue,
         value: &'v JsonValue,
     ) -> Result<Vec<Node<'v>>, FindError>
+        ensures root { self.new.root ≡ self.old.root }
         ensures ok { IfOk result (λ v. parts_view v.items
-            ≡ found_by segments.now (view root.now) (view value.now)) }
-        ensures err { IfErr result (IsFromAny (segments_strings segments.now) (view root.now)
-            (strings_in (view value.now))) }
+            ≡ found_by segments.now (view self.old.root.now) (view value.now)) }
+        ensures err { IfErr result (IsFromAny (segments_strings segments.now)
+            (view self.old.root.now) (strings_in (view value.now))) }
     {
         let mut nodes = Vec::new(self.alloc);
         nodes.push(Node::root(self.alloc, value)?)?;
         for segment in segments {
-            nodes = self.apply(segment, root, nodes.as_slice())?;
+            nodes = self.apply(segment, nodes.as_slice())?;
         }
         Ok(nodes)
     }
 
     /// What the segment selects from each of the nodes.
     #[cycle(selecting)]
-    fn apply<'v>(
-        &mut self,
-        segment: &Segment,
-        root: &'v JsonValue,
-        nodes: &[Node<'v>],
-    ) -> Result<Vec<Node<'v>>, FindError>
+    fn apply(&mut self, segment: &Segment, nodes: &[Node<'v>]) -> Result<Vec<Node<'v>>, FindError>
+        ensures root { self.new.root ≡ self.old.root }
         ensures ok { IfOk result (λ v. parts_view v.items
-            ≡ from_each (segment_parts segment.now (view root.now)) (parts_view nodes.now)) }
-        ensures err { IfErr result (IsFromAny (segment_strings segment.now) (view root.now)
-            (strings_of (parts_view nodes.now))) }
+            ≡ from_each (segment_parts segment.now (view self.old.root.now))
+            (parts_view nodes.now)) }
+        ensures err { IfErr result (IsFromAny (segment_strings segment.now)
+            (view self.old.root.now) (strings_of (parts_view nodes.now))) }
     {
         let mut selected = Vec::new(self.alloc);
         for node in nodes {
-            self.select_from(segment, root, node, &mut selected)?;
+            self.select_from(segment, node, &mut selected)?;
         }
         Ok(selected)
     }
 
     #[cycle(selecting)]
-    fn select_from<'v>(
+    fn select_from(
         &mut self,
         segment: &Segment,
-        root: &'v JsonValue,
         node: &Node<'v>,
         selected: &mut Vec<Node<'v>>,
     ) -> Result<(), FindError>
+        ensures root { self.new.root ≡ self.old.root }
         ensures ok { OnOk result (parts_view selected.new.items ≡ parts_view selected.old.items
-            ++ segment_parts segment.now (view root.now) (part_view node.now)) }
-        ensures err { IfErr result (IsFromAny (segment_strings segment.now) (view root.now)
-            (strings_in (view node.now.value.now))) }
+            ++ segment_parts segment.now (view self.old.root.now) (part_view node.now)) }
+        ensures err { IfErr result (IsFromAny (segment_strings segment.now)
+            (view self.old.root.now) (strings_in (view node.now.value.now))) }
     {
         match segment {
-            Segment::Child(selectors) => {
-                self.select_each(selectors.as_slice(), root, node, selected)
-            }
-            Segment::Descendant(selectors) => {
-                self.descend(selectors.as_slice(), root, node, selected)
-            }
+            Segment::Child(selectors) => self.select_each(selectors.as_slice(), node, selected),
+            Segment::Descendant(selectors) => self.descend(selectors.as_slice(), node, selected),
         }
     }
 
     /// From the node and each of its descendants, which wait on a stack.
     #[cycle(selecting)]
-    fn descend<'v>(
+    fn descend(
         &mut self,
         selectors: &[Selector],
-        root: &'v JsonValue,
         node: &Node<'v>,
         selected: &mut Vec<Node<'v>>,
     ) -> Result<(), FindError>
+        ensures root { self.new.root ≡ self.old.root }
         ensures ok { OnOk result (parts_view selected.new.items ≡ parts_view selected.old.items
-            ++ from_each (selected_by selectors.now (view root.now))
+            ++ from_each (selected_by selectors.now (view self.old.root.now))
             (visited (path_of node.now) (view node.now.value.now))) }
-        ensures err { IfErr result (IsFromAny (selectors_strings selectors.now) (view root.now)
-            (strings_in (view node.now.value.now))) }
+        ensures err { IfErr result (IsFromAny (selectors_strings selectors.now)
+            (view self.old.root.now) (strings_in (view node.now.value.now))) }
     {
         let mut waiting = Vec::new(self.alloc);
         waiting.push(node.try_clone()?)?;
         while let Some(node) = waiting.pop() {
-            self.select_each(selectors, root, &node, selected)?;
+            self.select_each(selectors, &node, selected)?;
             push_reversed(children(self.alloc, &node)?, &mut waiting)?;
         }
         Ok(())
     }
 
     #[cycle(selecting)]
-    fn select_each<'v>(
+    fn select_each(
         &mut self,
         selectors: &[Selector],
-        root: &'v JsonValue,
         node: &Node<'v>,
         selected: &mut Vec<Node<'v>>,
     ) -> Result<(), FindError>
+        ensures root { self.new.root ≡ self.old.root }
         ensures ok { OnOk result (parts_view selected.new.items ≡ parts_view selected.old.items
-            ++ selected_by selectors.now (view root.now) (part_view node.now)) }
-        ensures err { IfErr result (IsFromAny (selectors_strings selectors.now) (view root.now)
-            (strings_in (view node.now.value.now))) }
+            ++ selected_by selectors.now (view self.old.root.now) (part_view node.now)) }
+        ensures err { IfErr result (IsFromAny (selectors_strings selectors.now)
+            (view self.old.root.now) (strings_in (view node.now.value.now))) }
     {
         for selector in selectors {
-            self.select(selector, root, node, selected)?;
+            self.select(selector, node, selected)?;
         }
         Ok(())
     }
 
     #[cycle(selecting)]
-    fn select<'v>(
+    fn select(
         &mut self,
         selector: &Selector,
-        root: &'v JsonValue,
         node: &Node<'v>,
         selected: &mut Vec<Node<'v>>,
     ) -> Result<(), FindError>
+        ensures root { self.new.root ≡ self.old.root }
         ensures ok { OnOk result (parts_view selected.new.items ≡ parts_view selected.old.items
-            ++ selector_parts selector.now (view root.now) (part_view node.now)) }
-        ensures err { IfErr result (IsFromAny (selector_strings selector.now) (view root.now)
-            (strings_in (view node.now.value.now))) }
+            ++ selector_parts selector.now (view self.old.root.now) (part_view node.now)) }
+        ensures err { IfErr result (IsFromAny (selector_strings selector.now)
+            (view self.old.root.now) (strings_in (view node.now.value.now))) }
     {
         match selector {
             Selector::Name(name) => push_named(self.alloc, node, name.as_str(), selected)?,
@@ -190,29 +186,29 @@ impl Finder {
             Selector::Slice { start, end, step } => {
                 push_slice(self.alloc, node, *start, *end, *step, selected)?
             }
-            Selector::Filter(expression) => { self.push_kept(expression, root, node, selected)? }
+            Selector::Filter(expression) => self.push_kept(expression, node, selected)?,
         }
         Ok(())
     }
 
     /// The children of which the expression holds (RFC 9535, 2.3.5).
     #[cycle(selecting)]
-    fn push_kept<'v>(
+    fn push_kept(
         &mut self,
         expression: &Expression,
-        root: &'v JsonValue,
         node: &Node<'v>,
         selected: &mut Vec<Node<'v>>,
     ) -> Result<(), FindError>
+        ensures root { self.new.root ≡ self.old.root }
         ensures ok { OnOk result (parts_view selected.new.items ≡ parts_view selected.old.items
-            ++ kept (holds_of expression.now (view root.now))
+            ++ kept (holds_of expression.now (view self.old.root.now))
             (children (path_of node.now) (view node.now.value.now))) }
-        ensures err { IfErr result (IsFromAny (expression_strings expression.now) (view root.now)
-            (strings_in (view node.now.value.now))) }
+        ensures err { IfErr result (IsFromAny (expression_strings expression.now)
+            (view self.old.root.now) (strings_in (view node.now.value.now))) }
     {
         let children = children(self.alloc, node)?;
         for child in children.as_slice() {
-            if self.holds(expression, root, child.value)? {
+            if self.holds(expression, child.value)? {
                 selected.push(child.try_clone()?)?;
             }
         }
@@ -221,21 +217,17 @@ impl Finder {
 
     /// Whether the expression holds of the value.
     #[cycle(selecting)]
-    fn holds<'v>(
-        &mut self,
-        expression: &Expression,
-        root: &'v JsonValue,
-        here: &'v JsonValue,
-    ) -> Result<bool, FindError>
+    fn holds(&mut self, expression: &Expression, here: &'v JsonValue) -> Result<bool, FindError>
+        ensures root { self.new.root ≡ self.old.root }
         ensures ok { IfOk result (λ b. b
-            ≡ holds_of expression.now (view root.now) (view here.now)) }
-        ensures err { IfErr result (IsFromAny (expression_strings expression.now) (view root.now)
-            (strings_in (view here.now))) }
+            ≡ holds_of expression.now (view self.old.root.now) (view here.now)) }
+        ensures err { IfErr result (IsFromAny (expression_strings expression.now)
+            (view self.old.root.now) (strings_in (view here.now))) }
     {
         match expression {
             Expression::Or(expressions) => {
                 for choice in expressions {
-                    if self.holds(choice, root, here)? {
+                    if self.holds(choice, here)? {
                         return Ok(true);
                     }
                 }
@@ -243,16 +235,16 @@ impl Finder {
             }
             Expression::And(expressions) => {
                 for condition in expressions {
-                    if !self.holds(condition, root, here)? {
+                    if !self.holds(condition, here)? {
                         return Ok(false);
                     }
                 }
                 Ok(true)
             }
-            Expression::Not(expression) => Ok(!self.holds(expression, root, here)?),
+            Expression::Not(expression) => Ok(!self.holds(expression, here)?),
             Expression::Comparison(operator, left, right) => {
-                let left = self.compared(left, root, here)?;
-                match self.compared(right, root, here) {
+                let left = self.compared(left, here)?;
+                match self.compared(right, here) {
                     Ok(right) => Ok(compare(*operator, left, right)),
                     Err(error) => {
                         release(left);
@@ -261,14 +253,14 @@ impl Finder {
                 }
             }
             Expression::Test(query) => {
-                let start = start(query.origin, root, here);
-                let nodes = self.find_from(query.segments.as_slice(), root, start)?;
+                let start = start(query.origin, self.root, here);
+                let nodes = self.find_from(query.segments.as_slice(), start)?;
                 Ok(!nodes.is_empty())
             }
             Expression::Pattern(function, value, pattern) => {
                 let stays = matches!(&**pattern, Comparable::Literal(_));
-                let value = self.compared(value, root, here)?;
-                match self.compared(pattern, root, here) {
+                let value = self.compared(value, here)?;
+                match self.compared(pattern, here) {
                     Ok(pattern) => Ok(self.patterns.test(*function, stays, value, pattern)?),
                     Err(error) => {
                         release(value);
@@ -281,32 +273,32 @@ impl Finder {
 
     /// The value that is compared, or nothing.
     #[cycle(selecting)]
-    fn compared<'v>(
+    fn compared(
         &mut self,
         comparable: &Comparable,
-        root: &'v JsonValue,
         here: &'v JsonValue,
     ) -> Result<Option<Operand<'v>>, FindError>
+        ensures root { self.new.root ≡ self.old.root }
         ensures ok { IfOk result (λ o. option_map operand_tree o
-            ≡ comparable_value comparable.now (view root.now) (view here.now)) }
-        ensures err { IfErr result (IsFromAny (comparable_strings comparable.now) (view root.now)
-            (strings_in (view here.now))) }
+            ≡ comparable_value comparable.now (view self.old.root.now) (view here.now)) }
+        ensures err { IfErr result (IsFromAny (comparable_strings comparable.now)
+            (view self.old.root.now) (strings_in (view here.now))) }
     {
         match comparable {
             Comparable::Literal(literal) => Ok(literal_value(self.alloc, literal)?),
-            Comparable::SingularQuery(query) => Ok(singular_value(query, root, here)),
+            Comparable::SingularQuery(query) => Ok(singular_value(query, self.root, here)),
             Comparable::Function(function) => match function {
                 FunctionExpression::Length(argument) => {
-                    Ok(operand::length(self.alloc, self.compared(argument, root, here)?)?)
+                    Ok(operand::length(self.alloc, self.compared(argument, here)?)?)
                 }
                 FunctionExpression::Count(query) => {
-                    let start = start(query.origin, root, here);
-                    let nodes = self.find_from(query.segments.as_slice(), root, start)?;
+                    let start = start(query.origin, self.root, here);
+                    let nodes = self.find_from(query.segments.as_slice(), start)?;
                     Ok(operand::count(self.alloc, nodes.as_slice())?)
                 }
                 FunctionExpression::Value(query) => {
-                    let start = start(query.origin, root, here);
-                    let nodes = self.find_from(query.segments.as_slice(), root, start)?;
+                    let start = start(query.origin, self.root, here);
+                    let nodes = self.find_from(query.segments.as_slice(), start)?;
                     Ok(only_value(nodes.as_slice()))
                 }
             },

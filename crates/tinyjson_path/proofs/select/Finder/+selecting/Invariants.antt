@@ -11,23 +11,29 @@ use Rattle.tinyjson_path.proofs.select.Finder.+selecting.Given as goal
 
 abbrev pub invariant-find_from-loop-segment : goal.invariant-find_from-loop-segment
 invariant-find_from-loop-segment l = record {
+  root : l.self.root ≡ l.fn.self.root;
   left :
-      one_by_one (view l.root) (map segment_parts (drop l.segment-index l.segments)) (parts_view l.nodes.items)
-      ≡ found_by l.segments (view l.root) (view l.value);
+      one_by_one (view l.fn.self.root.now) (map segment_parts (drop l.segment-index l.segments)) (parts_view l.nodes.items)
+      ≡ found_by l.segments (view l.fn.self.root.now) (view l.value);
   within : AreWithin (strings_in (view l.value)) (parts_view l.nodes.items);
 }
 
 abbrev pub invariant-apply-loop-node : goal.invariant-apply-loop-node
-invariant-apply-loop-node l =
-    parts_view l.selected.items ++ from_each (segment_parts l.segment (view l.root)) (parts_view (drop l.node-index l.nodes))
-    ≡ from_each (segment_parts l.segment (view l.root)) (parts_view l.nodes)
+invariant-apply-loop-node l = record {
+  root : l.self.root ≡ l.fn.self.root;
+  left :
+      parts_view l.selected.items
+      ++ from_each (segment_parts l.segment (view l.fn.self.root.now)) (parts_view (drop l.node-index l.nodes))
+      ≡ from_each (segment_parts l.segment (view l.fn.self.root.now)) (parts_view l.nodes);
+}
 
 abbrev pub invariant-descend-loop-node : goal.invariant-descend-loop-node
 invariant-descend-loop-node l = record {
+  root : l.self.root ≡ l.fn.self.root;
   left :
-      parts_view l.selected.items ++ from_each (selected_by l.selectors (view l.root)) (left (parts_view l.waiting.items))
+      parts_view l.selected.items ++ from_each (selected_by l.selectors (view l.fn.self.root.now)) (left (parts_view l.waiting.items))
       ≡ parts_view l.fn.selected.items
-      ++ from_each (selected_by l.selectors (view l.root)) (visited (path_of l.fn.node) (view l.fn.node.value.now));
+      ++ from_each (selected_by l.selectors (view l.fn.self.root.now)) (visited (path_of l.fn.node) (view l.fn.node.value.now));
   within : AreWithin (strings_in (view l.fn.node.value.now)) (parts_view l.waiting.items);
 }
 
@@ -35,22 +41,36 @@ abbrev pub decreases-descend-loop-node : goal.decreases-descend-loop-node
 decreases-descend-loop-node l = length (left (parts_view l.waiting.items))
 
 abbrev pub invariant-select_each-loop-selector : goal.invariant-select_each-loop-selector
-invariant-select_each-loop-selector l =
-    parts_view l.selected.items ++ union (map selector_parts (drop l.selector-index l.selectors)) (view l.root) (part_view l.node)
-    ≡ parts_view l.fn.selected.items ++ selected_by l.selectors (view l.root) (part_view l.node)
+invariant-select_each-loop-selector l = record {
+  root : l.self.root ≡ l.fn.self.root;
+  left :
+      parts_view l.selected.items
+      ++ union (map selector_parts (drop l.selector-index l.selectors)) (view l.fn.self.root.now) (part_view l.node)
+      ≡ parts_view l.fn.selected.items ++ selected_by l.selectors (view l.fn.self.root.now) (part_view l.node);
+}
 
 abbrev pub invariant-push_kept-loop-child : goal.invariant-push_kept-loop-child
-invariant-push_kept-loop-child l =
-    parts_view l.selected.items ++ kept (holds_of l.expression (view l.root)) (parts_view (drop l.child-index l.child-items))
-    ≡ parts_view l.fn.selected.items
-    ++ kept (holds_of l.expression (view l.root)) (children (path_of l.node) (view l.node.value.now))
+invariant-push_kept-loop-child l = record {
+  root : l.self.root ≡ l.fn.self.root;
+  left :
+      parts_view l.selected.items
+      ++ kept (holds_of l.expression (view l.fn.self.root.now)) (parts_view (drop l.child-index l.child-items))
+      ≡ parts_view l.fn.selected.items
+      ++ kept (holds_of l.expression (view l.fn.self.root.now)) (children (path_of l.node) (view l.node.value.now));
+}
 
 abbrev pub invariant-holds-loop-choice : goal.invariant-holds-loop-choice
-invariant-holds-loop-choice l =
-    some_hold (map holds_of (drop l.choice-index l.choice-items)) (view l.root) (view l.here)
-    ≡ holds_of l.expression (view l.root) (view l.here)
+invariant-holds-loop-choice l = record {
+  root : l.self.root ≡ l.fn.self.root;
+  left :
+      some_hold (map holds_of (drop l.choice-index l.choice-items)) (view l.fn.self.root.now) (view l.here)
+      ≡ holds_of l.expression (view l.fn.self.root.now) (view l.here);
+}
 
 abbrev pub invariant-holds-loop-condition : goal.invariant-holds-loop-condition
-invariant-holds-loop-condition l =
-    all_hold (map holds_of (drop l.condition-index l.condition-items)) (view l.root) (view l.here)
-    ≡ holds_of l.expression (view l.root) (view l.here)
+invariant-holds-loop-condition l = record {
+  root : l.self.root ≡ l.fn.self.root;
+  left :
+      all_hold (map holds_of (drop l.condition-index l.condition-items)) (view l.fn.self.root.now) (view l.here)
+      ≡ holds_of l.expression (view l.fn.self.root.now) (view l.here);
+}
