@@ -1,16 +1,15 @@
 -- Which trees are those of operations, and why others are not.
 use Rattle.std.proofs.Common.{◌≡◌, ⊎_elim, ◌<◌, ◌≤◌, ◌+◌, ℕ, zero, suc, Bool, true, false, ◌||◌}
 use Rattle.std.proofs.Common.{List, [], ◌∷◌, ◌++◌, Option, Some, None, Result, Ok, Err}
-use Rattle.std.proofs.Common.{String, Vec, Bor, Global, bytes_eq, codes, encode_utf8_all, string_bytes, length, map, get_or}
+use Rattle.std.proofs.Common.{String, Vec, Bor, Global, bytes_eq, codes, string_bytes, length, map, get_or}
 use Rattle.std.proofs.Common.{refl, sym, ap, ◌∙◌, subst, arith, option_map, true≢false}
 use Rattle.std.proofs.lemmas.List.{map-append}
 use Rattle.std.proofs.lemmas.Slice.Eq.{bytes_eq-Decides}
-use Rattle.std.proofs.lemmas.Str.{encodes-chars, encodes-IsAscii}
 use Rattle.std.specs.HashMap.{get_by_text}
 use Rattle.std.specs.Prelude.{slice_get}
 use Rattle.std.specs.Result.{IsErrAnd}
 use Rattle.std.specs.Str.{IsUtf8, chars}
-use Rattle.tinyjson.proofs.Callers.{chars_literal, IsAscii_literal, are_ascii, nth_items_view, item_count_view, view_Array, view_Object}
+use Rattle.tinyjson.proofs.Callers.{chars_literal, is_key, are_ascii, nth_items_view, item_count_view, view_Array, view_Object}
 use Rattle.tinyjson.proofs.Callers.{view_ref, no_array, find_get_literal}
 use Rattle.tinyjson.specs.Access.{JsonMap, is_array, is_object, is_string}
 use Rattle.tinyjson.specs.Index.{tree_at_key, nth, item_count}
@@ -41,18 +40,6 @@ use Rattle.tinyjson_patch.specs.declared.patch.Patch.{Patch}
 
 -- ---- names
 
--- a text is an ASCII name if its bytes are
-same_name : (bs name : List ℕ) → IsUtf8 bs → are_ascii name ≡ true → bytes_eq bs name ≡ bytes_eq (chars bs) name
-same_name bs name u a = by (bytes_eq bs name) (bytes_eq (chars bs) name) refl refl
-  where
-    by : (x y : Bool) → bytes_eq bs name ≡ x → bytes_eq (chars bs) name ≡ y → x ≡ y
-    by true y e f = sym ((bytes_eq-Decides (chars bs) name).1 (ap chars ((bytes_eq-Decides bs name).0 e) ∙ chars_literal name a)) ∙ f
-    by false true e f =
-        let same : bs ≡ name = sym (encodes-chars bs u)
-        ∙ (ap encode_utf8_all ((bytes_eq-Decides (chars bs) name).0 f) ∙ encodes-IsAscii name (IsAscii_literal name a)) in
-        sym e ∙ (bytes_eq-Decides bs name).1 same
-    by false false e f = refl
-
 pub is_named : (bs name : List ℕ) → are_ascii name ≡ true → true ≡ bytes_eq bs name → chars bs ≡ name
 is_named bs name a h = ap chars ((bytes_eq-Decides bs name).0 (sym h)) ∙ chars_literal name a
 
@@ -65,7 +52,7 @@ no_name bs u a r p m c t =
     || not_so (codes "move") refl m i || not_so (codes "copy") refl c i || not_so (codes "test") refl t i
   where
     not_so : (n : List ℕ) → are_ascii n ≡ true → false ≡ bytes_eq bs n → bytes_eq (chars bs) n ≡ false
-    not_so n k e = sym (e ∙ same_name bs n u k)
+    not_so n k e = sym (e ∙ is_key bs n u k)
 
 -- ---- what the object of an operation has
 

@@ -1,6 +1,6 @@
 use Rattle.std.proofs.Common.{◌≡◌, ◌||◌, true, false, bytes_eq, codes, refl, sym, ap, ◌∙◌}
 use Rattle.std.specs.Str.{chars}
-use Rattle.example_pick.proofs.Keys.{is_key}
+use Rattle.tinyjson.proofs.Callers.{is_key}
 use Rattle.example_pick.proofs.tests.NameAndVersionWanted.wants.Goals as goal
 
 pub returns-then-eq : goal.returns-then-eq
