@@ -5,4 +5,5 @@ pub mod Indices
 pub mod Changing
 pub mod Places
 pub mod Beside
+pub mod Viewed
 pub mod Callers

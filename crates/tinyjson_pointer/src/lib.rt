@@ -11,6 +11,7 @@ mod index;
 mod parse;
 mod pointer;
 mod siblings;
+mod view;
 mod walk;
 
 pub use change::InsertError;
