@@ -11,6 +11,8 @@ import textwrap
 from xml.sax.saxutils import escape
 
 HERE = pathlib.Path(__file__).resolve().parent
+# What is below this heading was written by hand, and stays.
+KEPT = "\n## Measured apart\n"
 
 
 @dataclasses.dataclass(frozen=True)
@@ -90,8 +92,10 @@ def heading(runs):
             f" with {first_line(['rt', 'version'])}; {processor()}, {os.cpu_count()} processors,"
             f" load {os.getloadavg()[0]:.1f} at the end.",
             "",
-            f"Processor time, the least of {runs} runs in turn, and peak memory. A number above 1 is how many times as fast"
-            " as the original crate's program; memory is over the original's. Memory is not seen below some 9 MB.",
+            f"Processor time, the least of {runs} runs in turn, and peak memory, of programs that read a text and write it."
+            " A number above 1 is how many times as fast as the original crate's program; memory is over the original's."
+            " Memory is not seen below some 9 MB. `jsonnorm` builds no value. `values` is `json_part`, which reads a value,"
+            " writes it and frees it. Each mean is geometric.",
         ]
     )
 
@@ -119,14 +123,15 @@ def wrapped(part):
 
 def document(tables, names, runs):
     """The page of results; the tables are lists of rows, by their titles."""
-    parts = ["# Times beside the original crate", "Written by `bench/run`.", heading(runs), "![Times as fast](results.svg)"]
+    parts = ["# Times beside the original crate", "Written by `bench/run`, apart from the last section.", heading(runs), "![Times as fast](results.svg)"]
     for title, rows in tables.items():
         parts += [f"## {title}", markdown(rows, names)]
         parts += [f"Times as long: {line}." for line in growth(title, rows, names)]
         for name in ("jsonnorm", "values"):
-            below = [f"{row.name} {row.speed(name):.2f} (memory {row.memory(name):.2f})" for row in slower(rows, name)]
+            below = slower(rows, name)
             if below:
-                parts.append(f"Of `{name}` slower than the original: " + "; ".join(below) + ".")
+                least = f"the least is {below[0].speed(name):.2f}, of {below[0].name}"
+                parts.append(f"`{name}` is slower than the original in {len(below)} of {len(rows)} rows; {least}.")
     return "\n\n".join(wrapped(part) for part in parts) + "\n"
 
 
@@ -185,5 +190,7 @@ def picture(tables):
 
 
 def write(tables, names, runs):
-    (HERE / "results.md").write_text(document(tables, names, runs))
+    page = HERE / "results.md"
+    _written, heading_kept, kept = page.read_text().partition(KEPT)
+    page.write_text(document(tables, names, runs) + heading_kept + kept)
     (HERE / "results.svg").write_text(picture(tables))
