@@ -14,7 +14,7 @@ MEAN, LONGEST = 20, 40
 PHRASES = (
     r"no values? built",
     r"hold(?:s|ing)? no others?",
-    r"(?:is|are|was|were) told of",
+    r"(?:is|are|was|were) told",
     r"so many",
     r"the same of",
     r"(?:in|inside) (?:one another|each other)",
