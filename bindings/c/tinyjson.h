@@ -1,0 +1,98 @@
+/* tinyjson for C: JSON texts (RFC 8259) are checked, normalized, indented and compared.
+ *
+ * A text is `length` bytes in UTF-8, in which at most `depth` containers are open at once. A call returns a
+ * status, and answers through its pointers. It keeps nothing, and shares nothing with other calls.
+ *
+ * Pointers are not NULL, except that a text or a buffer of length 0 may be. A text and a buffer do not overlap.
+ * What a pointer points to is initialized. No call is made from a signal handler.
+ */
+#ifndef TINYJSON_H
+#define TINYJSON_H
+
+#include <stdbool.h>
+#include <stddef.h>
+#include <stdint.h>
+
+#ifdef __cplusplus
+extern "C" {
+#endif
+
+/* What a call returns. */
+enum tinyjson_status {
+    TINYJSON_OK = 0,
+    TINYJSON_REFUSED = 1,       /* the text has no value: the place has the kind, the line and the column */
+    TINYJSON_NOT_UTF8 = 2,      /* the bytes are not UTF-8: the place has the length of what precedes the fault */
+    TINYJSON_OUT_OF_MEMORY = 3, /* the text may have a value or not */
+    TINYJSON_TOO_SMALL = 4,     /* the buffer has no room, and is left alone: the place has the length needed */
+    TINYJSON_NO_ERROR = 5       /* no error has this place */
+};
+
+/* Why a text is refused. Those with a character name it in `found`. */
+enum tinyjson_kind {
+    TINYJSON_UNEXPECTED_EOF = 1,
+    TINYJSON_INVALID_CHARACTER = 2,          /* character: begins no value */
+    TINYJSON_EXPECTED_EOF = 3,               /* character: stands after the value */
+    TINYJSON_KEY_NOT_STRING = 4,             /* `found` is a tinyjson_value */
+    TINYJSON_EXPECTED_COLON = 5,             /* character */
+    TINYJSON_EXPECTED_COMMA_OR_BRACE = 6,    /* character */
+    TINYJSON_EXPECTED_COMMA_OR_BRACKET = 7,  /* character */
+    TINYJSON_INVALID_UTF16 = 8,              /* a surrogate without its partner */
+    TINYJSON_INVALID_HEX_DIGIT = 9,          /* character */
+    TINYJSON_INVALID_ESCAPE = 10,            /* character */
+    TINYJSON_CONTROL_CHARACTER = 11,         /* character */
+    TINYJSON_UNEXPECTED_IN_LITERAL = 12,     /* character */
+    TINYJSON_EMPTY_INTEGER = 13,
+    TINYJSON_LEADING_ZERO = 14,
+    TINYJSON_EMPTY_FRACTION = 15,
+    TINYJSON_EMPTY_EXPONENT = 16,
+    TINYJSON_NUMBER_OUT_OF_RANGE = 17,       /* the power of ten does not fit 64 bits */
+    TINYJSON_NO_MEMORY = 18,                 /* of the status TINYJSON_OUT_OF_MEMORY */
+    TINYJSON_TOO_DEEP = 19                   /* character: opens one container too many */
+};
+
+/* A kind of value. */
+enum tinyjson_value {
+    TINYJSON_NULL = 1,
+    TINYJSON_BOOLEAN = 2,
+    TINYJSON_NUMBER = 3,
+    TINYJSON_STRING = 4,
+    TINYJSON_ARRAY = 5,
+    TINYJSON_OBJECT = 6
+};
+
+/* What a call answers besides its status. Fields that have nothing to say are 0. */
+struct tinyjson_place {
+    uint32_t kind;  /* a tinyjson_kind */
+    uint32_t found; /* a code point, or a tinyjson_value */
+    size_t line;    /* from 1 on */
+    size_t column;  /* how many characters were consumed after the last line feed */
+    size_t length;  /* how many bytes the answer has, or precede what is not UTF-8 */
+    size_t text;    /* which text of the call: 1 for the second one of tinyjson_equal */
+};
+
+/* Whether the text has a value: OK, or why not. */
+uint32_t tinyjson_check(const uint8_t *text, size_t length, size_t depth, struct tinyjson_place *place);
+
+/* The one compact text of the value, into the buffer: sorted keys, one spelling for each number. */
+uint32_t tinyjson_normal(const uint8_t *text, size_t length, size_t depth,
+                         uint8_t *buffer, size_t room, struct tinyjson_place *place);
+
+/* The same, indented with two spaces. */
+uint32_t tinyjson_indented(const uint8_t *text, size_t length, size_t depth,
+                           uint8_t *buffer, size_t room, struct tinyjson_place *place);
+
+/* Whether the text is its own normal text. One that has no value is not. Its depth has no limit. */
+uint32_t tinyjson_is_normal(const uint8_t *text, size_t length, bool *is_normal);
+
+/* Whether two texts have equal values. */
+uint32_t tinyjson_equal(const uint8_t *first, size_t first_length, const uint8_t *second, size_t second_length,
+                        size_t depth, bool *equal, struct tinyjson_place *place);
+
+/* The message of the error at a place, into the buffer, and its length. */
+uint32_t tinyjson_message(const struct tinyjson_place *place, uint8_t *buffer, size_t room, size_t *length);
+
+#ifdef __cplusplus
+}
+#endif
+
+#endif

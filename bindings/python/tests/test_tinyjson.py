@@ -1,0 +1,113 @@
+"""The rows that tools/bindings writes, by the calls of the module."""
+
+import doctest
+import os
+import pathlib
+import sys
+import threading
+import unittest
+
+sys.path.insert(0, str(pathlib.Path(__file__).resolve().parents[1]))
+
+import tinyjson  # noqa: E402
+
+# A few rows, where the tool does not run the tests.
+FEW = "5b315d\t9\t5b315d\t\t0\t0\t0\t0\t0\t\nff\t9\t\t\t0\t0\t0\t0\t0\t\n"
+
+
+def rows():
+    """A text, its limit, its normal and its indented text, the numbers of its place, and the message."""
+    path = os.environ.get("TINYJSON_ROWS")
+    file = pathlib.Path(path).read_text() if path else FEW
+    for line in file.splitlines():
+        text, depth, normal, indented, *numbers, message = line.split("\t")
+        words = [bytes.fromhex(it).decode() for it in (normal, indented, message)]
+        yield bytes.fromhex(text), int(depth), *words[:2], [*map(int, numbers)], words[2]
+
+
+class Rows(unittest.TestCase):
+    def accepts(self, text, depth, normal, indented):
+        for given, wanted in ((text, normal.encode()), (text.decode(), normal)):
+            self.assertIsNone(tinyjson.check(given, depth))
+            self.assertEqual(tinyjson.normal(given, depth), wanted)
+            self.assertEqual(tinyjson.is_normal(given), given == wanted)
+            self.assertTrue(tinyjson.is_normal(wanted))
+            self.assertTrue(tinyjson.equal(given, wanted, depth))
+            self.assertFalse(tinyjson.equal('["no value of a row"]', given, max(depth, 1)))
+        if indented:
+            self.assertEqual(tinyjson.indented(text, depth), indented.encode())
+            self.assertEqual(tinyjson.indented(text.decode(), depth), indented)
+
+    def refuses(self, text, depth, place, message):
+        kind, found, line, column, length = place
+        calls = [(tinyjson.check, (text, depth)), (tinyjson.normal, (text, depth)), (tinyjson.indented, (text, depth)),
+                 (tinyjson.equal, (text, "1", depth)), (tinyjson.equal, ("1", text, depth))]
+        for call, arguments in calls:
+            with self.assertRaises(tinyjson.Refused if kind else tinyjson.NotUtf8) as raised:
+                call(*arguments)
+            error = raised.exception
+            self.assertEqual(error.is_second, arguments[0] == "1")
+            if kind:
+                self.assertEqual((error.kind, error.line, error.column, str(error)), (kind, line, column, message))
+                self.assertEqual(error.found if isinstance(error.found, str) else error.found or None,
+                                 None if found == 0 else found if kind == 4 else chr(found))
+            else:
+                self.assertEqual(error.valid_up_to, length)
+        if not kind:
+            self.assertRaises(tinyjson.NotUtf8, tinyjson.is_normal, text)
+        elif kind != tinyjson.Kind.TOO_DEEP:
+            self.assertFalse(tinyjson.is_normal(text))
+
+    def judge(self):
+        for text, depth, normal, indented, place, message in rows():
+            with self.subTest(text=text):
+                if normal:
+                    self.accepts(text, depth, normal, indented)
+                else:
+                    self.refuses(text, depth, place, message)
+
+    def test_each_row(self):
+        self.judge()
+
+    def test_four_threads(self):
+        failures = []
+
+        def run():
+            try:
+                for text, depth, normal, indented, place, message in rows():
+                    self.accepts(text, depth, normal, indented) if normal else self.refuses(text, depth, place, message)
+            except BaseException as error:  # pylint: disable=broad-except
+                failures.append(error)
+
+        threads = [threading.Thread(target=run) for _ in range(4)]
+        for thread in threads:
+            thread.start()
+        for thread in threads:
+            thread.join()
+        self.assertEqual(failures, [])
+
+
+class Arguments(unittest.TestCase):
+    def test_the_buffer_grows(self):
+        text = "[" + "1e20," * 100 + "1]"
+        self.assertGreater(len(tinyjson.normal(text)), len(text))
+
+    def test_a_nul_is_a_character(self):
+        with self.assertRaises(tinyjson.Refused) as raised:
+            tinyjson.check("1\0")
+        self.assertEqual((raised.exception.kind, raised.exception.found), (tinyjson.Kind.EXPECTED_EOF, "\0"))
+
+    def test_surrogates(self):
+        self.assertRaises(tinyjson.NotUtf8, tinyjson.check, '"\ud800"')
+
+    def test_other_types(self):
+        self.assertRaises(TypeError, tinyjson.check, 1)
+        self.assertRaises(TypeError, tinyjson.normal, None)
+        self.assertRaises(ValueError, tinyjson.check, "1", -1)
+
+    def test_the_example(self):
+        self.assertEqual(doctest.testmod(tinyjson).failed, 0)
+
+
+if __name__ == "__main__":
+    unittest.main()

@@ -1,0 +1,219 @@
+"""JSON texts (RFC 8259), checked, normalized, indented and compared by proved code.
+
+>>> import tinyjson
+>>> tinyjson.normal('{"b": [1.50, true], "a": 2e3}')
+'{"a":2000,"b":[1.5,true]}'
+
+A text is a `str`, or `bytes` in UTF-8, and what is written has the same type. In a text at most `depth` containers may
+be open at once.
+"""
+
+import ctypes
+import enum
+import os
+import pathlib
+from typing import Callable, Union, overload
+
+__all__ = ["DEPTH", "Error", "Kind", "NotUtf8", "Refused", "Value", "check", "equal", "indented", "is_normal", "normal"]
+
+Text = Union[str, bytes]
+
+#: The limit on depth that calls have by default.
+DEPTH = 1000
+
+_OK, _REFUSED, _NOT_UTF8, _OUT_OF_MEMORY, _TOO_SMALL, _NO_ERROR = range(6)
+
+
+class Kind(enum.IntEnum):
+    """Why a text is refused."""
+
+    UNEXPECTED_EOF = 1
+    INVALID_CHARACTER = 2
+    EXPECTED_EOF = 3
+    KEY_NOT_STRING = 4
+    EXPECTED_COLON = 5
+    EXPECTED_COMMA_OR_BRACE = 6
+    EXPECTED_COMMA_OR_BRACKET = 7
+    INVALID_UTF16 = 8
+    INVALID_HEX_DIGIT = 9
+    INVALID_ESCAPE = 10
+    CONTROL_CHARACTER = 11
+    UNEXPECTED_IN_LITERAL = 12
+    EMPTY_INTEGER = 13
+    LEADING_ZERO = 14
+    EMPTY_FRACTION = 15
+    EMPTY_EXPONENT = 16
+    NUMBER_OUT_OF_RANGE = 17
+    TOO_DEEP = 19
+
+
+class Value(enum.IntEnum):
+    """A kind of value."""
+
+    NULL = 1
+    BOOLEAN = 2
+    NUMBER = 3
+    STRING = 4
+    ARRAY = 5
+    OBJECT = 6
+
+
+class Error(ValueError):
+    """A text has no value. `is_second` says that it is the second one of `equal`."""
+
+    def __init__(self, message: str, is_second: bool) -> None:
+        super().__init__(message)
+        self.is_second = is_second
+
+
+class Refused(Error):
+    """The text is no JSON: the kind, what was found, the line from 1 on, and the characters consumed in it."""
+
+    def __init__(self, place: "_Place") -> None:
+        super().__init__(_message(place), place.text == 1)
+        self.kind = Kind(place.kind)
+        self.found: Union[str, Value, None] = _found(self.kind, place.found)
+        self.line: int = place.line
+        self.column: int = place.column
+
+
+class NotUtf8(Error):
+    """The bytes are not UTF-8 after `valid_up_to` of them."""
+
+    def __init__(self, valid_up_to: int, is_second: bool) -> None:
+        super().__init__(f"Not UTF-8 after {valid_up_to} bytes", is_second)
+        self.valid_up_to = valid_up_to
+
+
+class _Place(ctypes.Structure):
+    _fields_ = [
+        ("kind", ctypes.c_uint32),
+        ("found", ctypes.c_uint32),
+        ("line", ctypes.c_size_t),
+        ("column", ctypes.c_size_t),
+        ("length", ctypes.c_size_t),
+        ("text", ctypes.c_size_t),
+    ]
+
+
+def _library() -> ctypes.CDLL:
+    """The shared library: the one that TINYJSON_LIBRARY names, the package's own, or what tools/bindings built."""
+    here = pathlib.Path(__file__).resolve().parent
+    places = [here / "libtinyjson.so", here.parents[1] / "out" / "libtinyjson.so"]
+    named = os.environ.get("TINYJSON_LIBRARY")
+    found = named or next((str(it) for it in places if it.is_file()), "libtinyjson.so")
+    return ctypes.CDLL(found)
+
+
+_lib = _library()
+_size, _bytes, _place = ctypes.c_size_t, ctypes.c_char_p, ctypes.POINTER(_Place)
+
+
+def _call(name: str, *types: type) -> Callable[..., int]:
+    call = getattr(_lib, name)
+    call.argtypes, call.restype = types, ctypes.c_uint32
+    return call
+
+
+_check = _call("tinyjson_check", _bytes, _size, _size, _place)
+_normal = _call("tinyjson_normal", _bytes, _size, _size, _bytes, _size, _place)
+_indented = _call("tinyjson_indented", _bytes, _size, _size, _bytes, _size, _place)
+_is_normal = _call("tinyjson_is_normal", _bytes, _size, ctypes.POINTER(ctypes.c_bool))
+_equal = _call("tinyjson_equal", _bytes, _size, _bytes, _size, _size, ctypes.POINTER(ctypes.c_bool), _place)
+_words = _call("tinyjson_message", _place, _bytes, _size, ctypes.POINTER(_size))
+
+
+def _message(place: _Place) -> str:
+    """The message of an error at a place. The longest has some 170 bytes."""
+    buffer, length = ctypes.create_string_buffer(256), _size()
+    status = _words(place, buffer, len(buffer), length)
+    return buffer.raw[: length.value].decode() if status == _OK else "Parse error"
+
+
+def _found(kind: Kind, number: int) -> Union[str, Value, None]:
+    """The character or the kind of value that an error names."""
+    if kind == Kind.KEY_NOT_STRING:
+        return Value(number)
+    names_none = (Kind.UNEXPECTED_EOF, Kind.INVALID_UTF16, *range(Kind.EMPTY_INTEGER, Kind.TOO_DEEP))
+    return None if kind in names_none else chr(number)
+
+
+def _encoded(text: Text) -> bytes:
+    """The bytes of a text. A `str` with surrogates is refused as their bytes are."""
+    if isinstance(text, str):
+        return text.encode("utf-8", "surrogatepass")
+    if isinstance(text, bytes):
+        return text
+    raise TypeError(f"a text is a str or bytes, not {type(text).__name__}")
+
+
+def _limit(depth: int) -> int:
+    if depth < 0:
+        raise ValueError("depth is negative")
+    return min(depth, 2**63)
+
+
+def _raise(status: int, place: _Place) -> None:
+    if status == _REFUSED:
+        raise Refused(place)
+    if status == _NOT_UTF8:
+        raise NotUtf8(place.length, place.text == 1)
+    if status != _OK:
+        raise MemoryError("tinyjson")
+
+
+def _written(call: Callable[..., int], text: Text, depth: int) -> bytes:
+    """What a call writes, into a buffer that grows to what the call asks for."""
+    data, place = _encoded(text), _Place()
+    room = len(data)
+    while True:
+        buffer = ctypes.create_string_buffer(room)
+        status = call(data, len(data), _limit(depth), buffer, room, place)
+        if status != _TOO_SMALL:
+            _raise(status, place)
+            return ctypes.string_at(buffer, place.length)
+        room = place.length
+
+
+def check(text: Text, depth: int = DEPTH) -> None:
+    """Raises `Refused` or `NotUtf8` unless the text has a value."""
+    data, place = _encoded(text), _Place()
+    _raise(_check(data, len(data), _limit(depth), place), place)
+
+
+@overload
+def normal(text: str, depth: int = ...) -> str: ...
+@overload
+def normal(text: bytes, depth: int = ...) -> bytes: ...
+def normal(text: Text, depth: int = DEPTH) -> Text:
+    """The one compact text of the text's value: its keys are sorted, and each number has one spelling."""
+    written = _written(_normal, text, depth)
+    return written.decode() if isinstance(text, str) else written
+
+
+@overload
+def indented(text: str, depth: int = ...) -> str: ...
+@overload
+def indented(text: bytes, depth: int = ...) -> bytes: ...
+def indented(text: Text, depth: int = DEPTH) -> Text:
+    """The text of the text's value, indented with two spaces."""
+    written = _written(_indented, text, depth)
+    return written.decode() if isinstance(text, str) else written
+
+
+def is_normal(text: Text) -> bool:
+    """Whether the text is its own normal text. One that has no value is not."""
+    data, answer = _encoded(text), ctypes.c_bool()
+    status = _is_normal(data, len(data), answer)
+    if status == _NOT_UTF8:
+        check(data)
+    if status != _OK:
+        raise MemoryError("tinyjson")
+    return answer.value
+
+
+def equal(first: Text, second: Text, depth: int = DEPTH) -> bool:
+    """Whether two texts have equal values."""
+    one, other, place, answer = _encoded(first), _encoded(second), _Place(), ctypes.c_bool()
+    _raise(_equal(one, len(one), other, len(other), _limit(depth), answer, place), place)
+    return answer.value

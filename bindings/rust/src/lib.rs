@@ -1,0 +1,285 @@
+//! JSON texts (RFC 8259), checked, normalized, indented and compared by proved code.
+//!
+//! ```
+//! let text = r#"{"b": [1.50, true], "a": 2e3}"#;
+//! assert_eq!(tinyjson_proved::normal(text, 100)?, r#"{"a":2000,"b":[1.5,true]}"#);
+//! # Ok::<(), tinyjson_proved::Error>(())
+//! ```
+//!
+//! A limit on depth is how many containers may be open at once. A call keeps nothing, and calls may be made from any
+//! number of threads.
+
+use std::error;
+use std::fmt;
+
+mod sys;
+
+use sys::{Place, Status};
+
+/// A kind of JSON value.
+#[derive(Clone, Copy, Debug, PartialEq, Eq, Hash)]
+pub enum Value {
+    Null,
+    Boolean,
+    Number,
+    String,
+    Array,
+    Object,
+}
+
+/// Why a text is refused. The character is the one that was found.
+#[derive(Clone, Copy, Debug, PartialEq, Eq, Hash)]
+#[non_exhaustive]
+pub enum Kind {
+    UnexpectedEof,
+    InvalidCharacter(char),
+    ExpectedEof(char),
+    KeyNotString(Value),
+    ExpectedColon(char),
+    ExpectedCommaOrBrace(char),
+    ExpectedCommaOrBracket(char),
+    InvalidUtf16,
+    InvalidHexDigit(char),
+    InvalidEscape(char),
+    ControlCharacter(char),
+    UnexpectedInLiteral(char),
+    EmptyInteger,
+    LeadingZero,
+    EmptyFraction,
+    EmptyExponent,
+    NumberOutOfRange,
+    TooDeep(char),
+}
+
+/// Why there is no answer for a text.
+///
+/// ```
+/// use tinyjson_proved::{check, Error, Kind};
+///
+/// let error = check("[01]", 100).unwrap_err();
+/// assert_eq!(error, Error::Refused { kind: Kind::LeadingZero, line: 1, column: 3, is_second: false });
+/// assert_eq!(
+///     error.to_string(),
+///     "Parse error at line:1, col:3: Integer part of number must not start with 0 except for '0'"
+/// );
+/// ```
+#[derive(Clone, Copy, Debug, PartialEq, Eq, Hash)]
+#[non_exhaustive]
+pub enum Error {
+    /// The text has no value.
+    Refused {
+        kind: Kind,
+        /// The line, from 1 on.
+        line: usize,
+        /// How many characters were consumed after the last line feed.
+        column: usize,
+        /// Whether this is the second text of [`equal`].
+        is_second: bool,
+    },
+    /// The bytes are not UTF-8 after `valid_up_to` of them.
+    NotUtf8 { valid_up_to: usize, is_second: bool },
+    /// Memory ran out. The text may have a value or not.
+    OutOfMemory,
+}
+
+/// The message of the library.
+impl fmt::Display for Error {
+    fn fmt(&self, f: &mut fmt::Formatter<'_>) -> fmt::Result {
+        match *self {
+            Error::Refused {
+                kind, line, column, ..
+            } => {
+                let (kind, found) = numbers(kind);
+                let place = Place {
+                    kind,
+                    found,
+                    line,
+                    column,
+                    length: 0,
+                    text: 0,
+                };
+                f.write_str(sys::message(&place).as_deref().unwrap_or("Parse error"))
+            }
+            Error::NotUtf8 { valid_up_to, .. } => write!(f, "Not UTF-8 after {valid_up_to} bytes"),
+            Error::OutOfMemory => f.write_str("Out of memory"),
+        }
+    }
+}
+
+impl error::Error for Error {}
+
+/// Whether the text has a value.
+///
+/// ```
+/// assert!(tinyjson_proved::check("[[1]]", 2).is_ok());
+/// assert!(tinyjson_proved::check("[[1]]", 1).is_err());
+/// assert!(tinyjson_proved::check(b"\xff", 1).is_err());
+/// ```
+pub fn check(text: impl AsRef<[u8]>, depth: usize) -> Result<(), Error> {
+    let (status, place) = sys::check(text.as_ref(), depth);
+    answer(status, &place)
+}
+
+/// The one compact text of the text's value: its keys are sorted, and each number has one spelling.
+///
+/// ```
+/// assert_eq!(tinyjson_proved::normal("[1.50e1, -0]", 1)?, "[15,0]");
+/// # Ok::<(), tinyjson_proved::Error>(())
+/// ```
+pub fn normal(text: impl AsRef<[u8]>, depth: usize) -> Result<String, Error> {
+    written(sys::tinyjson_normal, text.as_ref(), depth, 0)
+}
+
+/// The text of the text's value, indented with two spaces.
+///
+/// ```
+/// assert_eq!(tinyjson_proved::indented("[1,{}]", 2)?, "[\n  1,\n  {}\n]");
+/// # Ok::<(), tinyjson_proved::Error>(())
+/// ```
+pub fn indented(text: impl AsRef<[u8]>, depth: usize) -> Result<String, Error> {
+    written(sys::tinyjson_indented, text.as_ref(), depth, 0)
+}
+
+/// Whether the text is its own normal text. One that has no value is not.
+///
+/// ```
+/// assert!(tinyjson_proved::is_normal(r#"{"a":1.5}"#)?);
+/// assert!(!tinyjson_proved::is_normal(r#"{"a":1.50}"#)?);
+/// # Ok::<(), tinyjson_proved::Error>(())
+/// ```
+pub fn is_normal(text: impl AsRef<[u8]>) -> Result<bool, Error> {
+    let text = text.as_ref();
+    match sys::is_normal(text) {
+        (Status::NOT_UTF8, _) => Err(not_utf8(text, false)),
+        (Status::OK, is_normal) => Ok(is_normal),
+        _ => Err(Error::OutOfMemory),
+    }
+}
+
+/// Whether two texts have equal values.
+///
+/// ```
+/// assert!(tinyjson_proved::equal(r#"{"a": 1, "b": 2.0}"#, r#"{"b": 2, "a": 10e-1}"#, 1)?);
+/// # Ok::<(), tinyjson_proved::Error>(())
+/// ```
+pub fn equal(
+    first: impl AsRef<[u8]>,
+    second: impl AsRef<[u8]>,
+    depth: usize,
+) -> Result<bool, Error> {
+    let (status, is_equal, place) = sys::equal(first.as_ref(), second.as_ref(), depth);
+    answer(status, &place).map(|()| is_equal)
+}
+
+/// What a call writes, into a buffer that grows to what the call asks for.
+fn written(call: sys::Writes, text: &[u8], depth: usize, mut room: usize) -> Result<String, Error> {
+    room = room.max(text.len());
+    loop {
+        let mut buffer = Vec::new();
+        buffer
+            .try_reserve_exact(room)
+            .map_err(|_| Error::OutOfMemory)?;
+        buffer.resize(room, 0);
+        let (status, place) = sys::write(call, text, depth, &mut buffer);
+        if status == Status::TOO_SMALL {
+            room = place.length;
+            continue;
+        }
+        answer(status, &place)?;
+        buffer.truncate(place.length);
+        return String::from_utf8(buffer).map_err(|_| Error::OutOfMemory);
+    }
+}
+
+fn not_utf8(text: &[u8], is_second: bool) -> Error {
+    let valid_up_to = std::str::from_utf8(text).map_or_else(|error| error.valid_up_to(), str::len);
+    Error::NotUtf8 {
+        valid_up_to,
+        is_second,
+    }
+}
+
+/// What a status means, and its place.
+fn answer(status: Status, place: &Place) -> Result<(), Error> {
+    let is_second = place.text == 1;
+    match status {
+        Status::OK => Ok(()),
+        Status::NOT_UTF8 => Err(Error::NotUtf8 {
+            valid_up_to: place.length,
+            is_second,
+        }),
+        Status::REFUSED => match kind(place.kind, place.found) {
+            Some(kind) => Err(Error::Refused {
+                kind,
+                line: place.line,
+                column: place.column,
+                is_second,
+            }),
+            None => unreachable!("the library has no kind {} of {}", place.kind, place.found),
+        },
+        _ => Err(Error::OutOfMemory),
+    }
+}
+
+/// The kind of error that has these numbers.
+fn kind(number: u32, found: u32) -> Option<Kind> {
+    let c = char::from_u32(found)?;
+    Some(match number {
+        1 => Kind::UnexpectedEof,
+        2 => Kind::InvalidCharacter(c),
+        3 => Kind::ExpectedEof(c),
+        4 => Kind::KeyNotString(value(found)?),
+        5 => Kind::ExpectedColon(c),
+        6 => Kind::ExpectedCommaOrBrace(c),
+        7 => Kind::ExpectedCommaOrBracket(c),
+        8 => Kind::InvalidUtf16,
+        9 => Kind::InvalidHexDigit(c),
+        10 => Kind::InvalidEscape(c),
+        11 => Kind::ControlCharacter(c),
+        12 => Kind::UnexpectedInLiteral(c),
+        13 => Kind::EmptyInteger,
+        14 => Kind::LeadingZero,
+        15 => Kind::EmptyFraction,
+        16 => Kind::EmptyExponent,
+        17 => Kind::NumberOutOfRange,
+        19 => Kind::TooDeep(c),
+        _ => return None,
+    })
+}
+
+/// The kind of value that has this number.
+fn value(number: u32) -> Option<Value> {
+    Some(match number {
+        1 => Value::Null,
+        2 => Value::Boolean,
+        3 => Value::Number,
+        4 => Value::String,
+        5 => Value::Array,
+        6 => Value::Object,
+        _ => return None,
+    })
+}
+
+/// The numbers of a kind of error.
+fn numbers(kind: Kind) -> (u32, u32) {
+    match kind {
+        Kind::UnexpectedEof => (1, 0),
+        Kind::InvalidCharacter(c) => (2, c as u32),
+        Kind::ExpectedEof(c) => (3, c as u32),
+        Kind::KeyNotString(value) => (4, value as u32 + 1),
+        Kind::ExpectedColon(c) => (5, c as u32),
+        Kind::ExpectedCommaOrBrace(c) => (6, c as u32),
+        Kind::ExpectedCommaOrBracket(c) => (7, c as u32),
+        Kind::InvalidUtf16 => (8, 0),
+        Kind::InvalidHexDigit(c) => (9, c as u32),
+        Kind::InvalidEscape(c) => (10, c as u32),
+        Kind::ControlCharacter(c) => (11, c as u32),
+        Kind::UnexpectedInLiteral(c) => (12, c as u32),
+        Kind::EmptyInteger => (13, 0),
+        Kind::LeadingZero => (14, 0),
+        Kind::EmptyFraction => (15, 0),
+        Kind::EmptyExponent => (16, 0),
+        Kind::NumberOutOfRange => (17, 0),
+        Kind::TooDeep(c) => (19, c as u32),
+    }
+}

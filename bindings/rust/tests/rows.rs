@@ -1,0 +1,136 @@
+//! The rows that `tools/bindings` writes, by the calls of this crate.
+use std::thread;
+
+use tinyjson_proved::{check, equal, indented, is_normal, normal, Error, Kind};
+
+/// A line of the file: a text, its limit, and what is expected of it.
+struct Row {
+    text: Vec<u8>,
+    depth: usize,
+    normal: String,
+    indented: String,
+    kind: u32,
+    line: usize,
+    column: usize,
+    length: usize,
+    message: String,
+}
+
+fn bytes(digits: &str) -> Vec<u8> {
+    (0..digits.len())
+        .step_by(2)
+        .map(|at| u8::from_str_radix(&digits[at..at + 2], 16).unwrap())
+        .collect()
+}
+
+fn text(digits: &str) -> String {
+    String::from_utf8(bytes(digits)).unwrap()
+}
+
+/// The rows, or a few where the tool does not run the tests.
+fn rows() -> Vec<Row> {
+    let few = "5b315d\t9\t5b315d\t\t0\t0\t0\t0\t0\t\nff\t9\t\t\t0\t0\t0\t0\t0\t\n";
+    let file = std::env::var("TINYJSON_ROWS").map_or(few.to_owned(), |path| {
+        std::fs::read_to_string(path).unwrap()
+    });
+    file.lines()
+        .map(|line| {
+            let fields: Vec<&str> = line.split('\t').collect();
+            Row {
+                text: bytes(fields[0]),
+                depth: fields[1].parse().unwrap(),
+                normal: text(fields[2]),
+                indented: text(fields[3]),
+                kind: fields[4].parse().unwrap(),
+                line: fields[6].parse().unwrap(),
+                column: fields[7].parse().unwrap(),
+                length: fields[8].parse().unwrap(),
+                message: text(fields[9]),
+            }
+        })
+        .collect()
+}
+
+fn accepts(row: &Row) {
+    assert_eq!(check(&row.text, row.depth), Ok(()));
+    assert_eq!(normal(&row.text, row.depth).as_ref(), Ok(&row.normal));
+    assert_eq!(is_normal(&row.text), Ok(row.text == row.normal.as_bytes()));
+    assert_eq!(is_normal(&row.normal), Ok(true));
+    assert_eq!(equal(&row.text, &row.normal, row.depth), Ok(true));
+    assert_eq!(
+        equal(&row.normal, "[\"no value of a row\"]", row.depth.max(1)),
+        Ok(false)
+    );
+    if !row.indented.is_empty() {
+        assert_eq!(indented(&row.text, row.depth).as_ref(), Ok(&row.indented));
+    }
+}
+
+fn refuses(row: &Row) {
+    let error = check(&row.text, row.depth).unwrap_err();
+    assert_eq!(normal(&row.text, row.depth), Err(error));
+    assert_eq!(indented(&row.text, row.depth), Err(error));
+    assert_eq!(equal(&row.text, "1", row.depth), Err(error));
+    let Err(Error::Refused { is_second, .. } | Error::NotUtf8 { is_second, .. }) =
+        equal("1", &row.text, row.depth)
+    else {
+        panic!("the second text is accepted");
+    };
+    assert!(is_second);
+    match error {
+        Error::Refused {
+            kind, line, column, ..
+        } => {
+            assert_eq!((line, column), (row.line, row.column));
+            assert_eq!(error.to_string(), row.message);
+            assert!(matches!(kind, Kind::TooDeep(_)) || is_normal(&row.text) == Ok(false));
+        }
+        Error::NotUtf8 { valid_up_to, .. } => {
+            assert_eq!((valid_up_to, row.kind), (row.length, 0));
+            assert_eq!(is_normal(&row.text), Err(error));
+        }
+        _ => panic!("memory ran out"),
+    }
+}
+
+fn judge(rows: &[Row]) {
+    for row in rows {
+        if row.normal.is_empty() {
+            refuses(row);
+        } else {
+            accepts(row);
+        }
+    }
+}
+
+#[test]
+fn answers_each_row() {
+    judge(&rows());
+}
+
+#[test]
+fn answers_from_four_threads() {
+    let rows = rows();
+    thread::scope(|scope| {
+        for _ in 0..4 {
+            scope.spawn(|| judge(&rows));
+        }
+    });
+}
+
+#[test]
+fn grows_its_buffer() {
+    let text = format!("[{}1]", "1e20,".repeat(100));
+    let written = normal(&text, 1).unwrap();
+    assert!(written.len() > text.len());
+    assert_eq!(normal(&written, 1), Ok(written));
+}
+
+#[test]
+fn is_an_error() {
+    let error: Box<dyn std::error::Error + Send + Sync> = Box::new(check("", 1).unwrap_err());
+    assert_eq!(
+        error.to_string(),
+        "Parse error at line:1, col:0: Unexpected EOF"
+    );
+}

@@ -1,0 +1,61 @@
+-- From errors of the parser to what a call answers.
+use Rattle.std.proofs.Common.{◌≡◌, ℕ, List, ◌++◌, Option, inl, inr, sym, ap, subst, refl}
+use Rattle.std.specs.Str.{IsUtf8, chars}
+use Rattle.tinyjson.specs.Error.{error_kind, error_position}
+use Rattle.tinyjson.specs.declared.parser.error.JsonParseError.{JsonParseError}
+use Rattle.tinyjson_c.specs.Place.{length_place}
+use Rattle.tinyjson_c.specs.Stop.{IsStopped, StopOf, Stops, stop_place, stop_status}
+use Rattle.tinyjson_c.specs.declared.place.TinyjsonPlace.{TinyjsonPlace}
+use Rattle.tinyjson_c.specs.declared.stop.Stop.{Stop}
+use Rattle.tinyjson_c.specs.declared.stop.Stop.TheVariants as stop
+use Rattle.tinyjson_grammar.specs.Grammar.{IsAccepted}
+use Rattle.tinyjson_grammar.specs.Position.{origin, advance}
+use Rattle.tinyjson_grammar.specs.Refusal.{RefusalSays}
+use Rattle.tinyjson_grammar.specs.declared.error.JsonParseErrorKind.TheVariants as kind
+
+-- an error of the parser stops a call
+pub stopped : (limit : Option ℕ) (bytes consumed rest : List ℕ) (e : JsonParseError) (s : Stop) → IsUtf8 bytes → StopOf e s
+    → chars bytes ≡ consumed ++ rest → error_position e ≡ advance origin consumed
+    → (¬ (error_kind e ≡ kind.OutOfMemory) → RefusalSays limit (error_kind e) consumed rest)
+    → (¬ (error_kind e ≡ kind.OutOfMemory) → ¬ IsAccepted limit (chars bytes))
+    → IsStopped limit bytes s
+stopped limit bytes consumed rest e s text (inl (m, i)) whole place says refused = subst (IsStopped limit bytes) (sym i) text
+stopped limit bytes consumed rest e s text (inr (m, i)) whole place says refused = subst (IsStopped limit bytes) (sym i) (
+  text,
+  record {
+    consumed = consumed;
+    rest = rest;
+    whole = whole;
+    place = place;
+    says = says m;
+    not_for_memory = m;
+    refused = refused m;
+  },
+)
+
+stops_by : (limit : Option ℕ) (bytes : List ℕ) (s : Stop) (text : ℕ) → IsStopped limit bytes s
+    → Stops limit bytes text (stop_status s) (stop_place text s)
+stops_by limit bytes (stop.Refused e) text h = record {
+  refused = λ _. (h.0, error_kind e, error_position e, h.1, refl);
+  not_utf8 = λ i. cc;
+  memory = λ i. cc;
+  one_of = inl refl;
+}
+stops_by limit bytes (stop.NotUtf8 n) text h = record {
+  refused = λ i. cc;
+  not_utf8 = λ _. (h.0, ap (length_place text) h.1);
+  memory = λ i. cc;
+  one_of = inr (inl refl);
+}
+stops_by limit bytes stop.OutOfMemory text h = record {
+  refused = λ i. cc;
+  not_utf8 = λ i. cc;
+  memory = λ _. (h, refl);
+  one_of = inr (inr refl);
+}
+
+-- the status and the place are those of what stops the call
+pub stops : (limit : Option ℕ) (bytes : List ℕ) (s : Stop) (text status : ℕ) (p : TinyjsonPlace) → IsStopped limit bytes s
+    → status ≡ stop_status s → p ≡ stop_place text s → Stops limit bytes text status p
+stops limit bytes s text status p h i j = subst (λ q. Stops limit bytes text status q) (sym j)
+    (subst (λ n. Stops limit bytes text n (stop_place text s)) (sym i) (stops_by limit bytes s text h))

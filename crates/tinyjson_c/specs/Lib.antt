@@ -1,0 +1,8 @@
+-- Why a text is refused and where, as numbers.
+pub mod Place
+-- Why a call stops.
+pub mod Stop
+-- What a call writes into the caller's buffer.
+pub mod Buffer
+-- The message of an error at a place.
+pub mod Message

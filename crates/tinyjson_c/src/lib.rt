@@ -1,0 +1,185 @@
+//! `tinyjson` for C, and for what calls C: texts are bytes, answers are numbers, and what is written goes into the
+//! caller's buffer.
+#![tactic(auto)]
+
+ghost use Rattle.std.specs.Char.{IsScalar};
+ghost use Rattle.std.specs.Prelude.{◌≡◌, ◌≢◌, ◌<◌, ◌⊎◌, ◌↔◌, IsTrue, Some, codes, length};
+ghost use Rattle.std.specs.Prelude.{encode_utf8_all};
+ghost use Rattle.std.specs.Str.{IsUtf8, chars};
+ghost use Rattle.tinyjson.specs.Error.{JsonParseErrorKind};
+ghost use Rattle.tinyjson.specs.Words.{Tree, compact, indented};
+ghost use Rattle.tinyjson_c.specs.Buffer.{Fills, HasWritten, LacksRoom};
+ghost use Rattle.tinyjson_c.specs.Message.{error_words};
+ghost use Rattle.tinyjson_c.specs.Place.{IsError, length_place};
+ghost use Rattle.tinyjson_c.specs.Stop.{IsAcceptedText, IsTextOf, Stops};
+ghost use Rattle.tinyjson_normal.specs.Normal.{IsNormal};
+
+mod buffer;
+mod message;
+mod place;
+mod status;
+mod stop;
+mod text;
+
+use buffer::{fill, put};
+use message::{Message, kind_at};
+pub use place::TinyjsonPlace;
+pub use status::{NO_ERROR, NOT_UTF8, OK, OUT_OF_MEMORY, REFUSED, TOO_SMALL};
+use std::alloc::Global;
+use stop::text_of;
+
+/// Whether the bytes are a text with a value in which at most `depth` containers are open at once.
+#[unsafe(no_mangle)]
+pub extern "C" fn tinyjson_check(
+    alloc: Global,
+    text: &[u8],
+    depth: usize,
+    place: &mut TinyjsonPlace,
+) -> u32
+    ensures accepted { result ≡ OK → IsAcceptedText (Some depth) text.now
+        × (place.new ≡ length_place 0 0) }
+    ensures stopped { result ≢ OK → Stops (Some depth) text.now 0 result place.new }
+{
+    match text::check(alloc, text, depth) {
+        Ok(()) => {
+            *place = TinyjsonPlace::of_length(0, 0);
+            OK
+        }
+        Err(stop) => stop.put(0, place),
+    }
+}
+
+/// Writes the normal text of a text to the front of a buffer, if it has room there.
+#[unsafe(no_mangle)]
+pub extern "C" fn tinyjson_normal(
+    alloc: Global,
+    text: &[u8],
+    depth: usize,
+    buffer: &mut [u8],
+    place: &mut TinyjsonPlace,
+) -> u32
+    ensures written { result ≡ OK → (t : Tree) × IsTextOf (Some depth) text.now t
+        × HasWritten (encode_utf8_all (compact t)) buffer.old buffer.new place.new }
+    ensures too_small { result ≡ TOO_SMALL → (t : Tree) × IsTextOf (Some depth) text.now t
+        × LacksRoom (encode_utf8_all (compact t)) buffer.old place.new }
+    ensures stopped { result ≢ OK → result ≢ TOO_SMALL
+        → Stops (Some depth) text.now 0 result place.new }
+    ensures left { result ≢ OK → buffer.new ≡ buffer.old }
+{
+    match text::normal(alloc, text, depth) {
+        Ok(written) => put(&written, buffer, place),
+        Err(stop) => stop.put(0, place),
+    }
+}
+
+/// Writes the text of a text's value, indented with two spaces, to the front of a buffer, if it has room there.
+#[unsafe(no_mangle)]
+pub extern "C" fn tinyjson_indented(
+    alloc: Global,
+    text: &[u8],
+    depth: usize,
+    buffer: &mut [u8],
+    place: &mut TinyjsonPlace,
+) -> u32
+    ensures written { result ≡ OK → (t : Tree) × IsTextOf (Some depth) text.now t
+        × HasWritten (encode_utf8_all (indented t (codes "  ") 0)) buffer.old buffer.new place.new }
+    ensures too_small { result ≡ TOO_SMALL → (t : Tree) × IsTextOf (Some depth) text.now t
+        × LacksRoom (encode_utf8_all (indented t (codes "  ") 0)) buffer.old place.new }
+    ensures stopped { result ≢ OK → result ≢ TOO_SMALL
+        → Stops (Some depth) text.now 0 result place.new }
+    ensures left { result ≢ OK → buffer.new ≡ buffer.old }
+{
+    match text::indented(alloc, text, depth) {
+        Ok(written) => put(&written, buffer, place),
+        Err(stop) => stop.put(0, place),
+    }
+}
+
+/// Whether the bytes are a normal text, which a text without a value is not.
+#[unsafe(no_mangle)]
+pub extern "C" fn tinyjson_is_normal(alloc: Global, text: &[u8], is_normal: &mut bool) -> u32
+    ensures answered { result ≡ OK → IsUtf8 text.now
+        × (IsTrue is_normal.new ↔ IsNormal (chars text.now)) }
+    ensures not_utf8 { result ≡ NOT_UTF8 → ¬ IsUtf8 text.now }
+    ensures memory { result ≡ OUT_OF_MEMORY → IsUtf8 text.now }
+    ensures status { (result ≡ OK) ⊎ ((result ≡ NOT_UTF8) ⊎ (result ≡ OUT_OF_MEMORY)) }
+    ensures left { result ≢ OK → is_normal.new ≡ is_normal.old }
+{
+    let Ok(text) = text_of(text) else {
+        return NOT_UTF8;
+    };
+    match tinyjson_normal::is_normal(alloc, text) {
+        Ok(answer) => {
+            *is_normal = answer;
+            OK
+        }
+        Err(_) => OUT_OF_MEMORY,
+    }
+}
+
+/// Whether two texts have equal values. Where one has none, the place says which.
+#[unsafe(no_mangle)]
+pub extern "C" fn tinyjson_equal(
+    alloc: Global,
+    first: &[u8],
+    second: &[u8],
+    depth: usize,
+    equal: &mut bool,
+    place: &mut TinyjsonPlace,
+) -> u32
+    ensures answered { result ≡ OK → (t : Tree) × IsTextOf (Some depth) first.now t
+        × (u : Tree) × IsTextOf (Some depth) second.now u × (IsTrue equal.new ↔ (t ≡ u))
+        × (place.new ≡ length_place 0 0) }
+    ensures stopped { result ≢ OK → Stops (Some depth) first.now 0 result place.new
+        ⊎ (IsAcceptedText (Some depth) first.now
+        × Stops (Some depth) second.now 1 result place.new) }
+    ensures left { result ≢ OK → equal.new ≡ equal.old }
+{
+    let one = match text::normal(alloc, first, depth) {
+        Ok(written) => written,
+        Err(stop) => return stop.put(0, place),
+    };
+    let other = match text::normal(alloc, second, depth) {
+        Ok(written) => written,
+        Err(stop) => return stop.put(1, place),
+    };
+    *equal = one.as_slice() == other.as_slice();
+    *place = TinyjsonPlace::of_length(0, 0);
+    OK
+}
+
+/// Writes the message of the error that has this place to the front of a buffer, if it has room there.
+#[unsafe(no_mangle)]
+pub extern "C" fn tinyjson_message(
+    alloc: Global,
+    place: &TinyjsonPlace,
+    buffer: &mut [u8],
+    needed: &mut usize,
+) -> u32
+    ensures written { result ≡ OK → (k : JsonParseErrorKind) × IsError place.now k
+        × Fills (error_words k place.now.line place.now.column) buffer.old buffer.new
+        × (needed.new ≡ length (error_words k place.now.line place.now.column)) }
+    ensures too_small { result ≡ TOO_SMALL → (k : JsonParseErrorKind) × IsError place.now k
+        × (length buffer.old < length (error_words k place.now.line place.now.column))
+        × (needed.new ≡ length (error_words k place.now.line place.now.column)) }
+    ensures no_error { result ≡ NO_ERROR → IsScalar place.now.found
+        → (k : JsonParseErrorKind) → ¬ IsError place.now k }
+    ensures status { (result ≡ OK) ⊎ ((result ≡ TOO_SMALL) ⊎ ((result ≡ NO_ERROR)
+        ⊎ (result ≡ OUT_OF_MEMORY))) }
+    ensures left { result ≢ OK → buffer.new ≡ buffer.old }
+    ensures not_needed { result ≢ OK → result ≢ TOO_SMALL → needed.new ≡ needed.old }
+{
+    let Some(kind) = kind_at(place) else {
+        return NO_ERROR;
+    };
+    let message = Message {
+        kind,
+        line: place.line,
+        column: place.column,
+    };
+    let Ok(words) = message.to_string(alloc) else {
+        return OUT_OF_MEMORY;
+    };
+    *needed = words.len();
+    fill(words.as_bytes(), buffer)
+}

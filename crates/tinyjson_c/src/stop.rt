@@ -1,0 +1,66 @@
+//! Why there is no answer for a text.
+ghost use Rattle.std.specs.Prelude.{◌≡◌, MatchResult};
+ghost use Rattle.std.specs.Str.{IsUtf8};
+ghost use Rattle.std.specs.Str.Lossy.{utf8_valid_len};
+ghost use Rattle.tinyjson_c.specs.Stop.{StopOf, stop_place, stop_status};
+
+use crate::place::TinyjsonPlace;
+use crate::status::{NOT_UTF8, OUT_OF_MEMORY, REFUSED};
+use std::str;
+use tinyjson::JsonParseError;
+
+/// Why there is no answer for a text.
+#[derive(Clone, Copy)]
+pub(crate) enum Stop {
+    /// It has no value.
+    Refused(JsonParseError),
+    /// It is not UTF-8. So many bytes precede the fault.
+    NotUtf8(usize),
+    /// Memory ran out.
+    OutOfMemory,
+}
+
+impl Stop {
+    /// What an error of the parser means.
+    pub(crate) fn of(error: JsonParseError) -> Stop
+        ensures { StopOf error result }
+    {
+        if error.is_out_of_memory() {
+            Stop::OutOfMemory
+        } else {
+            Stop::Refused(error)
+        }
+    }
+
+    /// Puts the place of the call's text of this number, and returns the status.
+    pub(crate) fn put(self, text: usize, place: &mut TinyjsonPlace) -> u32
+        ensures status { result ≡ stop_status self }
+        ensures place { place.new ≡ stop_place text self }
+    {
+        match self {
+            Stop::Refused(error) => {
+                *place = TinyjsonPlace::of_error(text, &error);
+                REFUSED
+            }
+            Stop::NotUtf8(length) => {
+                *place = TinyjsonPlace::of_length(text, length);
+                NOT_UTF8
+            }
+            Stop::OutOfMemory => {
+                *place = TinyjsonPlace::of_memory(text);
+                OUT_OF_MEMORY
+            }
+        }
+    }
+}
+
+/// The bytes as a text.
+pub(crate) fn text_of(bytes: &[u8]) -> Result<&str, Stop>
+    ensures { MatchResult result (λ s. (s.now ≡ bytes.now) × IsUtf8 bytes.now)
+        (λ s. ¬ IsUtf8 bytes.now × (s ≡ Stop.NotUtf8 (utf8_valid_len bytes.now))) }
+{
+    match str::from_utf8(bytes) {
+        Ok(text) => Ok(text),
+        Err(error) => Err(Stop::NotUtf8(error.valid_up_to())),
+    }
+}

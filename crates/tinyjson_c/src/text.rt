@@ -1,0 +1,73 @@
+//! Texts that are read, and what is written of them.
+ghost use Rattle.std.specs.Prelude.{◌≡◌, IfErr, IfOk, MatchResult, Some, codes, encode_utf8_all};
+ghost use Rattle.tinyjson.specs.Words.{Tree, compact, indented};
+ghost use Rattle.tinyjson_c.specs.Stop.{IsAcceptedText, IsStopped, IsTextOf};
+ghost use Rattle.tinyjson_normal.specs.Normal.{HasTree};
+
+use crate::stop::{Stop, text_of};
+use std::alloc::Global;
+use tinyjson::check_with_depth_limit;
+use tinyjson_normal::NormalText;
+
+/// Reads a text in which at most `depth` containers are open at once, and keeps nothing.
+pub(crate) fn check(alloc: Global, bytes: &[u8], depth: usize) -> Result<(), Stop>
+    ensures { MatchResult result (λ _. IsAcceptedText (Some depth) bytes.now)
+        (IsStopped (Some depth) bytes.now) }
+{
+    let text = match text_of(bytes) {
+        Ok(text) => text,
+        Err(stop) => return Err(stop),
+    };
+    match check_with_depth_limit(alloc, text, depth) {
+        Ok(()) => Ok(()),
+        Err(error) => Err(Stop::of(error)),
+    }
+}
+
+/// Reads a text in which at most `depth` containers are open at once.
+fn read(alloc: Global, bytes: &[u8], depth: usize) -> Result<NormalText, Stop>
+    ensures { MatchResult result (λ n. (t : Tree) × IsTextOf (Some depth) bytes.now t × HasTree n t)
+        (IsStopped (Some depth) bytes.now) }
+{
+    let text = match text_of(bytes) {
+        Ok(text) => text,
+        Err(stop) => return Err(stop),
+    };
+    match NormalText::read_with_depth_limit(alloc, text, depth) {
+        Ok(normal) => Ok(normal),
+        Err(error) => Err(Stop::of(error)),
+    }
+}
+
+/// The normal text of a text.
+pub(crate) fn normal(alloc: Global, bytes: &[u8], depth: usize) -> Result<Vec<u8>, Stop>
+    ensures { MatchResult result (λ v. (t : Tree) × IsTextOf (Some depth) bytes.now t
+        × (v.items ≡ encode_utf8_all (compact t))) (IsStopped (Some depth) bytes.now) }
+{
+    let text = match read(alloc, bytes, depth) {
+        Ok(text) => text,
+        Err(stop) => return Err(stop),
+    };
+    let mut written = Vec::new(alloc);
+    match text.write_to(alloc, &mut written) {
+        Ok(()) => Ok(written),
+        Err(_) => Err(Stop::OutOfMemory),
+    }
+}
+
+/// The text of a text's value, indented with two spaces.
+pub(crate) fn indented(alloc: Global, bytes: &[u8], depth: usize) -> Result<Vec<u8>, Stop>
+    ensures { MatchResult result (λ v. (t : Tree) × IsTextOf (Some depth) bytes.now t
+        × (v.items ≡ encode_utf8_all (indented t (codes "  ") 0)))
+        (IsStopped (Some depth) bytes.now) }
+{
+    let text = match read(alloc, bytes, depth) {
+        Ok(text) => text,
+        Err(stop) => return Err(stop),
+    };
+    let mut written = Vec::new(alloc);
+    match text.format_to(alloc, &mut written) {
+        Ok(()) => Ok(written),
+        Err(_) => Err(Stop::OutOfMemory),
+    }
+}
