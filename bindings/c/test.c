@@ -298,6 +298,9 @@ int main(int argc, char **argv) {
         count(&counts[0], survives(tinyjson_normal, &rows[i]), "refused memory", &rows[i]);
         count(&counts[0], survives(tinyjson_indented, &rows[i]), "refused memory", &rows[i]);
     }
+    static uint8_t words[] = "Out of memory";
+    struct row memory = {.message = {words, sizeof words - 1}, .place = {.kind = TINYJSON_NO_MEMORY}};
+    count(&counts[0], has_message(&memory), "message of refused memory", &memory);
     pthread_t threads[THREADS];
     for (int i = 0; i < THREADS; i++) {
         counts[i + 1] = (struct counts){rows, length, 0, 0};

@@ -1,4 +1,4 @@
--- From errors of the parser to what a call answers.
+-- What a call answers that stops.
 pub mod Stopping
 -- Equal normal texts.
 pub mod Equal

@@ -1,38 +1,13 @@
--- From errors of the parser to what a call answers.
-use Rattle.std.proofs.Common.{◌≡◌, ℕ, List, ◌++◌, Option, inl, inr, sym, ap, subst, refl}
-use Rattle.std.specs.Str.{IsUtf8, chars}
+-- What a call answers that stops.
+use Rattle.std.proofs.Common.{◌≡◌, ℕ, List, Option, inl, inr, sym, ap, subst, refl}
 use Rattle.tinyjson.specs.Error.{error_kind, error_position}
-use Rattle.tinyjson.specs.declared.parser.error.JsonParseError.{JsonParseError}
 use Rattle.tinyjson_c.specs.Place.{length_place}
-use Rattle.tinyjson_c.specs.Stop.{IsStopped, StopOf, Stops, stop_place, stop_status}
+use Rattle.tinyjson_c.specs.Stop.{IsStopped, Stops, stop_place, stop_status}
 use Rattle.tinyjson_c.specs.declared.place.TinyjsonPlace.{TinyjsonPlace}
 use Rattle.tinyjson_c.specs.declared.stop.Stop.{Stop}
 use Rattle.tinyjson_c.specs.declared.stop.Stop.TheVariants as stop
-use Rattle.tinyjson_grammar.specs.Grammar.{IsAccepted}
-use Rattle.tinyjson_grammar.specs.Position.{origin, advance}
-use Rattle.tinyjson_grammar.specs.Refusal.{RefusalSays}
-use Rattle.tinyjson_grammar.specs.declared.error.JsonParseErrorKind.TheVariants as kind
 
--- an error of the parser stops a call
-pub stopped : (limit : Option ℕ) (bytes consumed rest : List ℕ) (e : JsonParseError) (s : Stop) → IsUtf8 bytes → StopOf e s
-    → chars bytes ≡ consumed ++ rest → error_position e ≡ advance origin consumed
-    → (¬ (error_kind e ≡ kind.OutOfMemory) → RefusalSays limit (error_kind e) consumed rest)
-    → (¬ (error_kind e ≡ kind.OutOfMemory) → ¬ IsAccepted limit (chars bytes))
-    → IsStopped limit bytes s
-stopped limit bytes consumed rest e s text (inl (m, i)) whole place says refused = subst (IsStopped limit bytes) (sym i) text
-stopped limit bytes consumed rest e s text (inr (m, i)) whole place says refused = subst (IsStopped limit bytes) (sym i) (
-  text,
-  record {
-    consumed = consumed;
-    rest = rest;
-    whole = whole;
-    place = place;
-    says = says m;
-    not_for_memory = m;
-    refused = refused m;
-  },
-)
-
+-- what stops a call, by its own status and place
 stops_by : (limit : Option ℕ) (bytes : List ℕ) (s : Stop) (text : ℕ) → IsStopped limit bytes s
     → Stops limit bytes text (stop_status s) (stop_place text s)
 stops_by limit bytes (stop.Refused e) text h = record {

@@ -12,6 +12,7 @@ ghost use Rattle.tinyjson_c.specs.Buffer.{Fills, HasWritten, LacksRoom};
 ghost use Rattle.tinyjson_c.specs.Message.{error_words};
 ghost use Rattle.tinyjson_c.specs.Place.{IsError, length_place};
 ghost use Rattle.tinyjson_c.specs.Stop.{IsAcceptedText, IsTextOf, Stops};
+ghost use Rattle.tinyjson_grammar.specs.Refusal.{MayGrow};
 ghost use Rattle.tinyjson_normal.specs.Normal.{IsNormal};
 
 mod buffer;
@@ -39,6 +40,7 @@ pub extern "C" fn tinyjson_check(
     ensures accepted { result ≡ OK → IsAcceptedText (Some depth) text.now
         × (place.new ≡ length_place 0 0) }
     ensures stopped { result ≢ OK → Stops (Some depth) text.now 0 result place.new }
+    ensures memory { result ≡ OUT_OF_MEMORY → MayGrow (chars text.now) }
 {
     match text::check(alloc, text, depth) {
         Ok(()) => {

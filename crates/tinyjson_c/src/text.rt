@@ -1,7 +1,9 @@
 //! Texts that are read, and what is written of them.
 ghost use Rattle.std.specs.Prelude.{◌≡◌, IfErr, IfOk, MatchResult, Some, codes, encode_utf8_all};
+ghost use Rattle.std.specs.Str.{chars};
 ghost use Rattle.tinyjson.specs.Words.{Tree, compact, indented};
 ghost use Rattle.tinyjson_c.specs.Stop.{IsAcceptedText, IsStopped, IsTextOf};
+ghost use Rattle.tinyjson_grammar.specs.Refusal.{MayGrow};
 ghost use Rattle.tinyjson_normal.specs.Normal.{HasTree};
 
 use crate::stop::{Stop, text_of};
@@ -11,8 +13,9 @@ use tinyjson_normal::NormalText;
 
 /// Reads a text in which at most `depth` containers are open at once, and keeps nothing.
 pub(crate) fn check(alloc: Global, bytes: &[u8], depth: usize) -> Result<(), Stop>
-    ensures { MatchResult result (λ _. IsAcceptedText (Some depth) bytes.now)
+    ensures answer { MatchResult result (λ _. IsAcceptedText (Some depth) bytes.now)
         (IsStopped (Some depth) bytes.now) }
+    ensures memory { result ≡ Err Stop.OutOfMemory → MayGrow (chars bytes.now) }
 {
     let text = match text_of(bytes) {
         Ok(text) => text,
