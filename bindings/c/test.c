@@ -1,4 +1,4 @@
-/* The rows of a file, by the calls of tinyjson.h: each answer, each size of the buffer from 0 to one more than is
+/* The rows of two files, by the calls of tinyjson.h: each answer, each size of the buffer from 0 to one more than is
  * needed, each allocation refused in turn, and four threads at once. The last line is 'N passed, M failed'. */
 #include <pthread.h>
 #include <stdio.h>
@@ -29,7 +29,7 @@ static void *granted_realloc(void *place, size_t size) {
 #undef realloc
 
 /* The sizes of a buffer that are all tried; of longer answers only those near 0 and near what is needed. */
-enum { ALL_SIZES = 300, GUARD = 16, GUARD_BYTE = 0xa5, THREADS = 4, FIELDS = 10 };
+enum { ALL_SIZES = 300, GUARD = 16, GUARD_BYTE = 0xa5, THREADS = 4, FIELDS = 10, PART_FIELDS = 5 };
 
 struct bytes {
     uint8_t *at;
@@ -106,6 +106,25 @@ static bool writes_all_sizes(writes *call, const struct row *row, struct bytes e
         uint32_t status = call(row->text.at, row->text.length, row->depth, room == 0 ? NULL : buffer, room, &place);
         bool is_right = status == (has_room ? TINYJSON_OK : TINYJSON_TOO_SMALL)
             && is_same_place(place, of_length(expected.length)) && is_filled(buffer, room, expected, has_room);
+        free(buffer);
+        if (!is_right) {
+            return false;
+        }
+    }
+    return true;
+}
+
+/* The status of a part, its normal text, and how much of the pointer is UTF-8. */
+static bool has_part(struct bytes text, struct bytes pointer, uint32_t expected, struct bytes part, size_t valid) {
+    struct tinyjson_place other = {.length = valid, .text = expected == TINYJSON_NOT_FOUND ? 0 : 1};
+    for (size_t room = 0; room <= part.length + 1; room++) {
+        bool is_found = expected == TINYJSON_OK, has_room = is_found && room >= part.length;
+        struct tinyjson_place place = {.kind = 99};
+        uint8_t *buffer = guarded(room);
+        uint32_t status = tinyjson_part(text.at, text.length, pointer.at, pointer.length, 9, buffer, room, &place);
+        bool is_right = status == (is_found && !has_room ? (uint32_t)TINYJSON_TOO_SMALL : expected)
+            && is_same_place(place, is_found ? of_length(part.length) : other)
+            && is_filled(buffer, room, part, has_room);
         free(buffer);
         if (!is_right) {
             return false;
@@ -260,15 +279,30 @@ static struct bytes of_hex(const char *digits) {
     return bytes;
 }
 
-/* The row of a line: its text, the limit, the normal text, the indented text, and the place with the message. */
-static struct row row_of(char *line) {
-    char *fields[FIELDS];
-    for (int i = 0; i < FIELDS; i++) {
+static void split(char *line, char **fields, int length) {
+    for (int i = 0; i < length; i++) {
         fields[i] = strsep(&line, "\t\n");
         if (fields[i] == NULL) {
             abort();
         }
     }
+}
+
+/* A line: a text, a pointer, the status, the part and a length. */
+static void check_part(struct counts *counts, char *line) {
+    char *fields[PART_FIELDS];
+    split(line, fields, PART_FIELDS);
+    struct bytes text = of_hex(fields[0]), pointer = of_hex(fields[1]), part = of_hex(fields[3]);
+    struct row row = {.text = pointer};
+    uint32_t status = (uint32_t)strtoul(fields[2], NULL, 10);
+    count(counts, has_part(text, pointer, status, part, strtoul(fields[4], NULL, 10)), "part", &row);
+    free(text.at), free(pointer.at), free(part.at);
+}
+
+/* The row of a line: its text, the limit, the normal text, the indented text, and the place with the message. */
+static struct row row_of(char *line) {
+    char *fields[FIELDS];
+    split(line, fields, FIELDS);
     struct row row = {of_hex(fields[0]), of_hex(fields[2]), of_hex(fields[3]), of_hex(fields[9]),
                       strtoul(fields[1], NULL, 10), {0}};
     row.place = (struct tinyjson_place){.kind = (uint32_t)strtoul(fields[4], NULL, 10),
@@ -280,8 +314,8 @@ static struct row row_of(char *line) {
 }
 
 int main(int argc, char **argv) {
-    FILE *file = argc == 2 ? fopen(argv[1], "r") : NULL;
-    if (file == NULL) {
+    FILE *file = argc == 3 ? fopen(argv[1], "r") : NULL, *parts = argc == 3 ? fopen(argv[2], "r") : NULL;
+    if (file == NULL || parts == NULL) {
         return 2;
     }
     static struct row rows[4096];
@@ -290,9 +324,12 @@ int main(int argc, char **argv) {
     while (length < 4096 && getline(&line, &size, file) > 0) {
         rows[length++] = row_of(line);
     }
-    free(line);
-    fclose(file);
     struct counts counts[THREADS + 1] = {{rows, length, 0, 0}};
+    while (getline(&line, &size, parts) > 0) {
+        check_part(&counts[0], line);
+    }
+    free(line);
+    fclose(file), fclose(parts);
     check_rows(&counts[0]);
     for (size_t i = 0; i < length; i++) {
         count(&counts[0], survives(tinyjson_normal, &rows[i]), "refused memory", &rows[i]);

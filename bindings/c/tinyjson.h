@@ -24,7 +24,9 @@ enum tinyjson_status {
     TINYJSON_NOT_UTF8 = 2,      /* the bytes are not UTF-8: the place has the length of what precedes the fault */
     TINYJSON_OUT_OF_MEMORY = 3, /* the text may have a value or not */
     TINYJSON_TOO_SMALL = 4,     /* the buffer has no room, and is left alone: the place has the length needed */
-    TINYJSON_NO_ERROR = 5       /* no error has this place */
+    TINYJSON_NO_ERROR = 5,      /* no error has this place */
+    TINYJSON_NOT_FOUND = 6,     /* the pointer names no part */
+    TINYJSON_BAD_POINTER = 7    /* a pointer is empty, or begins with '/' and has '~' only in "~0" and "~1" */
 };
 
 /* Why a text is refused. Those with a character name it in `found`. */
@@ -67,7 +69,7 @@ struct tinyjson_place {
     size_t line;    /* from 1 on */
     size_t column;  /* how many characters were consumed after the last line feed */
     size_t length;  /* how many bytes the answer has, or precede what is not UTF-8 */
-    size_t text;    /* which text of the call: 1 for the second one of tinyjson_equal */
+    size_t text;    /* which text of the call: 1 for the second one of tinyjson_equal, and for a pointer */
 };
 
 /* Whether the text has a value: OK, or why not. */
@@ -87,6 +89,10 @@ uint32_t tinyjson_is_normal(const uint8_t *text, size_t length, bool *is_normal)
 /* Whether two texts have equal values. */
 uint32_t tinyjson_equal(const uint8_t *first, size_t first_length, const uint8_t *second, size_t second_length,
                         size_t depth, bool *equal, struct tinyjson_place *place);
+
+/* The normal text of the part that a JSON pointer (RFC 6901) names, into the buffer. */
+uint32_t tinyjson_part(const uint8_t *text, size_t length, const uint8_t *pointer, size_t pointer_length, size_t depth,
+                       uint8_t *buffer, size_t room, struct tinyjson_place *place);
 
 /* The message of the error at a place, into the buffer, and its length. */
 uint32_t tinyjson_message(const struct tinyjson_place *place, uint8_t *buffer, size_t room, size_t *length);

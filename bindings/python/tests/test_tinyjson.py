@@ -15,12 +15,16 @@ import tinyjson  # noqa: E402
 FEW = "5b315d\t9\t5b315d\t\t0\t0\t0\t0\t0\t\nff\t9\t\t\t0\t0\t0\t0\t0\t\n"
 
 
+def lines(name, few):
+    """The fields of each line of a file of rows."""
+    folder = os.environ.get("TINYJSON_ROWS")
+    file = pathlib.Path(folder, name).read_text() if folder else few
+    return [line.split("\t") for line in file.splitlines()]
+
+
 def rows():
     """A text, its limit, its normal and its indented text, the numbers of its place, and the message."""
-    path = os.environ.get("TINYJSON_ROWS")
-    file = pathlib.Path(path).read_text() if path else FEW
-    for line in file.splitlines():
-        text, depth, normal, indented, *numbers, message = line.split("\t")
+    for text, depth, normal, indented, *numbers, message in lines("rows.txt", FEW):
         words = [bytes.fromhex(it).decode() for it in (normal, indented, message)]
         yield bytes.fromhex(text), int(depth), *words[:2], [*map(int, numbers)], words[2]
 
@@ -85,6 +89,26 @@ class Rows(unittest.TestCase):
         for thread in threads:
             thread.join()
         self.assertEqual(failures, [])
+
+
+class Parts(unittest.TestCase):
+    def test_each_part(self):
+        for text, pointer, status, part, _ in lines("parts.txt", "5b315d\t2f30\t0\t31\t0"):
+            text, pointer, part = map(bytes.fromhex, (text, pointer, part))
+            with self.subTest(pointer=pointer):
+                if status == "2":
+                    with self.assertRaises(tinyjson.NotUtf8) as raised:
+                        tinyjson.part(text, pointer)
+                    self.assertTrue(raised.exception.is_second)
+                elif status == "7":
+                    self.assertRaises(tinyjson.BadPointer, tinyjson.part, text, pointer.decode())
+                else:
+                    found = None if status == "6" else part
+                    self.assertEqual(tinyjson.part(text, pointer.decode()), found)
+                    self.assertEqual(tinyjson.part(text.decode(), pointer.decode()), found and found.decode())
+
+    def test_a_refused_text(self):
+        self.assertRaises(tinyjson.Refused, tinyjson.part, "[1,]", "")
 
 
 class Arguments(unittest.TestCase):

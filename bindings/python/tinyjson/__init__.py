@@ -12,16 +12,17 @@ import ctypes
 import enum
 import os
 import pathlib
-from typing import Callable, Union, overload
+from typing import Any, Callable, Optional, Union, overload
 
-__all__ = ["DEPTH", "Error", "Kind", "NotUtf8", "Refused", "Value", "check", "equal", "indented", "is_normal", "normal"]
+__all__ = ["DEPTH", "BadPointer", "Error", "Kind", "NotUtf8", "Refused", "Value"]
+__all__ += ["check", "equal", "indented", "is_normal", "normal", "part"]
 
 Text = Union[str, bytes]
 
 #: The limit on depth that calls have by default.
 DEPTH = 1000
 
-_OK, _REFUSED, _NOT_UTF8, _OUT_OF_MEMORY, _TOO_SMALL, _NO_ERROR = range(6)
+_OK, _REFUSED, _NOT_UTF8, _OUT_OF_MEMORY, _TOO_SMALL, _NO_ERROR, _NOT_FOUND, _BAD_POINTER = range(8)
 
 
 class Kind(enum.IntEnum):
@@ -59,7 +60,7 @@ class Value(enum.IntEnum):
 
 
 class Error(ValueError):
-    """A text has no value. `is_second` says that it is the second one of `equal`."""
+    """A text has no value. `is_second`: it is the second one of `equal`, or the pointer of `part`."""
 
     def __init__(self, message: str, is_second: bool) -> None:
         super().__init__(message)
@@ -83,6 +84,10 @@ class NotUtf8(Error):
     def __init__(self, valid_up_to: int, is_second: bool) -> None:
         super().__init__(f"Not UTF-8 after {valid_up_to} bytes", is_second)
         self.valid_up_to = valid_up_to
+
+
+class BadPointer(ValueError):
+    """The pointer of `part` is no JSON pointer."""
 
 
 class _Place(ctypes.Structure):
@@ -120,6 +125,7 @@ _normal = _call("tinyjson_normal", _bytes, _size, _size, _bytes, _size, _place)
 _indented = _call("tinyjson_indented", _bytes, _size, _size, _bytes, _size, _place)
 _is_normal = _call("tinyjson_is_normal", _bytes, _size, ctypes.POINTER(ctypes.c_bool))
 _equal = _call("tinyjson_equal", _bytes, _size, _bytes, _size, _size, ctypes.POINTER(ctypes.c_bool), _place)
+_part = _call("tinyjson_part", _bytes, _size, _bytes, _size, _size, _bytes, _size, _place)
 _words = _call("tinyjson_message", _place, _bytes, _size, ctypes.POINTER(_size))
 
 
@@ -158,21 +164,31 @@ def _raise(status: int, place: _Place) -> None:
         raise Refused(place)
     if status == _NOT_UTF8:
         raise NotUtf8(place.length, place.text == 1)
+    if status == _BAD_POINTER:
+        raise BadPointer("not a JSON pointer")
     if status != _OK:
         raise MemoryError("tinyjson")
 
 
-def _written(call: Callable[..., int], text: Text, depth: int) -> bytes:
-    """What a call writes, into a buffer that grows to what the call asks for."""
-    data, place = _encoded(text), _Place()
-    room = len(data)
+def _written(call: Callable[..., int], depth: int, *texts: Text) -> Optional[bytes]:
+    """What a call writes, into a buffer that grows to what the call asks for, or None if there is no such part."""
+    data, place = [_encoded(it) for it in texts], _Place()
+    given = [it for text in data for it in (text, len(text))]
+    room = len(data[0])
     while True:
         buffer = ctypes.create_string_buffer(room)
-        status = call(data, len(data), _limit(depth), buffer, room, place)
+        status = call(*given, _limit(depth), buffer, room, place)
+        if status == _NOT_FOUND:
+            return None
         if status != _TOO_SMALL:
             _raise(status, place)
             return ctypes.string_at(buffer, place.length)
         room = place.length
+
+
+def _like(text: Text, written: Optional[bytes]) -> Any:
+    """What was written, in the type of the text."""
+    return written.decode() if isinstance(text, str) and written is not None else written
 
 
 def check(text: Text, depth: int = DEPTH) -> None:
@@ -187,8 +203,7 @@ def normal(text: str, depth: int = ...) -> str: ...
 def normal(text: bytes, depth: int = ...) -> bytes: ...
 def normal(text: Text, depth: int = DEPTH) -> Text:
     """The one compact text of the text's value: its keys are sorted, and each number has one spelling."""
-    written = _written(_normal, text, depth)
-    return written.decode() if isinstance(text, str) else written
+    return _like(text, _written(_normal, depth, text))
 
 
 @overload
@@ -197,8 +212,20 @@ def indented(text: str, depth: int = ...) -> str: ...
 def indented(text: bytes, depth: int = ...) -> bytes: ...
 def indented(text: Text, depth: int = DEPTH) -> Text:
     """The text of the text's value, indented with two spaces."""
-    written = _written(_indented, text, depth)
-    return written.decode() if isinstance(text, str) else written
+    return _like(text, _written(_indented, depth, text))
+
+
+@overload
+def part(text: str, pointer: str, depth: int = ...) -> Optional[str]: ...
+@overload
+def part(text: bytes, pointer: str, depth: int = ...) -> Optional[bytes]: ...
+def part(text: Text, pointer: str, depth: int = DEPTH) -> Optional[Text]:
+    """The normal text of the part that a JSON pointer (RFC 6901) names, or None.
+
+    >>> part('{"a": [1.50, true]}', "/a/0")
+    '1.5'
+    """
+    return _like(text, _written(_part, depth, text, pointer))
 
 
 def is_normal(text: Text) -> bool:

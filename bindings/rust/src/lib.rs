@@ -73,11 +73,13 @@ pub enum Error {
         line: usize,
         /// How many characters were consumed after the last line feed.
         column: usize,
-        /// Whether this is the second text of [`equal`].
+        /// Whether this is the second text of [`equal`], or the pointer of [`part`].
         is_second: bool,
     },
     /// The bytes are not UTF-8 after `valid_up_to` of them.
     NotUtf8 { valid_up_to: usize, is_second: bool },
+    /// The pointer of [`part`] is no JSON pointer.
+    BadPointer,
     /// Memory ran out. The text may have a value or not.
     OutOfMemory,
 }
@@ -101,6 +103,7 @@ impl fmt::Display for Error {
                 f.write_str(sys::message(&place).as_deref().unwrap_or("Parse error"))
             }
             Error::NotUtf8 { valid_up_to, .. } => write!(f, "Not UTF-8 after {valid_up_to} bytes"),
+            Error::BadPointer => f.write_str("Not a JSON pointer"),
             Error::OutOfMemory => f.write_str("Out of memory"),
         }
     }
@@ -127,7 +130,7 @@ pub fn check(text: impl AsRef<[u8]>, depth: usize) -> Result<(), Error> {
 /// # Ok::<(), tinyjson_proved::Error>(())
 /// ```
 pub fn normal(text: impl AsRef<[u8]>, depth: usize) -> Result<String, Error> {
-    written(sys::tinyjson_normal, text.as_ref(), depth, 0)
+    whole(sys::tinyjson_normal, text.as_ref(), depth)
 }
 
 /// The text of the text's value, indented with two spaces.
@@ -137,7 +140,7 @@ pub fn normal(text: impl AsRef<[u8]>, depth: usize) -> Result<String, Error> {
 /// # Ok::<(), tinyjson_proved::Error>(())
 /// ```
 pub fn indented(text: impl AsRef<[u8]>, depth: usize) -> Result<String, Error> {
-    written(sys::tinyjson_indented, text.as_ref(), depth, 0)
+    whole(sys::tinyjson_indented, text.as_ref(), depth)
 }
 
 /// Whether the text is its own normal text. One that has no value is not.
@@ -171,24 +174,49 @@ pub fn equal(
     answer(status, &place).map(|()| is_equal)
 }
 
-/// What a call writes, into a buffer that grows to what the call asks for.
-fn written(call: sys::Writes, text: &[u8], depth: usize, mut room: usize) -> Result<String, Error> {
-    room = room.max(text.len());
+/// The normal text of the part of a text that a JSON pointer (RFC 6901) names, if there is one.
+///
+/// ```
+/// let text = r#"{"a/b": [1, {"c": 2.50}]}"#;
+/// assert_eq!(tinyjson_proved::part(text, "/a~1b/1", 9)?.as_deref(), Some(r#"{"c":2.5}"#));
+/// assert_eq!(tinyjson_proved::part(text, "/a", 9)?, None);
+/// # Ok::<(), tinyjson_proved::Error>(())
+/// ```
+pub fn part(text: impl AsRef<[u8]>, pointer: &str, depth: usize) -> Result<Option<String>, Error> {
+    let (text, pointer) = (text.as_ref(), pointer.as_bytes());
+    written(text.len(), |buffer| sys::part(text, pointer, depth, buffer))
+}
+
+/// What a call writes, into a buffer that grows to what the call asks for, or nothing if there is no such part.
+fn written(
+    mut room: usize,
+    call: impl Fn(&mut [u8]) -> (Status, Place),
+) -> Result<Option<String>, Error> {
     loop {
         let mut buffer = Vec::new();
         buffer
             .try_reserve_exact(room)
             .map_err(|_| Error::OutOfMemory)?;
         buffer.resize(room, 0);
-        let (status, place) = sys::write(call, text, depth, &mut buffer);
-        if status == Status::TOO_SMALL {
-            room = place.length;
-            continue;
+        let (status, place) = call(&mut buffer);
+        match status {
+            Status::TOO_SMALL => room = place.length,
+            Status::NOT_FOUND => return Ok(None),
+            _ => {
+                answer(status, &place)?;
+                buffer.truncate(place.length);
+                return String::from_utf8(buffer)
+                    .map(Some)
+                    .map_err(|_| Error::OutOfMemory);
+            }
         }
-        answer(status, &place)?;
-        buffer.truncate(place.length);
-        return String::from_utf8(buffer).map_err(|_| Error::OutOfMemory);
     }
+}
+
+/// What a call writes that has an answer for each text with a value.
+fn whole(call: sys::Writes, text: &[u8], depth: usize) -> Result<String, Error> {
+    let text = written(text.len(), |buffer| sys::write(call, text, depth, buffer))?;
+    Ok(text.unwrap_or_default())
 }
 
 fn not_utf8(text: &[u8], is_second: bool) -> Error {
@@ -208,6 +236,7 @@ fn answer(status: Status, place: &Place) -> Result<(), Error> {
             valid_up_to: place.length,
             is_second,
         }),
+        Status::BAD_POINTER => Err(Error::BadPointer),
         Status::REFUSED => match kind(place.kind, place.found) {
             Some(kind) => Err(Error::Refused {
                 kind,

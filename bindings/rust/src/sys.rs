@@ -10,6 +10,8 @@ impl Status {
     pub(crate) const REFUSED: Status = Status(1);
     pub(crate) const NOT_UTF8: Status = Status(2);
     pub(crate) const TOO_SMALL: Status = Status(4);
+    pub(crate) const NOT_FOUND: Status = Status(6);
+    pub(crate) const BAD_POINTER: Status = Status(7);
 }
 
 /// What a call answers besides its status.
@@ -54,6 +56,16 @@ extern "C" {
         second_length: usize,
         depth: usize,
         equal: *mut bool,
+        place: *mut Place,
+    ) -> Status;
+    fn tinyjson_part(
+        text: *const u8,
+        length: usize,
+        pointer: *const u8,
+        pointer_length: usize,
+        depth: usize,
+        buffer: *mut u8,
+        room: usize,
         place: *mut Place,
     ) -> Status;
     fn tinyjson_message(
@@ -101,6 +113,30 @@ pub(crate) fn equal(first: &[u8], second: &[u8], depth: usize) -> (Status, bool,
         )
     };
     (status, equal, place)
+}
+
+pub(crate) fn part(
+    text: &[u8],
+    pointer: &[u8],
+    depth: usize,
+    buffer: &mut [u8],
+) -> (Status, Place) {
+    let mut place = Place::default();
+    let (front, length) = (pointer.as_ptr(), pointer.len());
+    let (room, target) = (buffer.len(), buffer.as_mut_ptr());
+    let status = unsafe {
+        tinyjson_part(
+            text.as_ptr(),
+            text.len(),
+            front,
+            length,
+            depth,
+            target,
+            room,
+            &mut place,
+        )
+    };
+    (status, place)
 }
 
 /// The message of an error at a place. The longest has some 170 bytes.

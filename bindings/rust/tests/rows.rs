@@ -1,7 +1,7 @@
 //! The rows that `tools/bindings` writes, by the calls of this crate.
 use std::thread;
 
-use tinyjson_proved::{check, equal, indented, is_normal, normal, Error, Kind};
+use tinyjson_proved::{check, equal, indented, is_normal, normal, part, Error, Kind};
 
 /// A line of the file: a text, its limit, and what is expected of it.
 struct Row {
@@ -27,13 +27,17 @@ fn text(digits: &str) -> String {
     String::from_utf8(bytes(digits)).unwrap()
 }
 
-/// The rows, or a few where the tool does not run the tests.
+/// A file of rows, or a few where the tool does not run the tests.
+fn file(name: &str, few: &str) -> String {
+    std::env::var("TINYJSON_ROWS").map_or(few.to_owned(), |folder| {
+        std::fs::read_to_string(format!("{folder}/{name}")).unwrap()
+    })
+}
+
 fn rows() -> Vec<Row> {
     let few = "5b315d\t9\t5b315d\t\t0\t0\t0\t0\t0\t\nff\t9\t\t\t0\t0\t0\t0\t0\t\n";
-    let file = std::env::var("TINYJSON_ROWS").map_or(few.to_owned(), |path| {
-        std::fs::read_to_string(path).unwrap()
-    });
-    file.lines()
+    file("rows.txt", few)
+        .lines()
         .map(|line| {
             let fields: Vec<&str> = line.split('\t').collect();
             Row {
@@ -116,6 +120,23 @@ fn answers_from_four_threads() {
             scope.spawn(|| judge(&rows));
         }
     });
+}
+
+#[test]
+fn finds_each_part() {
+    for line in file("parts.txt", "5b315d\t2f30\t0\t31\t0\n").lines() {
+        let fields: Vec<&str> = line.split('\t').collect();
+        let Ok(pointer) = String::from_utf8(bytes(fields[1])) else {
+            continue;
+        };
+        let expected = match fields[2] {
+            "0" => Ok(Some(text(fields[3]))),
+            "6" => Ok(None),
+            _ => Err(Error::BadPointer),
+        };
+        assert_eq!(part(bytes(fields[0]), &pointer, 9), expected);
+    }
+    assert_eq!(part("[1,]", "", 9), Err(check("[1,]", 9).unwrap_err()));
 }
 
 #[test]

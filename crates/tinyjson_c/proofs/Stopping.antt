@@ -1,9 +1,13 @@
 -- What a call answers that stops.
-use Rattle.std.proofs.Common.{◌≡◌, ℕ, List, Option, inl, inr, sym, ap, subst, refl}
+use Rattle.std.proofs.Common.{◌≡◌, ℕ, List, Option, ◌⊎◌, inl, inr, sym, ap, ◌∙◌, subst, refl}
 use Rattle.tinyjson.specs.Error.{error_kind, error_position}
+use Rattle.tinyjson_c.specs.Part.{IsNoPart, IsNoText, no_part_place, no_part_status}
 use Rattle.tinyjson_c.specs.Place.{length_place}
 use Rattle.tinyjson_c.specs.Stop.{IsStopped, Stops, stop_place, stop_status}
+use Rattle.tinyjson_c.specs.declared.part.NoPart.{NoPart}
+use Rattle.tinyjson_c.specs.declared.part.NoPart.TheVariants as none
 use Rattle.tinyjson_c.specs.declared.place.TinyjsonPlace.{TinyjsonPlace}
+use Rattle.tinyjson_c.specs.declared.status.TheConstants.{BAD_POINTER, NOT_FOUND}
 use Rattle.tinyjson_c.specs.declared.stop.Stop.{Stop}
 use Rattle.tinyjson_c.specs.declared.stop.Stop.TheVariants as stop
 
@@ -34,3 +38,12 @@ pub stops : (limit : Option ℕ) (bytes : List ℕ) (s : Stop) (text status : �
     → status ≡ stop_status s → p ≡ stop_place text s → Stops limit bytes text status p
 stops limit bytes s text status p h i j = subst (λ q. Stops limit bytes text status q) (sym j)
     (subst (λ n. Stops limit bytes text n (stop_place text s)) (sym i) (stops_by limit bytes s text h))
+
+-- the same of a call for a part, but that there is one, or that the pointer is none
+pub no_part_stops : (limit : Option ℕ) (text pointer : List ℕ) (n : NoPart) (status : ℕ) (p : TinyjsonPlace) → IsNoPart limit text pointer n
+    → status ≡ no_part_status n → p ≡ no_part_place n → ¬ (status ≡ NOT_FOUND) → ¬ (status ≡ BAD_POINTER)
+    → Stops limit text 0 status p ⊎ IsNoText pointer status p
+no_part_stops limit text pointer (none.Text s) status p h i j found bad = inl (stops limit text s 0 status p h i j)
+no_part_stops limit text pointer (none.NotUtf8 n) status p h i j found bad = inr (i, h.0, j ∙ ap (length_place 1) h.1)
+no_part_stops limit text pointer none.BadPointer status p h i j found bad = absurd (bad i)
+no_part_stops limit text pointer none.NotFound status p h i j found bad = absurd (found i)

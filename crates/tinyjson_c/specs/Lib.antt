@@ -6,3 +6,5 @@ pub mod Stop
 pub mod Buffer
 -- The message of an error at a place.
 pub mod Message
+-- The part of a text's tree that a pointer names.
+pub mod Part

@@ -3,13 +3,14 @@
 #![tactic(auto)]
 
 ghost use Rattle.std.specs.Char.{IsScalar};
-ghost use Rattle.std.specs.Prelude.{◌≡◌, ◌≢◌, ◌<◌, ◌⊎◌, ◌↔◌, IsTrue, Some, codes, length};
+ghost use Rattle.std.specs.Prelude.{◌≡◌, ◌≢◌, ◌<◌, ◌⊎◌, ◌↔◌, IsTrue, None, Some, codes, length};
 ghost use Rattle.std.specs.Prelude.{encode_utf8_all};
 ghost use Rattle.std.specs.Str.{IsUtf8, chars};
 ghost use Rattle.tinyjson.specs.Error.{JsonParseErrorKind};
 ghost use Rattle.tinyjson.specs.Words.{Tree, compact, indented};
 ghost use Rattle.tinyjson_c.specs.Buffer.{Fills, HasWritten, LacksRoom};
 ghost use Rattle.tinyjson_c.specs.Message.{error_words};
+ghost use Rattle.tinyjson_c.specs.Part.{IsBadPointer, IsNoText, Leads};
 ghost use Rattle.tinyjson_c.specs.Place.{IsError, length_place};
 ghost use Rattle.tinyjson_c.specs.Stop.{IsAcceptedText, IsTextOf, Stops};
 ghost use Rattle.tinyjson_grammar.specs.Refusal.{MayGrow};
@@ -17,6 +18,7 @@ ghost use Rattle.tinyjson_normal.specs.Normal.{IsNormal};
 
 mod buffer;
 mod message;
+mod part;
 mod place;
 mod status;
 mod stop;
@@ -25,7 +27,9 @@ mod text;
 use buffer::{fill, put};
 use message::{Message, kind_at};
 pub use place::TinyjsonPlace;
-pub use status::{NO_ERROR, NOT_UTF8, OK, OUT_OF_MEMORY, REFUSED, TOO_SMALL};
+pub use status::{
+    BAD_POINTER, NO_ERROR, NOT_FOUND, NOT_UTF8, OK, OUT_OF_MEMORY, REFUSED, TOO_SMALL,
+};
 use std::alloc::Global;
 use stop::text_of;
 
@@ -148,6 +152,38 @@ pub extern "C" fn tinyjson_equal(
     *equal = one.as_slice() == other.as_slice();
     *place = TinyjsonPlace::of_length(0, 0);
     OK
+}
+
+/// Writes the normal text of the part that a JSON pointer (RFC 6901) names in a text to the front of a buffer, if it has
+/// room there.
+#[unsafe(no_mangle)]
+pub extern "C" fn tinyjson_part(
+    alloc: Global,
+    text: &[u8],
+    pointer: &[u8],
+    depth: usize,
+    buffer: &mut [u8],
+    place: &mut TinyjsonPlace,
+) -> u32
+    ensures written { result ≡ OK → (u : Tree)
+        × Leads (Some depth) text.now pointer.now (Some u)
+        × HasWritten (encode_utf8_all (compact u)) buffer.old buffer.new place.new }
+    ensures too_small { result ≡ TOO_SMALL → (u : Tree)
+        × Leads (Some depth) text.now pointer.now (Some u)
+        × LacksRoom (encode_utf8_all (compact u)) buffer.old place.new }
+    ensures not_found { result ≡ NOT_FOUND → Leads (Some depth) text.now pointer.now None
+        × (place.new ≡ length_place 0 0) }
+    ensures bad_pointer { result ≡ BAD_POINTER → IsBadPointer pointer.now
+        × (place.new ≡ length_place 1 0) }
+    ensures stopped { result ≢ OK → result ≢ TOO_SMALL → result ≢ NOT_FOUND
+        → result ≢ BAD_POINTER → Stops (Some depth) text.now 0 result place.new
+        ⊎ IsNoText pointer.now result place.new }
+    ensures left { result ≢ OK → buffer.new ≡ buffer.old }
+{
+    match part::part(alloc, text, pointer, depth) {
+        Ok(written) => put(&written, buffer, place),
+        Err(none) => none.put(place),
+    }
 }
 
 /// Writes the message of the error that has this place to the front of a buffer, if it has room there.

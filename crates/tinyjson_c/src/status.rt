@@ -12,3 +12,7 @@ pub const OUT_OF_MEMORY: u32 = 3;
 pub const TOO_SMALL: u32 = 4;
 /// The place is that of no error.
 pub const NO_ERROR: u32 = 5;
+/// The pointer names no part.
+pub const NOT_FOUND: u32 = 6;
+/// The text of the pointer is that of no pointer.
+pub const BAD_POINTER: u32 = 7;
