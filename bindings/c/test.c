@@ -209,6 +209,42 @@ static bool refuses_to_compare(const struct row *row) {
     return is_right && status == expected && is_same_place(place, second) && answer;
 }
 
+/* Two texts with a line feed between them, and perhaps one behind. */
+static struct bytes two_lines(struct bytes one, struct bytes other, bool is_ended) {
+    struct bytes both = {malloc(one.length + other.length + 2), one.length + other.length + (is_ended ? 2 : 1)};
+    if (both.at == NULL) {
+        abort();
+    }
+    memcpy(both.at, one.at, one.length);
+    both.at[one.length] = '\n';
+    memcpy(both.at + one.length + 1, other.at, other.length);
+    both.at[one.length + other.length + 1] = '\n';
+    return both;
+}
+
+static bool is_line(struct bytes text) {
+    return text.length != 0 && memchr(text.at, '\n', text.length) == NULL;
+}
+
+/* Whether two lines of the text are written, or the second one, behind a line that has a value, stops the call. */
+static bool reads_lines(const struct row *row) {
+    static uint8_t one[] = "1";
+    bool is_accepted = row->normal.length != 0;
+    struct row lines = *row;
+    lines.text = two_lines(is_accepted ? row->text : (struct bytes){one, 1}, row->text, false);
+    lines.place.text = 1;
+    bool is_right;
+    if (is_accepted) {
+        struct bytes written = two_lines(row->normal, row->normal, true);
+        is_right = writes_all_sizes(tinyjson_normal_lines, &lines, written);
+        free(written.at);
+    } else {
+        is_right = stops(tinyjson_normal_lines, &lines);
+    }
+    free(lines.text.at);
+    return is_right;
+}
+
 static bool is_same(struct bytes one, struct bytes other) {
     return one.length == other.length && (one.length == 0 || memcmp(one.at, other.at, one.length) == 0);
 }
@@ -251,6 +287,9 @@ static void check_stopped(struct counts *counts, const struct row *row) {
 }
 
 static void check_row(struct counts *counts, const struct row *row) {
+    if (is_line(row->text)) {
+        count(counts, reads_lines(row), "normal_lines", row);
+    }
     if (row->normal.length != 0) {
         check_accepted(counts, row);
     } else {

@@ -69,7 +69,7 @@ struct tinyjson_place {
     size_t line;    /* from 1 on */
     size_t column;  /* how many characters were consumed after the last line feed */
     size_t length;  /* how many bytes the answer has, or precede what is not UTF-8 */
-    size_t text;    /* which text of the call: 1 for the second one of tinyjson_equal, and for a pointer */
+    size_t text;    /* which text of the call, from 0 on: the second one of tinyjson_equal, a pointer, a line */
 };
 
 /* Whether the text has a value: OK, or why not. */
@@ -89,6 +89,11 @@ uint32_t tinyjson_is_normal(const uint8_t *text, size_t length, bool *is_normal)
 /* Whether two texts have equal values. */
 uint32_t tinyjson_equal(const uint8_t *first, size_t first_length, const uint8_t *second, size_t second_length,
                         size_t depth, bool *equal, struct tinyjson_place *place);
+
+/* The normal text of each line, with a line feed behind it, into the buffer. The last line may lack its line feed. A
+ * line without a value stops the call: `text` is its number, from 0 on, and the place is within it. */
+uint32_t tinyjson_normal_lines(const uint8_t *text, size_t length, size_t depth,
+                               uint8_t *buffer, size_t room, struct tinyjson_place *place);
 
 /* The normal text of the part that a JSON pointer (RFC 6901) names, into the buffer. */
 uint32_t tinyjson_part(const uint8_t *text, size_t length, const uint8_t *pointer, size_t pointer_length, size_t depth,

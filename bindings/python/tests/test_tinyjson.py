@@ -50,7 +50,7 @@ class Rows(unittest.TestCase):
             with self.assertRaises(tinyjson.Refused if kind else tinyjson.NotUtf8) as raised:
                 call(*arguments)
             error = raised.exception
-            self.assertEqual(error.is_second, arguments[0] == "1")
+            self.assertEqual(error.text, int(arguments[0] == "1"))
             if kind:
                 self.assertEqual((error.kind, error.line, error.column, str(error)), (kind, line, column, message))
                 self.assertEqual(error.found if isinstance(error.found, str) else error.found or None,
@@ -91,6 +91,21 @@ class Rows(unittest.TestCase):
         self.assertEqual(failures, [])
 
 
+class Lines(unittest.TestCase):
+    def test_lines(self):
+        accepted = [(text, normal) for text, _, normal, *_ in rows() if normal and b"\n" not in text]
+        text = b"\n".join(text for text, _ in accepted)
+        written = "".join(normal + "\n" for _, normal in accepted)
+        for ending in (b"", b"\n"):
+            self.assertEqual(tinyjson.normal_lines(text + ending), written.encode())
+            self.assertEqual(tinyjson.normal_lines((text + ending).decode()), written)
+        with self.assertRaises(tinyjson.Refused) as raised:
+            tinyjson.normal_lines(text + b"\n[1")
+        error = raised.exception
+        self.assertEqual((error.text, error.line, error.column), (len(accepted), 1, 2))
+        self.assertEqual(tinyjson.normal_lines(b""), b"")
+
+
 class Parts(unittest.TestCase):
     def test_each_part(self):
         for text, pointer, status, part, _ in lines("parts.txt", "5b315d\t2f30\t0\t31\t0"):
@@ -99,7 +114,7 @@ class Parts(unittest.TestCase):
                 if status == "2":
                     with self.assertRaises(tinyjson.NotUtf8) as raised:
                         tinyjson.part(text, pointer)
-                    self.assertTrue(raised.exception.is_second)
+                    self.assertEqual(raised.exception.text, 1)
                 elif status == "7":
                     self.assertRaises(tinyjson.BadPointer, tinyjson.part, text, pointer.decode())
                 else:

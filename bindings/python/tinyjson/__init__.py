@@ -15,7 +15,7 @@ import pathlib
 from typing import Any, Callable, Optional, Union, overload
 
 __all__ = ["DEPTH", "BadPointer", "Error", "Kind", "NotUtf8", "Refused", "Value"]
-__all__ += ["check", "equal", "indented", "is_normal", "normal", "part"]
+__all__ += ["check", "equal", "indented", "is_normal", "normal", "normal_lines", "part"]
 
 Text = Union[str, bytes]
 
@@ -60,18 +60,18 @@ class Value(enum.IntEnum):
 
 
 class Error(ValueError):
-    """A text has no value. `is_second`: it is the second one of `equal`, or the pointer of `part`."""
+    """A text has no value. `text` is its number, from 0 on: the second one of `equal`, the pointer of `part`, or a line."""
 
-    def __init__(self, message: str, is_second: bool) -> None:
+    def __init__(self, message: str, text: int) -> None:
         super().__init__(message)
-        self.is_second = is_second
+        self.text = text
 
 
 class Refused(Error):
     """The text is no JSON: the kind, what was found, the line from 1 on, and the characters consumed in it."""
 
     def __init__(self, place: "_Place") -> None:
-        super().__init__(_message(place), place.text == 1)
+        super().__init__(_message(place), place.text)
         self.kind = Kind(place.kind)
         self.found: Union[str, Value, None] = _found(self.kind, place.found)
         self.line: int = place.line
@@ -81,8 +81,8 @@ class Refused(Error):
 class NotUtf8(Error):
     """The bytes are not UTF-8 after `valid_up_to` of them."""
 
-    def __init__(self, valid_up_to: int, is_second: bool) -> None:
-        super().__init__(f"Not UTF-8 after {valid_up_to} bytes", is_second)
+    def __init__(self, valid_up_to: int, text: int) -> None:
+        super().__init__(f"Not UTF-8 after {valid_up_to} bytes", text)
         self.valid_up_to = valid_up_to
 
 
@@ -122,6 +122,7 @@ def _call(name: str, *types: type) -> Callable[..., int]:
 
 _check = _call("tinyjson_check", _bytes, _size, _size, _place)
 _normal = _call("tinyjson_normal", _bytes, _size, _size, _bytes, _size, _place)
+_normal_lines = _call("tinyjson_normal_lines", _bytes, _size, _size, _bytes, _size, _place)
 _indented = _call("tinyjson_indented", _bytes, _size, _size, _bytes, _size, _place)
 _is_normal = _call("tinyjson_is_normal", _bytes, _size, ctypes.POINTER(ctypes.c_bool))
 _equal = _call("tinyjson_equal", _bytes, _size, _bytes, _size, _size, ctypes.POINTER(ctypes.c_bool), _place)
@@ -163,7 +164,7 @@ def _raise(status: int, place: _Place) -> None:
     if status == _REFUSED:
         raise Refused(place)
     if status == _NOT_UTF8:
-        raise NotUtf8(place.length, place.text == 1)
+        raise NotUtf8(place.length, place.text)
     if status == _BAD_POINTER:
         raise BadPointer("not a JSON pointer")
     if status != _OK:
@@ -204,6 +205,15 @@ def normal(text: bytes, depth: int = ...) -> bytes: ...
 def normal(text: Text, depth: int = DEPTH) -> Text:
     """The one compact text of the text's value: its keys are sorted, and each number has one spelling."""
     return _like(text, _written(_normal, depth, text))
+
+
+@overload
+def normal_lines(text: str, depth: int = ...) -> str: ...
+@overload
+def normal_lines(text: bytes, depth: int = ...) -> bytes: ...
+def normal_lines(text: Text, depth: int = DEPTH) -> Text:
+    """The normal text of each line, with a line feed behind it. The last line may lack its line feed."""
+    return _like(text, _written(_normal_lines, depth, text))
 
 
 @overload

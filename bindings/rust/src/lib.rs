@@ -57,7 +57,7 @@ pub enum Kind {
 /// use tinyjson_proved::{check, Error, Kind};
 ///
 /// let error = check("[01]", 100).unwrap_err();
-/// assert_eq!(error, Error::Refused { kind: Kind::LeadingZero, line: 1, column: 3, is_second: false });
+/// assert_eq!(error, Error::Refused { kind: Kind::LeadingZero, line: 1, column: 3, text: 0 });
 /// assert_eq!(
 ///     error.to_string(),
 ///     "Parse error at line:1, col:3: Integer part of number must not start with 0 except for '0'"
@@ -73,11 +73,12 @@ pub enum Error {
         line: usize,
         /// How many characters were consumed after the last line feed.
         column: usize,
-        /// Whether this is the second text of [`equal`], or the pointer of [`part`].
-        is_second: bool,
+        /// Which text of the call this is, from 0 on: the second one of [`equal`], the pointer of [`part`], or a line
+        /// of [`normal_lines`].
+        text: usize,
     },
     /// The bytes are not UTF-8 after `valid_up_to` of them.
-    NotUtf8 { valid_up_to: usize, is_second: bool },
+    NotUtf8 { valid_up_to: usize, text: usize },
     /// The pointer of [`part`] is no JSON pointer.
     BadPointer,
     /// Memory ran out. The text may have a value or not.
@@ -143,6 +144,16 @@ pub fn indented(text: impl AsRef<[u8]>, depth: usize) -> Result<String, Error> {
     whole(sys::tinyjson_indented, text.as_ref(), depth)
 }
 
+/// The normal text of each line, with a line feed behind it. The last line may lack its line feed.
+///
+/// ```
+/// assert_eq!(tinyjson_proved::normal_lines("[1.0]\n{}", 1)?, "[1]\n{}\n");
+/// # Ok::<(), tinyjson_proved::Error>(())
+/// ```
+pub fn normal_lines(text: impl AsRef<[u8]>, depth: usize) -> Result<String, Error> {
+    whole(sys::tinyjson_normal_lines, text.as_ref(), depth)
+}
+
 /// Whether the text is its own normal text. One that has no value is not.
 ///
 /// ```
@@ -153,7 +164,7 @@ pub fn indented(text: impl AsRef<[u8]>, depth: usize) -> Result<String, Error> {
 pub fn is_normal(text: impl AsRef<[u8]>) -> Result<bool, Error> {
     let text = text.as_ref();
     match sys::is_normal(text) {
-        (Status::NOT_UTF8, _) => Err(not_utf8(text, false)),
+        (Status::NOT_UTF8, _) => Err(not_utf8(text)),
         (Status::OK, is_normal) => Ok(is_normal),
         _ => Err(Error::OutOfMemory),
     }
@@ -219,22 +230,22 @@ fn whole(call: sys::Writes, text: &[u8], depth: usize) -> Result<String, Error> 
     Ok(text.unwrap_or_default())
 }
 
-fn not_utf8(text: &[u8], is_second: bool) -> Error {
-    let valid_up_to = std::str::from_utf8(text).map_or_else(|error| error.valid_up_to(), str::len);
+fn not_utf8(bytes: &[u8]) -> Error {
+    let valid_up_to = std::str::from_utf8(bytes).map_or_else(|error| error.valid_up_to(), str::len);
     Error::NotUtf8 {
         valid_up_to,
-        is_second,
+        text: 0,
     }
 }
 
 /// What a status means, and its place.
 fn answer(status: Status, place: &Place) -> Result<(), Error> {
-    let is_second = place.text == 1;
+    let text = place.text;
     match status {
         Status::OK => Ok(()),
         Status::NOT_UTF8 => Err(Error::NotUtf8 {
             valid_up_to: place.length,
-            is_second,
+            text,
         }),
         Status::BAD_POINTER => Err(Error::BadPointer),
         Status::REFUSED => match kind(place.kind, place.found) {
@@ -242,7 +253,7 @@ fn answer(status: Status, place: &Place) -> Result<(), Error> {
                 kind,
                 line: place.line,
                 column: place.column,
-                is_second,
+                text,
             }),
             None => unreachable!("the library has no kind {} of {}", place.kind, place.found),
         },

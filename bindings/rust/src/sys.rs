@@ -48,6 +48,14 @@ extern "C" {
         room: usize,
         place: *mut Place,
     ) -> Status;
+    pub(crate) fn tinyjson_normal_lines(
+        text: *const u8,
+        length: usize,
+        depth: usize,
+        buffer: *mut u8,
+        room: usize,
+        place: *mut Place,
+    ) -> Status;
     fn tinyjson_is_normal(text: *const u8, length: usize, is_normal: *mut bool) -> Status;
     fn tinyjson_equal(
         first: *const u8,

@@ -1,7 +1,7 @@
 //! The rows that `tools/bindings` writes, by the calls of this crate.
 use std::thread;
 
-use tinyjson_proved::{check, equal, indented, is_normal, normal, part, Error, Kind};
+use tinyjson_proved::{check, equal, indented, is_normal, normal, normal_lines, part, Error, Kind};
 
 /// A line of the file: a text, its limit, and what is expected of it.
 struct Row {
@@ -75,12 +75,12 @@ fn refuses(row: &Row) {
     assert_eq!(normal(&row.text, row.depth), Err(error));
     assert_eq!(indented(&row.text, row.depth), Err(error));
     assert_eq!(equal(&row.text, "1", row.depth), Err(error));
-    let Err(Error::Refused { is_second, .. } | Error::NotUtf8 { is_second, .. }) =
+    let Err(Error::Refused { text, .. } | Error::NotUtf8 { text, .. }) =
         equal("1", &row.text, row.depth)
     else {
         panic!("the second text is accepted");
     };
-    assert!(is_second);
+    assert_eq!(text, 1);
     match error {
         Error::Refused {
             kind, line, column, ..
@@ -120,6 +120,40 @@ fn answers_from_four_threads() {
             scope.spawn(|| judge(&rows));
         }
     });
+}
+
+#[test]
+fn reads_lines() {
+    let mut text = Vec::new();
+    let mut written = String::new();
+    let rows = rows();
+    let lines = rows
+        .iter()
+        .filter(|row| !row.normal.is_empty() && !row.text.contains(&b'\n'));
+    for (number, row) in lines.enumerate() {
+        text.extend_from_slice(&row.text);
+        assert_eq!(
+            normal_lines(&text, 1000),
+            Ok(written.clone() + &row.normal + "\n")
+        );
+        text.push(b'\n');
+        written += &format!("{}\n", row.normal);
+        assert_eq!(normal_lines(&text, 1000).as_ref(), Ok(&written));
+        let cut = [text.as_slice(), b"[1"].concat();
+        let Err(Error::Refused {
+            kind,
+            line,
+            column,
+            text,
+        }) = normal_lines(&cut, 1000)
+        else {
+            panic!("a line without a value is accepted");
+        };
+        assert_eq!(
+            (kind, line, column, text),
+            (Kind::UnexpectedEof, 1, 2, number + 1)
+        );
+    }
 }
 
 #[test]

@@ -2,3 +2,5 @@
 pub mod Stopping
 -- Equal normal texts.
 pub mod Equal
+-- One line more.
+pub mod Growing

@@ -1,15 +1,42 @@
 -- What a call answers that stops.
-use Rattle.std.proofs.Common.{◌≡◌, ℕ, List, Option, ◌⊎◌, inl, inr, sym, ap, ◌∙◌, subst, refl}
+use Rattle.std.proofs.Common.{◌≡◌, ℕ, List, ◌++◌, Option, ◌⊎◌, inl, inr, sym, ap, ◌∙◌, subst, refl}
 use Rattle.tinyjson.specs.Error.{error_kind, error_position}
+use Rattle.std.specs.Str.{IsUtf8, chars}
+use Rattle.tinyjson.specs.declared.parser.error.JsonParseError.{JsonParseError}
 use Rattle.tinyjson_c.specs.Part.{IsNoPart, IsNoText, no_part_place, no_part_status}
 use Rattle.tinyjson_c.specs.Place.{length_place}
-use Rattle.tinyjson_c.specs.Stop.{IsStopped, Stops, stop_place, stop_status}
+use Rattle.tinyjson_c.specs.Stop.{IsStopped, StopOf, Stops, stop_place, stop_status}
 use Rattle.tinyjson_c.specs.declared.part.NoPart.{NoPart}
 use Rattle.tinyjson_c.specs.declared.part.NoPart.TheVariants as none
 use Rattle.tinyjson_c.specs.declared.place.TinyjsonPlace.{TinyjsonPlace}
 use Rattle.tinyjson_c.specs.declared.status.TheConstants.{BAD_POINTER, NOT_FOUND}
 use Rattle.tinyjson_c.specs.declared.stop.Stop.{Stop}
 use Rattle.tinyjson_c.specs.declared.stop.Stop.TheVariants as stop
+use Rattle.tinyjson_grammar.specs.Grammar.{IsAccepted}
+use Rattle.tinyjson_grammar.specs.Position.{origin, advance}
+use Rattle.tinyjson_grammar.specs.Refusal.{RefusalSays}
+use Rattle.tinyjson_grammar.specs.declared.error.JsonParseErrorKind.TheVariants as kind
+
+-- an error of the parser stops a call
+pub stopped : (limit : Option ℕ) (bytes text consumed rest : List ℕ) (e : JsonParseError) (s : Stop) → text ≡ bytes → IsUtf8 bytes
+    → StopOf e s → chars text ≡ consumed ++ rest → error_position e ≡ advance origin consumed
+    → (¬ (error_kind e ≡ kind.OutOfMemory) → RefusalSays limit (error_kind e) consumed rest)
+    → (¬ (error_kind e ≡ kind.OutOfMemory) → ¬ IsAccepted limit (chars text))
+    → IsStopped limit bytes s
+stopped limit bytes text consumed rest e s same utf8 (inl (m, i)) whole place says refused = subst (IsStopped limit bytes) (sym i) utf8
+stopped limit bytes text consumed rest e s same utf8 (inr (m, i)) whole place says refused =
+    subst (IsStopped limit bytes) (sym i) (
+      utf8,
+      record {
+        consumed = consumed;
+        rest = rest;
+        whole = ap chars (sym same) ∙ whole;
+        place = place;
+        says = says m;
+        not_for_memory = m;
+        refused = λ a. refused m (subst (λ z. IsAccepted limit (chars z)) (sym same) a);
+      },
+    )
 
 -- what stops a call, by its own status and place
 stops_by : (limit : Option ℕ) (bytes : List ℕ) (s : Stop) (text : ℕ) → IsStopped limit bytes s

@@ -8,3 +8,5 @@ pub mod Buffer
 pub mod Message
 -- The part of a text's tree that a pointer names.
 pub mod Part
+-- Texts of which each is a line.
+pub mod Lines

@@ -3,12 +3,13 @@
 #![tactic(auto)]
 
 ghost use Rattle.std.specs.Char.{IsScalar};
-ghost use Rattle.std.specs.Prelude.{◌≡◌, ◌≢◌, ◌<◌, ◌⊎◌, ◌↔◌, IsTrue, None, Some, codes, length};
-ghost use Rattle.std.specs.Prelude.{encode_utf8_all};
+ghost use Rattle.std.specs.Prelude.{◌≡◌, ◌≢◌, ◌<◌, ◌⊎◌, ◌↔◌, IsTrue, List, None, Some, codes};
+ghost use Rattle.std.specs.Prelude.{encode_utf8_all, length};
 ghost use Rattle.std.specs.Str.{IsUtf8, chars};
 ghost use Rattle.tinyjson.specs.Error.{JsonParseErrorKind};
 ghost use Rattle.tinyjson.specs.Words.{Tree, compact, indented};
 ghost use Rattle.tinyjson_c.specs.Buffer.{Fills, HasWritten, LacksRoom};
+ghost use Rattle.tinyjson_c.specs.Lines.{AreLines, StopsAtLine, lines_text};
 ghost use Rattle.tinyjson_c.specs.Message.{error_words};
 ghost use Rattle.tinyjson_c.specs.Part.{IsBadPointer, IsNoText, Leads};
 ghost use Rattle.tinyjson_c.specs.Place.{IsError, length_place};
@@ -17,6 +18,7 @@ ghost use Rattle.tinyjson_grammar.specs.Refusal.{MayGrow};
 ghost use Rattle.tinyjson_normal.specs.Normal.{IsNormal};
 
 mod buffer;
+mod lines;
 mod message;
 mod part;
 mod place;
@@ -152,6 +154,30 @@ pub extern "C" fn tinyjson_equal(
     *equal = one.as_slice() == other.as_slice();
     *place = TinyjsonPlace::of_length(0, 0);
     OK
+}
+
+/// Writes the normal text of each line, with a line feed behind it, to the front of a buffer, if it has room there. The
+/// last line may lack its line feed. Where a line is no text, the place is within it, and counts the lines before it.
+#[unsafe(no_mangle)]
+pub extern "C" fn tinyjson_normal_lines(
+    alloc: Global,
+    text: &[u8],
+    depth: usize,
+    buffer: &mut [u8],
+    place: &mut TinyjsonPlace,
+) -> u32
+    ensures written { result ≡ OK → (ts : List Tree) × AreLines (Some depth) text.now ts
+        × HasWritten (lines_text ts) buffer.old buffer.new place.new }
+    ensures too_small { result ≡ TOO_SMALL → (ts : List Tree) × AreLines (Some depth) text.now ts
+        × LacksRoom (lines_text ts) buffer.old place.new }
+    ensures stopped { result ≢ OK → result ≢ TOO_SMALL
+        → StopsAtLine (Some depth) text.now result place.new }
+    ensures left { result ≢ OK → buffer.new ≡ buffer.old }
+{
+    match lines::normal_lines(alloc, text, depth) {
+        Ok(written) => put(&written, buffer, place),
+        Err(line) => line.stop.put(line.number, place),
+    }
 }
 
 /// Writes the normal text of the part that a JSON pointer (RFC 6901) names in a text to the front of a buffer, if it has

@@ -20,7 +20,7 @@ pub struct TinyjsonPlace {
     pub column: usize,
     /// How many bytes the answer has. Of bytes that are not UTF-8: how many precede the fault.
     pub length: usize,
-    /// Which text of the call this is about: 0 for the first.
+    /// Which text of the call this is about, from 0 on; also which line.
     pub text: usize,
 }
 

@@ -1,0 +1,13 @@
+use Rattle.std.proofs.Common.{◌≡◌, ◌+◌, ◌≤◌, List, Some, length}
+use Rattle.tinyjson_c.specs.Lines.{AreFirst, lines_text}
+use Rattle.tinyjson_grammar.specs.Tree.{Tree}
+use Rattle.tinyjson_c.proofs.lines.normal_lines.Given as goal
+
+abbrev pub invariant-loop-rest : goal.invariant-loop-rest
+invariant-loop-rest l = record {
+  read : (ts : List Tree) × AreFirst (Some l.depth) l.bytes ts l.rest × (l.written.items ≡ lines_text ts) × (l.number ≡ length ts);
+  counted : l.number + length l.rest ≤ length l.bytes;
+}
+
+abbrev pub decreases-loop-rest : goal.decreases-loop-rest
+decreases-loop-rest l = length l.rest
