@@ -6,7 +6,7 @@ use Rattle.std.specs.HashMap.{get_by_text}
 use Rattle.std.specs.Prelude.{option_and_then, slice_get}
 use Rattle.std.specs.Str.{chars}
 use Rattle.tinyjson.proofs.Callers.{view_Array, nth_items_view, item_count_view, no_array}
-use Rattle.tinyjson.proofs.Callers.{view_Object, view_String, view_ref, find_get, are_ascii}
+use Rattle.tinyjson.proofs.Callers.{view_Object, view_String, view_ref, find_get, is_key, are_ascii}
 use Rattle.tinyjson.specs.Access.{JsonMap}
 use Rattle.tinyjson.specs.Index.{tree_at, tree_at_key}
 use Rattle.tinyjson.specs.Kind.{kind_of, kind_name}
@@ -17,7 +17,7 @@ use Rattle.tinyjson.specs.JsonKind.TheVariants as kind
 use Rattle.tinyjson.specs.declared.value.JsonValue.{JsonValue}
 use Rattle.tinyjson.specs.declared.value.JsonValue.TheVariants as is
 use Rattle.tinyjson_schema_keywords.specs.Names.{name}
-use Rattle.tinyjson_schema_keywords.proofs.Callers.{at_literal, same_name}
+use Rattle.tinyjson_schema_keywords.proofs.Callers.{at_literal}
 use Rattle.tinyjson_schema.specs.Assertions.{is_whole, is_type, is_present, member_count, length_of, items_count_of, members_count_of}
 use Rattle.tinyjson_schema.specs.Parts.{property, prefix_item}
 
@@ -35,9 +35,9 @@ is_type_name : (v : JsonValue) (s : String Global) (t : Tree) → v ≡ is.Strin
 is_type_name v s t e =
     ap (λ x. is_type x t) (ap view e ∙ view_String s)
     ∙ (ap (λ b. b || (bytes_eq (text s) (codes "integer") && is_whole t))
-    (sym (same_name (string_bytes s) (kind_name (kind_of t)) (IsUtf8-string_bytes s) (kind_name_ascii (kind_of t))))
+    (sym (is_key (string_bytes s) (kind_name (kind_of t)) (IsUtf8-string_bytes s) (kind_name_ascii (kind_of t))))
     ∙ ap (λ b. bytes_eq (string_bytes s) (kind_name (kind_of t)) || (b && is_whole t))
-    (sym (same_name (string_bytes s) (codes "integer") (IsUtf8-string_bytes s) refl)))
+    (sym (is_key (string_bytes s) (codes "integer") (IsUtf8-string_bytes s) refl)))
 
 -- a value's type is determined by two comparisons and the fraction
 pub type_determined : (v : JsonValue) (s : String Global) (t : Tree) (a b c : Bool) → v ≡ is.String s

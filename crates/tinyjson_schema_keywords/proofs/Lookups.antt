@@ -1,11 +1,10 @@
 -- Keywords and names, as bytes and as characters.
-use Rattle.std.proofs.Common.{◌≡◌, ℕ, Bool, true, false, List, Option, option_map, String}
-use Rattle.std.proofs.Common.{string_bytes, Global, Bor, bytes_eq, encode_utf8_all, refl, sym, ap, ◌∙◌}
-use Rattle.std.proofs.lemmas.Slice.Eq.{bytes_eq-Decides}
-use Rattle.std.proofs.lemmas.Str.{encodes-chars, encodes-IsAscii, IsUtf8-string_bytes}
+use Rattle.std.proofs.Common.{◌≡◌, ℕ, true, List, Option, option_map, String}
+use Rattle.std.proofs.Common.{string_bytes, Global, Bor, encode_utf8_all, refl, sym, ap, ◌∙◌}
+use Rattle.std.proofs.lemmas.Str.{encodes-chars, IsUtf8-string_bytes}
 use Rattle.std.specs.HashMap.{get_by_text}
 use Rattle.std.specs.Str.{IsUtf8, chars}
-use Rattle.tinyjson.proofs.Callers.{view_Object, view_ref, find_get, chars_literal, IsAscii_literal, are_ascii}
+use Rattle.tinyjson.proofs.Callers.{view_Object, view_ref, find_get, chars_literal, are_ascii}
 use Rattle.tinyjson.specs.Access.{JsonMap}
 use Rattle.tinyjson.specs.Index.{tree_at_key}
 use Rattle.tinyjson.specs.Tree.{Tree}
@@ -25,18 +24,6 @@ keyword_found v m bs r e u g =
 pub at_literal : (o : Option Tree) (t : Tree) (name : List ℕ) → are_ascii name ≡ true → o ≡ tree_at_key t (chars name)
     → o ≡ tree_at_key t name
 at_literal o t name a h = h ∙ ap (tree_at_key t) (chars_literal name a)
-
--- a text is an ASCII name if its bytes are
-pub same_name : (bs name : List ℕ) → IsUtf8 bs → are_ascii name ≡ true → bytes_eq bs name ≡ bytes_eq (chars bs) name
-same_name bs name u a = by (bytes_eq bs name) (bytes_eq (chars bs) name) refl refl
-  where
-    by : (x y : Bool) → bytes_eq bs name ≡ x → bytes_eq (chars bs) name ≡ y → x ≡ y
-    by true y e f = sym ((bytes_eq-Decides (chars bs) name).1 (ap chars ((bytes_eq-Decides bs name).0 e) ∙ chars_literal name a)) ∙ f
-    by false true e f =
-        let same : bs ≡ name = sym (encodes-chars bs u)
-        ∙ (ap encode_utf8_all ((bytes_eq-Decides (chars bs) name).0 f) ∙ encodes-IsAscii name (IsAscii_literal name a)) in
-        sym e ∙ (bytes_eq-Decides bs name).1 same
-    by false false e f = refl
 
 pub name_ascii : (k : Keyword) → are_ascii (name k) ≡ true
 name_ascii kw.Schema = refl
