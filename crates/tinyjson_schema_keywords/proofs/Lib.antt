@@ -5,5 +5,6 @@ pub mod Listed
 pub mod Lookups
 pub mod Naming
 pub mod References
+pub mod Search
 pub mod Turns
 pub mod Words

@@ -1,5 +1,7 @@
 -- The names of the keywords.
-use Rattle.std.specs.Prelude.{ℕ, List, [], ◌∷◌, Option, Some, None, cond, codes}
+use Rattle.std.specs.Cmp.Lexicographic.{slice_cmp}
+use Rattle.std.specs.Ordering.{nat_cmp, is_lt}
+use Rattle.std.specs.Prelude.{ℕ, Bool, true, not, ◌&&◌, List, [], ◌∷◌, Option, Some, None, cond, is_some, codes}
 use Rattle.std.specs.Str.{bytes_eq}
 use Rattle.tinyjson_schema_keywords.specs.declared.keyword.Keyword.{Keyword}
 use Rattle.tinyjson_schema_keywords.specs.declared.keyword.Keyword.TheVariants as kw
@@ -63,17 +65,30 @@ name kw.ReadOnly = codes "readOnly"
 name kw.WriteOnly = codes "writeOnly"
 name kw.Examples = codes "examples"
 
+-- all of them, in the order of the bytes of their names
 abbrev pub keywords : List Keyword
-keywords = kw.Schema ∷ kw.Id ∷ kw.Comment ∷ kw.Defs ∷ kw.Ref ∷ kw.Anchor ∷ kw.DynamicRef ∷ kw.DynamicAnchor ∷ kw.Vocabulary ∷
-    kw.AllOf ∷ kw.AnyOf ∷ kw.OneOf ∷ kw.Not ∷ kw.If ∷ kw.Then ∷ kw.Else ∷ kw.DependentSchemas ∷ kw.PrefixItems ∷
-    kw.Items ∷ kw.Contains ∷ kw.Properties ∷ kw.PatternProperties ∷ kw.AdditionalProperties ∷ kw.PropertyNames ∷
-    kw.UnevaluatedItems ∷ kw.UnevaluatedProperties ∷ kw.Type ∷ kw.Enum ∷ kw.Const ∷ kw.MultipleOf ∷ kw.Maximum ∷
-    kw.ExclusiveMaximum ∷ kw.Minimum ∷ kw.ExclusiveMinimum ∷ kw.MaxLength ∷ kw.MinLength ∷ kw.Pattern ∷ kw.MaxItems ∷
-    kw.MinItems ∷ kw.UniqueItems ∷ kw.MaxContains ∷ kw.MinContains ∷ kw.MaxProperties ∷ kw.MinProperties ∷
-    kw.Required ∷ kw.DependentRequired ∷ kw.Format ∷ kw.ContentEncoding ∷ kw.ContentMediaType ∷ kw.ContentSchema ∷
-    kw.Title ∷ kw.Description ∷ kw.Default ∷ kw.Deprecated ∷ kw.ReadOnly ∷ kw.WriteOnly ∷ kw.Examples ∷ []
+keywords = kw.Anchor ∷ kw.Comment ∷ kw.Defs ∷ kw.DynamicAnchor ∷ kw.DynamicRef ∷ kw.Id ∷ kw.Ref ∷ kw.Schema ∷ kw.Vocabulary ∷
+    kw.AdditionalProperties ∷ kw.AllOf ∷ kw.AnyOf ∷ kw.Const ∷ kw.Contains ∷ kw.ContentEncoding ∷ kw.ContentMediaType ∷
+    kw.ContentSchema ∷ kw.Default ∷ kw.DependentRequired ∷ kw.DependentSchemas ∷ kw.Deprecated ∷ kw.Description ∷ kw.Else ∷
+    kw.Enum ∷ kw.Examples ∷ kw.ExclusiveMaximum ∷ kw.ExclusiveMinimum ∷ kw.Format ∷ kw.If ∷ kw.Items ∷ kw.MaxContains ∷
+    kw.MaxItems ∷ kw.MaxLength ∷ kw.MaxProperties ∷ kw.Maximum ∷ kw.MinContains ∷ kw.MinItems ∷ kw.MinLength ∷
+    kw.MinProperties ∷ kw.Minimum ∷ kw.MultipleOf ∷ kw.Not ∷ kw.OneOf ∷ kw.Pattern ∷ kw.PatternProperties ∷ kw.PrefixItems ∷
+    kw.Properties ∷ kw.PropertyNames ∷ kw.ReadOnly ∷ kw.Required ∷ kw.Then ∷ kw.Title ∷ kw.Type ∷ kw.UnevaluatedItems ∷
+    kw.UnevaluatedProperties ∷ kw.UniqueItems ∷ kw.WriteOnly ∷ []
 
 -- the first of the keywords with the name
 abbrev pub keyword_among : List Keyword → List ℕ → Option Keyword
 keyword_among [] key = None
 keyword_among (k ∷ ks) key = cond (bytes_eq (name k) key) (Some k) (keyword_among ks key)
+
+-- ---- words of private contracts
+
+-- Their names rise.
+abbrev pub is_rising : List Keyword → Bool
+is_rising (k ∷ l ∷ ks) = not (is_lt (slice_cmp nat_cmp (name l) (name k))) && is_rising (l ∷ ks)
+is_rising _ = true
+
+-- No two have one name.
+abbrev pub are_apart : List Keyword → Bool
+are_apart [] = true
+are_apart (k ∷ ks) = not (is_some (keyword_among ks (name k))) && are_apart ks

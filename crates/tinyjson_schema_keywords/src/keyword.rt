@@ -1,6 +1,7 @@
 //! The keywords of JSON Schema 2020-12.
-ghost use Rattle.std.specs.Prelude.{◌≡◌};
+ghost use Rattle.std.specs.Prelude.{◌≡◌, true};
 ghost use Rattle.tinyjson_schema_keywords.specs.Names.{name, keywords, keyword_among};
+ghost use Rattle.tinyjson_schema_keywords.specs.Names.{is_rising, are_apart};
 
 /// A keyword of the standard's vocabularies (Core, sections 8, 10 and 11; Validation, 6 to 9).
 #[derive(Clone, Copy)]
@@ -64,65 +65,65 @@ pub enum Keyword {
     Examples,
 }
 
-/// All of them.
+/// All of them, in the order of the bytes of their names.
 const KEYWORDS: [Keyword; 57] = [
-    Keyword::Schema,
-    Keyword::Id,
+    Keyword::Anchor,
     Keyword::Comment,
     Keyword::Defs,
-    Keyword::Ref,
-    Keyword::Anchor,
-    Keyword::DynamicRef,
     Keyword::DynamicAnchor,
+    Keyword::DynamicRef,
+    Keyword::Id,
+    Keyword::Ref,
+    Keyword::Schema,
     Keyword::Vocabulary,
+    Keyword::AdditionalProperties,
     Keyword::AllOf,
     Keyword::AnyOf,
-    Keyword::OneOf,
-    Keyword::Not,
-    Keyword::If,
-    Keyword::Then,
-    Keyword::Else,
-    Keyword::DependentSchemas,
-    Keyword::PrefixItems,
-    Keyword::Items,
-    Keyword::Contains,
-    Keyword::Properties,
-    Keyword::PatternProperties,
-    Keyword::AdditionalProperties,
-    Keyword::PropertyNames,
-    Keyword::UnevaluatedItems,
-    Keyword::UnevaluatedProperties,
-    Keyword::Type,
-    Keyword::Enum,
     Keyword::Const,
-    Keyword::MultipleOf,
-    Keyword::Maximum,
-    Keyword::ExclusiveMaximum,
-    Keyword::Minimum,
-    Keyword::ExclusiveMinimum,
-    Keyword::MaxLength,
-    Keyword::MinLength,
-    Keyword::Pattern,
-    Keyword::MaxItems,
-    Keyword::MinItems,
-    Keyword::UniqueItems,
-    Keyword::MaxContains,
-    Keyword::MinContains,
-    Keyword::MaxProperties,
-    Keyword::MinProperties,
-    Keyword::Required,
-    Keyword::DependentRequired,
-    Keyword::Format,
+    Keyword::Contains,
     Keyword::ContentEncoding,
     Keyword::ContentMediaType,
     Keyword::ContentSchema,
-    Keyword::Title,
-    Keyword::Description,
     Keyword::Default,
+    Keyword::DependentRequired,
+    Keyword::DependentSchemas,
     Keyword::Deprecated,
-    Keyword::ReadOnly,
-    Keyword::WriteOnly,
+    Keyword::Description,
+    Keyword::Else,
+    Keyword::Enum,
     Keyword::Examples,
+    Keyword::ExclusiveMaximum,
+    Keyword::ExclusiveMinimum,
+    Keyword::Format,
+    Keyword::If,
+    Keyword::Items,
+    Keyword::MaxContains,
+    Keyword::MaxItems,
+    Keyword::MaxLength,
+    Keyword::MaxProperties,
+    Keyword::Maximum,
+    Keyword::MinContains,
+    Keyword::MinItems,
+    Keyword::MinLength,
+    Keyword::MinProperties,
+    Keyword::Minimum,
+    Keyword::MultipleOf,
+    Keyword::Not,
+    Keyword::OneOf,
+    Keyword::Pattern,
+    Keyword::PatternProperties,
+    Keyword::PrefixItems,
+    Keyword::Properties,
+    Keyword::PropertyNames,
+    Keyword::ReadOnly,
+    Keyword::Required,
+    Keyword::Then,
+    Keyword::Title,
+    Keyword::Type,
+    Keyword::UnevaluatedItems,
+    Keyword::UnevaluatedProperties,
+    Keyword::UniqueItems,
+    Keyword::WriteOnly,
 ];
 
 /// The keyword of a name, if it is one.
@@ -133,14 +134,14 @@ pub fn keyword_of(key: &str) -> Option<Keyword>
 }
 
 fn keyword_among(keywords: &[Keyword], key: &str) -> Option<Keyword>
+    requires rising { is_rising keywords.now ≡ true }
+    requires apart { are_apart keywords.now ≡ true }
     ensures { result ≡ keyword_among keywords.now key.now }
 {
-    for keyword in keywords {
-        if keyword.name() == key {
-            return Some(*keyword);
-        }
+    match keywords.binary_search_by(|keyword| keyword.name().cmp(key)) {
+        Ok(index) => Some(keywords[index]),
+        Err(_) => None,
     }
-    None
 }
 
 impl Keyword {
