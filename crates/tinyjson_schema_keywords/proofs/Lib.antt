@@ -1,6 +1,7 @@
 pub mod Callers
 pub mod Depths
 pub mod Forms
+pub mod Gathering
 pub mod Listed
 pub mod Lookups
 pub mod Naming

@@ -1,6 +1,6 @@
 -- Anchors that are gathered, one after the other, and their names.
 use Rattle.std.proofs.Common.{◌≡◌, ◌∷◌, [], ◌++◌, ℕ, suc, ◌<◌, ◌≤◌, ◌+◌, ◌-◌, Bool, true, false, not, ◌&&◌, cond, List, Option, Some}
-use Rattle.std.proofs.Common.{String, Global, length, get_or, bytes_eq, drop, is_some, encode_utf8_all, string_bytes}
+use Rattle.std.proofs.Common.{String, Global, length, get_or, bytes_eq, drop, is_some, string_bytes}
 use Rattle.std.proofs.Common.{refl, sym, ap, ◌∙◌, subst, append_assoc, append-nil, arith}
 use Rattle.std.proofs.lemmas.Bool.{and_parts}
 use Rattle.std.proofs.lemmas.List.{map-append}
@@ -12,15 +12,15 @@ use Rattle.std.specs.String.{string_cmp}
 use Rattle.tinyjson.proofs.Callers.{view_String}
 use Rattle.tinyjson.specs.Equality.{tree_eq_Decides}
 use Rattle.tinyjson.specs.Tree.{Tree}
-use Rattle.tinyjson.specs.View.{view, text, items_view, members_listed}
+use Rattle.tinyjson.specs.View.{view}
 use Rattle.tinyjson.specs.declared.value.JsonValue.{JsonValue}
 use Rattle.tinyjson.specs.declared.value.JsonValue.TheVariants as is
-use Rattle.tinyjson_schema_keywords.specs.Anchors.{Named, anchors_in, anchors_among, anchors_of_items, anchors_of_members, anchors_by_form}
+use Rattle.tinyjson_schema_keywords.specs.Anchors.{Named, anchors_in, anchors_among, anchors_of}
 use Rattle.tinyjson_schema_keywords.specs.Anchors.{own_anchors, is_plain_name, is_name, is_own_name, anchored, repeated, named, all_named}
 use Rattle.tinyjson_schema_keywords.specs.Anchors.{are_same, has_anchors, Gathers}
-use Rattle.tinyjson_schema_keywords.specs.Forms.{form_at}
+use Rattle.tinyjson_schema_keywords.specs.Subschemas.{seen, all_seen}
 use Rattle.tinyjson_schema_keywords.specs.declared.anchor.Anchor.{Anchor}
-use Rattle.tinyjson_schema_keywords.proofs.Listed.{Listed}
+use Rattle.tinyjson_schema_keywords.specs.declared.subschemas.SchemaMember.{SchemaMember}
 use Rattle.tinyjson_schema_keywords.proofs.Lookups.{text_bytes}
 use Rattle.tinyjson_schema_keywords.proofs.Turns.{drop_item, drop_suc, drop_end}
 
@@ -69,42 +69,15 @@ turn all ks rest s a b g h = ap (λ l. l ++ rest) h ∙ (append_assoc (all_named
 ended : (all rest : List Named) (s a : List Anchor) → IsLeft all rest s a → rest ≡ [] → Gathers all s a
 ended all rest s a g e = sym (append-nil (all_named a)) ∙ (ap (λ l. all_named a ++ l) (sym e) ∙ g)
 
-module _ (vs : List JsonValue) (i : ℕ) (s a : List Anchor)
-    (g : IsLeft (anchors_of_items (items_view vs)) (anchors_of_items (items_view (drop i vs))) s a) where
-  pub item_gathered : (x : JsonValue) (b : List Anchor) → i < length vs → x ≡ get_or vs i x → Gathers (anchors_in (view x)) a b
-      → IsLeft (anchors_of_items (items_view vs)) (anchors_of_items (items_view (drop (i + 1) vs))) s b
-  item_gathered x b l e h = turn _ (anchors_in (view x)) (anchors_of_items (items_view (drop (i + 1) vs))) s a b
-      (subst (λ xs. IsLeft (anchors_of_items (items_view vs)) (anchors_of_items (items_view xs)) s a) (drop_item vs i x l e) g) h
+module _ (ms : List SchemaMember) (i : ℕ) (s a : List Anchor)
+    (g : IsLeft (anchors_among (all_seen ms)) (anchors_among (all_seen (drop i ms))) s a) where
+  pub member_gathered : (m : SchemaMember) (b : List Anchor) → i < length ms → m ≡ get_or ms i m → Gathers (anchors_of (seen m)) a b
+      → IsLeft (anchors_among (all_seen ms)) (anchors_among (all_seen (drop (i + 1) ms))) s b
+  member_gathered m b l e h = turn _ (anchors_of (seen m)) (anchors_among (all_seen (drop (i + 1) ms))) s a b
+      (subst (λ xs. IsLeft (anchors_among (all_seen ms)) (anchors_among (all_seen xs)) s a) (drop_item ms i m l e) g) h
 
-  pub items_gathered : length vs ≤ i → Gathers (anchors_of_items (items_view vs)) s a
-  items_gathered l = ended _ _ s a g (ap (λ xs. anchors_of_items (items_view xs)) (drop_end vs i l))
-
-module _ (ps : List Listed) (i : ℕ) (s a : List Anchor)
-    (g : IsLeft (anchors_of_members (members_listed ps)) (anchors_of_members (members_listed (drop i ps))) s a) where
-  pub member_gathered : (p : Listed) (b : List Anchor) → i < length ps → p ≡ get_or ps i p → Gathers (anchors_in (view p.1.now)) a b
-      → IsLeft (anchors_of_members (members_listed ps)) (anchors_of_members (members_listed (drop (i + 1) ps))) s b
-  member_gathered p b l e h = turn _ (anchors_in (view p.1.now)) (anchors_of_members (members_listed (drop (i + 1) ps))) s a b
-      (subst (λ xs. IsLeft (anchors_of_members (members_listed ps)) (anchors_of_members (members_listed xs)) s a) (drop_item ps i p l e) g)
-      h
-
-  pub members_gathered : length ps ≤ i → Gathers (anchors_of_members (members_listed ps)) s a
-  members_gathered l = ended _ _ s a g (ap (λ xs. anchors_of_members (members_listed xs)) (drop_end ps i l))
-
-module _ (o : Tree) (ps : List Listed) (i : ℕ) (s a : List Anchor)
-    (g : IsLeft (anchors_among o (members_listed ps)) (anchors_among o (members_listed (drop i ps))) s a) where
-  -- the name of a keyword and the bytes that it has
-  pub keyword_gathered : (p : Listed) (key : List ℕ) (b : List Anchor) → i < length ps → p ≡ get_or ps i p
-      → key ≡ encode_utf8_all (text p.0.now) → Gathers (anchors_by_form (form_at key) o (view p.1.now)) a b
-      → IsLeft (anchors_among o (members_listed ps)) (anchors_among o (members_listed (drop (i + 1) ps))) s b
-  keyword_gathered p key b l e is h =
-      let rest = anchors_among o (members_listed (drop (i + 1) ps)) in
-      turn _ (anchors_by_form (form_at key) o (view p.1.now)) rest s a b
-      (subst (λ ns. IsLeft (anchors_among o (members_listed ps)) ns s a)
-      (ap (λ xs. anchors_among o (members_listed xs)) (drop_item ps i p l e)
-      ∙ ap (λ bs. anchors_by_form (form_at bs) o (view p.1.now) ++ rest) (sym is)) g) h
-
-  pub keywords_gathered : length ps ≤ i → Gathers (anchors_among o (members_listed ps)) s a
-  keywords_gathered l = ended _ _ s a g (ap (λ xs. anchors_among o (members_listed xs)) (drop_end ps i l))
+  pub members_gathered : length ms ≤ i → Gathers (anchors_among (all_seen ms)) s a
+  members_gathered l = ended _ _ s a g (ap (λ xs. anchors_among (all_seen xs)) (drop_end ms i l))
 
 -- ---- names, from the last one on
 

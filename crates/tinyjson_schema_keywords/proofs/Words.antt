@@ -1,16 +1,13 @@
 -- Words that are gathered, one after the other.
 use Rattle.std.proofs.Common.{◌≡◌, ◌∷◌, [], ◌++◌, ℕ, ◌<◌, ◌≤◌, ◌+◌, Bool, true, false, ◌||◌, cond, List, String, Global}
-use Rattle.std.proofs.Common.{length, get_or, bytes_eq, drop, encode_utf8_all, string_bytes, refl, sym, ap, ◌∙◌, subst, append_assoc}
+use Rattle.std.proofs.Common.{length, get_or, bytes_eq, drop, string_bytes, refl, sym, ap, ◌∙◌, subst, append_assoc}
 use Rattle.std.proofs.lemmas.Map.Text.{btree_set_updates_text}
 use Rattle.std.specs.BTreeSet as sorted
 use Rattle.std.specs.BTreeSet.{BTreeSet}
 use Rattle.std.specs.String.{string_cmp}
-use Rattle.tinyjson.specs.View.{view, text, items_view, members_listed}
-use Rattle.tinyjson.specs.declared.value.JsonValue.{JsonValue}
-use Rattle.tinyjson_schema_keywords.specs.Forms.{form_at}
-use Rattle.tinyjson_schema_keywords.specs.Unknown.{AreWords, Gathers, is_one_of, word_of, words_in, words_of, words_of_items}
-use Rattle.tinyjson_schema_keywords.specs.Unknown.{words_of_members, unknown_words}
-use Rattle.tinyjson_schema_keywords.proofs.Listed.{Listed}
+use Rattle.tinyjson_schema_keywords.specs.Subschemas.{seen, all_seen}
+use Rattle.tinyjson_schema_keywords.specs.Unknown.{AreWords, Gathers, is_one_of, word_of, words_among}
+use Rattle.tinyjson_schema_keywords.specs.declared.subschemas.SchemaMember.{SchemaMember}
 use Rattle.tinyjson_schema_keywords.proofs.Turns.{drop_item, drop_end}
 
 or_assoc : (a b c : Bool) → ((a || b) || c) ≡ (a || (b || c))
@@ -81,44 +78,12 @@ ended all rest s a g e = subst (λ ks. Gathers ks s a) (sym (g.split ∙ (ap (λ
     nil [] = refl
     nil (k ∷ ks) = ap (λ l. k ∷ l) (nil ks)
 
-module _ (vs : List JsonValue) (i : ℕ) (s a : BTreeSet (String Global))
-    (g : Gathered (words_of_items (items_view vs)) (words_of_items (items_view (drop i vs))) s a) where
-  pub item_gathered : (x : JsonValue) (b : BTreeSet (String Global)) → i < length vs → x ≡ get_or vs i x
-      → Gathers (unknown_words (view x)) a b
-      → Gathered (words_of_items (items_view vs)) (words_of_items (items_view (drop (i + 1) vs))) s b
-  item_gathered x b l e h = turn _ (unknown_words (view x)) (words_of_items (items_view (drop (i + 1) vs))) s a b
-      (subst (λ xs. Gathered (words_of_items (items_view vs)) (words_of_items (items_view xs)) s a) (drop_item vs i x l e) g) h
+module _ (ms : List SchemaMember) (i : ℕ) (s a : BTreeSet (String Global))
+    (g : Gathered (words_among (all_seen ms)) (words_among (all_seen (drop i ms))) s a) where
+  pub member_gathered : (m : SchemaMember) (b : BTreeSet (String Global)) → i < length ms → m ≡ get_or ms i m
+      → Gathers (word_of (seen m)) a b → Gathered (words_among (all_seen ms)) (words_among (all_seen (drop (i + 1) ms))) s b
+  member_gathered m b l e h = turn _ (word_of (seen m)) (words_among (all_seen (drop (i + 1) ms))) s a b
+      (subst (λ xs. Gathered (words_among (all_seen ms)) (words_among (all_seen xs)) s a) (drop_item ms i m l e) g) h
 
-  pub items_gathered : length vs ≤ i → Gathers (words_of_items (items_view vs)) s a
-  items_gathered l = ended _ _ s a g (ap (λ xs. words_of_items (items_view xs)) (drop_end vs i l))
-
-module _ (ps : List Listed) (i : ℕ) (s a : BTreeSet (String Global))
-    (g : Gathered (words_of_members (members_listed ps)) (words_of_members (members_listed (drop i ps))) s a) where
-  pub member_gathered : (p : Listed) (b : BTreeSet (String Global)) → i < length ps → p ≡ get_or ps i p
-      → Gathers (unknown_words (view p.1.now)) a b
-      → Gathered (words_of_members (members_listed ps)) (words_of_members (members_listed (drop (i + 1) ps))) s b
-  member_gathered p b l e h = turn _ (unknown_words (view p.1.now)) (words_of_members (members_listed (drop (i + 1) ps))) s a b
-      (subst (λ xs. Gathered (words_of_members (members_listed ps)) (words_of_members (members_listed xs)) s a) (drop_item ps i p l e) g) h
-
-  pub members_gathered : length ps ≤ i → Gathers (words_of_members (members_listed ps)) s a
-  members_gathered l = ended _ _ s a g (ap (λ xs. words_of_members (members_listed xs)) (drop_end ps i l))
-
-module _ (ps : List Listed) (i : ℕ) (s a : BTreeSet (String Global))
-    (g : Gathered (words_of (members_listed ps)) (words_of (members_listed (drop i ps))) s a) where
-  -- the name of a keyword and the bytes that it has
-  pub keyword_gathered : (p : Listed) (key : List ℕ) (b c : BTreeSet (String Global)) → i < length ps → p ≡ get_or ps i p
-      → key ≡ encode_utf8_all (text p.0.now) → Gathers (word_of key) a b → Gathers (words_in (form_at key) (view p.1.now)) b c
-      → Gathered (words_of (members_listed ps)) (words_of (members_listed (drop (i + 1) ps))) s c
-  keyword_gathered p key b c l e is h k =
-      let rest = words_of (members_listed (drop (i + 1) ps)) in
-      let both : List ℕ → List (List ℕ) = λ bs. word_of bs ++ words_in (form_at bs) (view p.1.now) in
-      turn _ (both key) rest s a c
-      (subst (λ ws. Gathered (words_of (members_listed ps)) ws s a)
-      (ap (λ xs. words_of (members_listed xs)) (drop_item ps i p l e)
-      ∙ (sym (append_assoc (word_of (encode_utf8_all (text p.0.now)))
-      (words_in (form_at (encode_utf8_all (text p.0.now))) (view p.1.now)) rest)
-      ∙ ap (λ bs. both bs ++ rest) (sym is))) g)
-      (gathers_both (word_of key) (words_in (form_at key) (view p.1.now)) a b c h k)
-
-  pub keywords_gathered : length ps ≤ i → Gathers (words_of (members_listed ps)) s a
-  keywords_gathered l = ended _ _ s a g (ap (λ xs. words_of (members_listed xs)) (drop_end ps i l))
+  pub members_gathered : length ms ≤ i → Gathers (words_among (all_seen ms)) s a
+  members_gathered l = ended _ _ s a g (ap (λ xs. words_among (all_seen xs)) (drop_end ms i l))

@@ -7,9 +7,10 @@ use Rattle.std.specs.Option.{option_map_or}
 use Rattle.std.specs.Str.{bytes_eq}
 use Rattle.std.specs.String.{string_bytes}
 use Rattle.tinyjson.specs.Equality.{tree_eq}
-use Rattle.tinyjson.specs.Tree.{Tree, string, array, object, Items, no_items, item, Members, no_members, member}
+use Rattle.tinyjson.specs.Tree.{Tree, string}
 use Rattle.tinyjson.specs.View.{view}
-use Rattle.tinyjson_schema_keywords.specs.Forms.{form_at}
+use Rattle.tinyjson_schema_keywords.specs.Forms.{form_by}
+use Rattle.tinyjson_schema_keywords.specs.Subschemas.{InSchema, schema_members}
 use Rattle.tinyjson_schema_keywords.specs.declared.anchor.Anchor.{Anchor}
 use Rattle.tinyjson_schema_keywords.specs.declared.form.Form.{Form}
 use Rattle.tinyjson_schema_keywords.specs.declared.form.Form.TheVariants as form
@@ -38,42 +39,21 @@ abbrev pub own_anchors : Tree → Tree → List Named
 own_anchors s (string cs) = (encode_utf8_all cs, s) ∷ []
 own_anchors s _ = []
 
--- of a keyword's value: its own anchor, or those where it is a schema, a list or an object of schemas
-abbrev pub anchors_by : Form → List Named → List Named → List Named → List Named → List Named
-anchors_by form.Anchor own one list entries = own
-anchors_by form.Schema own one list entries = one
-anchors_by form.Schemas own one list entries = list
-anchors_by form.SchemaMap own one list entries = entries
-anchors_by form.PatternMap own one list entries = entries
-anchors_by _ own one list entries = []
+abbrev pub anchors_by : Form → List Named → List Named
+anchors_by form.Anchor own = own
+anchors_by _ own = []
 
-abbrev mutual
-  -- the anchors of a schema and of the schemas in it, with members in the order of their keys
-  pub anchors_in : Tree → List Named
-  anchors_in (object ms) = anchors_among (object ms) ms
-  anchors_in _ = []
+-- what a member of a schema names
+abbrev pub anchors_of : InSchema → List Named
+anchors_of m = anchors_by (form_by m.2) (own_anchors m.0 m.3)
 
-  -- those of keywords of the schema s
-  pub anchors_among : Tree → Members → List Named
-  anchors_among s no_members = []
-  anchors_among s (member k w ms) = anchors_by (form_at (encode_utf8_all k)) (own_anchors s w) (anchors_in w) (anchors_in_list w)
-      (anchors_in_map w) ++ anchors_among s ms
+abbrev pub anchors_among : List InSchema → List Named
+anchors_among [] = []
+anchors_among (m ∷ ms) = anchors_of m ++ anchors_among ms
 
-  pub anchors_in_list : Tree → List Named
-  anchors_in_list (array ts) = anchors_of_items ts
-  anchors_in_list _ = []
-
-  pub anchors_in_map : Tree → List Named
-  anchors_in_map (object ms) = anchors_of_members ms
-  anchors_in_map _ = []
-
-  pub anchors_of_items : Items → List Named
-  anchors_of_items no_items = []
-  anchors_of_items (item t ts) = anchors_in t ++ anchors_of_items ts
-
-  pub anchors_of_members : Members → List Named
-  anchors_of_members no_members = []
-  anchors_of_members (member k t ms) = anchors_in t ++ anchors_of_members ms
+-- the anchors of a schema and of the schemas in it
+abbrev pub anchors_in : Tree → List Named
+anchors_in t = anchors_among (schema_members t)
 
 -- the schema of the first one with the name
 abbrev pub anchored : List Named → List ℕ → Option Tree
@@ -94,9 +74,6 @@ is_own_name root (string cs) = is_plain_name (encode_utf8_all cs) && not (is_nam
 is_own_name root _ = false
 
 -- ---- words of private contracts
-
-abbrev pub anchors_by_form : Form → Tree → Tree → List Named
-anchors_by_form f s w = anchors_by f (own_anchors s w) (anchors_in w) (anchors_in_list w) (anchors_in_map w)
 
 abbrev pub named : Anchor → Named
 named a = (string_bytes a.name.now, view a.schema.now)

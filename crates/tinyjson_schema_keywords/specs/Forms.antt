@@ -1,5 +1,5 @@
 -- The forms that the values of keywords have.
-use Rattle.std.specs.Prelude.{ℕ, Bool, true, false, List}
+use Rattle.std.specs.Prelude.{ℕ, Bool, true, false, List, Option}
 use Rattle.std.specs.Option.{option_map_or}
 use Rattle.tinyjson.specs.Tree.{Items, no_items, item}
 use Rattle.tinyjson_schema_keywords.specs.Names.{keywords, keyword_among}
@@ -67,9 +67,13 @@ form_of kw.ReadOnly = form.Truth
 form_of kw.WriteOnly = form.Truth
 form_of kw.Examples = form.List
 
--- the form of the keyword whose name has these bytes
+-- the form that the value of a name needs, if it is that of the keyword; of no keyword's it needs none
+abbrev pub form_by : Option Keyword → Form
+form_by k = option_map_or form_of k form.Anything
+
+-- the form that the value of the name with these bytes needs
 abbrev pub form_at : List ℕ → Form
-form_at key = option_map_or form_of (keyword_among keywords key) form.Anything
+form_at key = form_by (keyword_among keywords key)
 
 abbrev pub is_some_item : Items → Bool
 is_some_item no_items = false

@@ -1,19 +1,18 @@
 //! The plain names of the schemas in a document.
 ghost use Rattle.std.specs.Prelude.{◌≡◌, option_map, IfOk, OnOk};
 ghost use Rattle.std.specs.String.{string_bytes};
-ghost use Rattle.tinyjson.specs.View.{view, items_view, members_listed};
+ghost use Rattle.tinyjson.specs.View.{view};
 ghost use Rattle.tinyjson_schema_keywords.specs.Anchors.{is_name_start, is_name_part};
 ghost use Rattle.tinyjson_schema_keywords.specs.Anchors.{are_name_parts, is_plain_name, anchors_in};
-ghost use Rattle.tinyjson_schema_keywords.specs.Anchors.{anchors_among, anchors_in_list};
-ghost use Rattle.tinyjson_schema_keywords.specs.Anchors.{anchors_in_map, anchors_of_items};
-ghost use Rattle.tinyjson_schema_keywords.specs.Anchors.{anchors_of_members, anchors_by_form};
-ghost use Rattle.tinyjson_schema_keywords.specs.Anchors.{own_anchors, anchored, repeated};
-ghost use Rattle.tinyjson_schema_keywords.specs.Anchors.{all_named, Gathers};
+ghost use Rattle.tinyjson_schema_keywords.specs.Anchors.{anchors_of, anchors_among, own_anchors};
+ghost use Rattle.tinyjson_schema_keywords.specs.Anchors.{anchored, repeated, all_named, Gathers};
+ghost use Rattle.tinyjson_schema_keywords.specs.Subschemas.{seen, all_seen};
 
-use crate::form::{Form, form_at};
+use crate::form::{Form, form_by};
+use crate::subschemas::{SchemaMember, schema_members};
 use std::alloc::{AllocError, Global};
 use std::collections::BTreeSet;
-use tinyjson::{JsonValue, sorted_members};
+use tinyjson::JsonValue;
 
 /// A name of `$anchor` or `$dynamicAnchor`, and the schema that has it.
 #[derive(Clone, Copy)]
@@ -58,67 +57,35 @@ fn are_name_parts(bytes: &[u8]) -> bool
 /// The anchors of a schema and of the schemas in it, with members in the order of their keys. The only error is out of
 /// memory.
 ///
-/// It calls itself for each schema in the schema, so it takes stack as the schema is deep.
+/// It takes stack as the schema is nested.
 pub fn anchors_of(schema: &JsonValue, alloc: Global) -> Result<Vec<Anchor<'_>>, AllocError>
     ensures { IfOk result (λ anchors. all_named anchors.items ≡ anchors_in (view schema.now)) }
 {
+    let members = schema_members(schema, alloc)?;
+    anchors_among(members.as_slice(), alloc)
+}
+
+fn anchors_among<'s>(
+    members: &[SchemaMember<'s>],
+    alloc: Global,
+) -> Result<Vec<Anchor<'s>>, AllocError>
+    ensures { IfOk result
+        (λ anchors. all_named anchors.items ≡ anchors_among (all_seen members.now)) }
+{
     let mut anchors = Vec::new(alloc);
-    gather(schema, alloc, &mut anchors)?;
+    for member in members {
+        gather(*member, &mut anchors)?;
+    }
     Ok(anchors)
 }
 
-#[cycle(anchors)]
-fn gather<'s>(
-    schema: &'s JsonValue,
-    alloc: Global,
-    anchors: &mut Vec<Anchor<'s>>,
-) -> Result<(), AllocError>
+/// The one that the member gives its schema, if it does.
+fn gather<'s>(member: SchemaMember<'s>, anchors: &mut Vec<Anchor<'s>>) -> Result<(), AllocError>
     ensures { OnOk result
-        (Gathers (anchors_in (view schema.now)) anchors.old.items anchors.new.items) }
+        (Gathers (anchors_of (seen member.entry)) anchors.old.items anchors.new.items) }
 {
-    match schema {
-        JsonValue::Object(keywords) => {
-            let sorted = sorted_members(alloc, keywords)?;
-            gather_named(sorted.as_slice(), schema, alloc, anchors)
-        }
-        _ => Ok(()),
-    }
-}
-
-/// Those of keywords of the schema.
-#[cycle(anchors)]
-fn gather_named<'s>(
-    keywords: &[(&'s String, &'s JsonValue)],
-    schema: &'s JsonValue,
-    alloc: Global,
-    anchors: &mut Vec<Anchor<'s>>,
-) -> Result<(), AllocError>
-    ensures { OnOk result (Gathers (anchors_among (view schema.now) (members_listed keywords.now))
-        anchors.old.items anchors.new.items) }
-{
-    for &(name, operand) in keywords {
-        gather_within(form_at(name.as_str()), operand, schema, alloc, anchors)?;
-    }
-    Ok(())
-}
-
-/// The one of a keyword of the schema, or those of the schemas in its value.
-#[cycle(anchors)]
-fn gather_within<'s>(
-    form: Form,
-    operand: &'s JsonValue,
-    schema: &'s JsonValue,
-    alloc: Global,
-    anchors: &mut Vec<Anchor<'s>>,
-) -> Result<(), AllocError>
-    ensures { OnOk result (Gathers (anchors_by_form form (view schema.now) (view operand.now))
-        anchors.old.items anchors.new.items) }
-{
-    match form {
-        Form::Anchor => gather_own(operand, schema, anchors),
-        Form::Schema => gather(operand, alloc, anchors),
-        Form::Schemas => gather_in_list(operand, alloc, anchors),
-        Form::SchemaMap | Form::PatternMap => gather_in_map(operand, alloc, anchors),
+    match form_by(member.keyword) {
+        Form::Anchor => gather_own(member.value, member.schema, anchors),
         _ => Ok(()),
     }
 }
@@ -138,69 +105,6 @@ fn gather_own<'s>(
         }
         _ => Ok(()),
     }
-}
-
-#[cycle(anchors)]
-fn gather_in_list<'s>(
-    schemas: &'s JsonValue,
-    alloc: Global,
-    anchors: &mut Vec<Anchor<'s>>,
-) -> Result<(), AllocError>
-    ensures { OnOk result
-        (Gathers (anchors_in_list (view schemas.now)) anchors.old.items anchors.new.items) }
-{
-    match schemas {
-        JsonValue::Array(schemas) => gather_items(schemas.as_slice(), alloc, anchors),
-        _ => Ok(()),
-    }
-}
-
-#[cycle(anchors)]
-fn gather_items<'s>(
-    schemas: &'s [JsonValue],
-    alloc: Global,
-    anchors: &mut Vec<Anchor<'s>>,
-) -> Result<(), AllocError>
-    ensures { OnOk result
-        (Gathers (anchors_of_items (items_view schemas.now)) anchors.old.items anchors.new.items) }
-{
-    for schema in schemas {
-        gather(schema, alloc, anchors)?;
-    }
-    Ok(())
-}
-
-#[cycle(anchors)]
-fn gather_in_map<'s>(
-    schemas: &'s JsonValue,
-    alloc: Global,
-    anchors: &mut Vec<Anchor<'s>>,
-) -> Result<(), AllocError>
-    ensures { OnOk result
-        (Gathers (anchors_in_map (view schemas.now)) anchors.old.items anchors.new.items) }
-{
-    match schemas {
-        JsonValue::Object(schemas) => {
-            let sorted = sorted_members(alloc, schemas)?;
-            gather_members(sorted.as_slice(), alloc, anchors)
-        }
-        _ => Ok(()),
-    }
-}
-
-#[cycle(anchors)]
-fn gather_members<'s>(
-    schemas: &[(&'s String, &'s JsonValue)],
-    alloc: Global,
-    anchors: &mut Vec<Anchor<'s>>,
-) -> Result<(), AllocError>
-    ensures { OnOk result (Gathers (anchors_of_members (members_listed schemas.now))
-        anchors.old.items anchors.new.items) }
-{
-    for &(_, schema) in schemas {
-        gather(schema, alloc, anchors)?;
-    }
-    Ok(())
 }
 
 /// The schema of the first anchor with the name.

@@ -2,7 +2,7 @@
 ghost use Rattle.std.specs.Prelude.{◌≡◌};
 ghost use Rattle.std.specs.Option.{option_map_or};
 ghost use Rattle.tinyjson.specs.View.{items_view};
-ghost use Rattle.tinyjson_schema_keywords.specs.Forms.{form_of, form_at, is_some_item};
+ghost use Rattle.tinyjson_schema_keywords.specs.Forms.{form_of, form_by, form_at, is_some_item};
 
 use crate::keyword::{Keyword, keyword_of};
 use tinyjson::JsonValue;
@@ -44,11 +44,18 @@ pub enum Form {
     Anchor,
 }
 
-/// The form of the keyword of a name; a name that is none says nothing.
+/// The form that the value of a name needs; a name that is no keyword asks nothing.
 pub fn form_at(name: &str) -> Form
     ensures { result ≡ form_at name.now }
 {
-    match keyword_of(name) {
+    form_by(keyword_of(name))
+}
+
+/// That of a name's keyword, if it is one.
+pub fn form_by(keyword: Option<Keyword>) -> Form
+    ensures { result ≡ form_by keyword }
+{
+    match keyword {
         Some(keyword) => form_of(keyword),
         None => Form::Anything,
     }

@@ -13,6 +13,7 @@ mod document;
 mod form;
 mod keyword;
 mod reference;
+mod subschemas;
 mod unknown;
 mod walk;
 
@@ -21,8 +22,9 @@ pub use applied::{
     branch, has_key, listed_members, name_of, operand, schema_at, schema_map_at, schemas_at,
 };
 pub use document::{Document, Whole};
-pub use form::{Form, form_at, is_some_item};
+pub use form::{Form, form_at, form_by, is_some_item};
 pub use keyword::{Keyword, keyword_of};
 pub use reference::{at_pointer, percent_decoded, read_pointer, referenced, target};
+pub use subschemas::{SchemaMember, schema_members};
 pub use unknown::unknown_words;
 pub use walk::{CheckError, Walk};
