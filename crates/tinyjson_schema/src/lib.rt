@@ -10,6 +10,7 @@ mod assertions;
 mod circles;
 mod contains;
 mod multiple;
+mod operand;
 mod part;
 mod pattern;
 mod refused;

@@ -1,33 +1,27 @@
 //! Which schemas can be applied, and the place of what can't.
-ghost use Rattle.std.specs.Prelude.{◌≡◌, ◌&&◌, IfOk, true, false, option_map};
+ghost use Rattle.std.specs.Prelude.{◌&&◌, IfOk, true, false};
 ghost use Rattle.std.specs.Str.{chars};
-ghost use Rattle.std.specs.String.{string_bytes};
-ghost use Rattle.tinyjson.specs.Access.{is_string, is_boolean, is_array, is_number};
 ghost use Rattle.tinyjson.specs.Soundness.{IsSorted};
 ghost use Rattle.tinyjson.specs.Tree.{Tree, array, object};
 ghost use Rattle.tinyjson.specs.View.{view, items_view, members_listed};
-ghost use Rattle.tinyjson_schema_keywords.specs.Anchors.{is_own_name, is_name};
-ghost use Rattle.tinyjson_schema_keywords.specs.Forms.{is_some_item};
 ghost use Rattle.tinyjson_schema_keywords.specs.declared.form.Form.TheVariants as form;
-ghost use Rattle.tinyjson_schema.specs.Operands.{is_count, is_type_name, are_type_names, are_types};
-ghost use Rattle.tinyjson_schema.specs.Operands.{are_strings, are_keys, is_key_list};
-ghost use Rattle.tinyjson_schema.specs.Operands.{have_key_lists, is_key_map, is_pattern_text};
-ghost use Rattle.tinyjson_schema.specs.Operands.{are_patterns, has_patterns, is_dialect};
-ghost use Rattle.tinyjson_schema.specs.Operands.{is_name_of_type, is_type_list};
+ghost use Rattle.tinyjson_schema.specs.Operands.{is_pattern_text, are_patterns, has_patterns};
 ghost use Rattle.tinyjson_schema.specs.Refused.{Refuses, RefusesWhole, IsWhole, IsTextReason};
 ghost use Rattle.tinyjson_schema.specs.Refused.{whole_for, whole_of};
 ghost use Rattle.tinyjson_schema.specs.Schemas.{is_schema, keywords_fit, fits, is_schema_list};
 ghost use Rattle.tinyjson_schema.specs.Schemas.{is_schema_map, are_schemas, have_schemas};
 
-use crate::assertions::is_among;
 use crate::circles::leads;
 use crate::multiple::is_divisor_number;
+use crate::operand::{
+    are_types, is_array, is_base, is_boolean, is_count, is_dialect, is_key_list, is_key_map,
+    is_number, is_own_name, is_string,
+};
 use crate::pattern::{PatternError, is_pattern};
 use std::alloc::{AllocError, Global};
 use tinyjson::{JsonValue, sorted_members};
-use tinyjson_compare::are_distinct;
 use tinyjson_pointer::Pointer;
-use tinyjson_schema_keywords::{Document, Form, form_at, is_plain_name, is_some_item};
+use tinyjson_schema_keywords::{Document, Form, form_at, is_some_item};
 
 /// A place in a schema that is refused, and why.
 #[derive(Drop)]
@@ -317,177 +311,5 @@ fn unless(fits: bool, alloc: Global) -> Result<Option<RefusedPlace>, AllocError>
         Ok(None)
     } else {
         Ok(Some(whole_place(alloc, Reason::Misfit)))
-    }
-}
-
-/// Whether it is a plain name, and not the first one that the document has twice.
-fn is_own_name(value: &JsonValue, document: Document<'_, '_>) -> bool
-    ensures { result ≡ is_own_name (whole_of document.entry) (view value.now) }
-{
-    match value {
-        JsonValue::String(name) => is_plain_name(name.as_str())
-            && !is_name(document.again, name.as_str()),
-        _ => false,
-    }
-}
-
-fn is_name(again: Option<&String>, name: &str) -> bool
-    ensures { result ≡ is_name (option_map (λ x. string_bytes x.now) again.entry) name.now }
-{
-    match again {
-        Some(other) => other.as_str() == name,
-        None => false,
-    }
-}
-
-/// Whether the value may be that of `$id`: a string, in the whole schema alone.
-fn is_base(value: &JsonValue, is_whole: bool) -> bool
-    ensures { result ≡ is_whole && is_string (view value.now) }
-{
-    is_whole && is_string(value)
-}
-
-fn is_string(value: &JsonValue) -> bool
-    ensures { result ≡ is_string (view value.now) }
-{
-    matches!(value, JsonValue::String(_))
-}
-
-fn is_boolean(value: &JsonValue) -> bool
-    ensures { result ≡ is_boolean (view value.now) }
-{
-    matches!(value, JsonValue::Boolean(_))
-}
-
-fn is_array(value: &JsonValue) -> bool
-    ensures { result ≡ is_array (view value.now) }
-{
-    matches!(value, JsonValue::Array(_))
-}
-
-fn is_number(value: &JsonValue) -> bool
-    ensures { result ≡ is_number (view value.now) }
-{
-    matches!(value, JsonValue::Number(_))
-}
-
-fn is_count(value: &JsonValue) -> bool
-    ensures { result ≡ is_count (view value.now) }
-{
-    match value {
-        JsonValue::Number(number) => !number.is_negative() && number.power() >= 0,
-        _ => false,
-    }
-}
-
-fn are_types(value: &JsonValue) -> bool
-    ensures { result ≡ are_types (view value.now) }
-{
-    match value {
-        JsonValue::Array(names) => is_type_list(names.as_slice()),
-        _ => is_type_name(value),
-    }
-}
-
-fn is_type_list(names: &[JsonValue]) -> bool
-    ensures { result ≡ is_type_list (items_view names.now) }
-{
-    if !is_some_item(names) {
-        return false;
-    }
-    are_type_names(names)
-}
-
-fn are_type_names(names: &[JsonValue]) -> bool
-    ensures { result ≡ are_type_names (items_view names.now) }
-{
-    let mut rest = names;
-    while let Some((name, more)) = rest.split_first() {
-        if !is_type_name(name) || is_among(more, name) {
-            return false;
-        }
-        rest = more;
-    }
-    true
-}
-
-fn is_type_name(value: &JsonValue) -> bool
-    ensures { result ≡ is_type_name (view value.now) }
-{
-    match value {
-        JsonValue::String(name) => is_name_of_type(name.as_str()),
-        _ => false,
-    }
-}
-
-fn is_name_of_type(name: &str) -> bool
-    ensures { result ≡ is_name_of_type name.now }
-{
-    matches!(
-        name,
-        "null" | "boolean" | "object" | "array" | "number" | "string" | "integer"
-    )
-}
-
-fn is_key_list(value: &JsonValue, alloc: Global) -> Result<bool, AllocError>
-    ensures { IfOk result (λ is. is ≡ is_key_list (view value.now)) }
-{
-    match value {
-        JsonValue::Array(keys) => are_keys(keys.as_slice(), alloc),
-        _ => Ok(false),
-    }
-}
-
-/// Whether they are different strings. The time grows with the strings, and not with the pairs of them.
-fn are_keys(keys: &[JsonValue], alloc: Global) -> Result<bool, AllocError>
-    ensures { IfOk result (λ are. are ≡ are_keys (items_view keys.now)) }
-{
-    if !are_strings(keys) {
-        return Ok(false);
-    }
-    are_distinct(keys, alloc)
-}
-
-fn are_strings(values: &[JsonValue]) -> bool
-    ensures { result ≡ are_strings (items_view values.now) }
-{
-    for value in values {
-        if !is_string(value) {
-            return false;
-        }
-    }
-    true
-}
-
-fn is_key_map(value: &JsonValue, alloc: Global) -> Result<bool, AllocError>
-    ensures { IfOk result (λ is. is ≡ is_key_map (view value.now)) }
-{
-    match value {
-        JsonValue::Object(lists) => {
-            let sorted = sorted_members(alloc, lists)?;
-            have_key_lists(sorted.as_slice(), alloc)
-        }
-        _ => Ok(false),
-    }
-}
-
-fn have_key_lists(lists: &[(&String, &JsonValue)], alloc: Global) -> Result<bool, AllocError>
-    ensures { IfOk result (λ have. have ≡ have_key_lists (members_listed lists.now)) }
-{
-    for &(_, keys) in lists {
-        let is = is_key_list(keys, alloc)?;
-        if !is {
-            return Ok(false);
-        }
-    }
-    Ok(true)
-}
-
-fn is_dialect(value: &JsonValue) -> bool
-    ensures { result ≡ is_dialect (view value.now) }
-{
-    match value {
-        JsonValue::String(name) => name.as_str() == "https://json-schema.org/draft/2020-12/schema",
-        _ => false,
     }
 }

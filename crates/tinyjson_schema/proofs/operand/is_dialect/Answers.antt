@@ -3,7 +3,7 @@ use Rattle.tinyjson.proofs.Callers.{view_String}
 use Rattle.tinyjson.specs.View.{view}
 use Rattle.tinyjson_schema_keywords.proofs.Callers.{text_bytes}
 use Rattle.tinyjson_schema.specs.Operands.{is_dialect}
-use Rattle.tinyjson_schema.proofs.refused.is_dialect.Goals as goal
+use Rattle.tinyjson_schema.proofs.operand.is_dialect.Goals as goal
 
 pub returns-in-String : goal.returns-in-String
 returns-in-String c =
