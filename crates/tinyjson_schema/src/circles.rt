@@ -35,35 +35,36 @@ pub fn leads(
     let walk = Walk {
         whole: document.whole,
         steps: REFERENCE_STEPS,
+        alloc,
     };
-    let Some(schema) = target(reference, walk, alloc)? else {
+    let Some(schema) = target(reference, walk)? else {
         return Ok(false);
     };
-    settles(schema, walk, alloc)
+    settles(schema, walk)
 }
 
 /// Whether the schemas that are applied in one another to the value itself come to an end.
 #[cycle(circles)]
-fn settles(schema: &JsonValue, walk: Walk<'_, '_>, alloc: Global) -> Result<bool, AllocError>
+fn settles(schema: &JsonValue, walk: Walk<'_, '_>) -> Result<bool, AllocError>
     ensures { IfOk result
         (λ is. is ≡ settles_in walk.entry (view schema.now)) }
 {
     let Ok(inner) = walk.deeper() else {
         return Ok(false);
     };
-    let lists = lists_settle(&IN_LISTS, schema, inner, alloc)?;
+    let lists = lists_settle(&IN_LISTS, schema, inner)?;
     if !lists {
         return Ok(false);
     }
-    let singles = singles_settle(&IN_PLACE, schema, inner, alloc)?;
+    let singles = singles_settle(&IN_PLACE, schema, inner)?;
     if !singles {
         return Ok(false);
     }
-    let dependents = dependents_settle(schema, inner, alloc)?;
+    let dependents = dependents_settle(schema, inner)?;
     if !dependents {
         return Ok(false);
     }
-    reference_settles(schema, inner, alloc)
+    reference_settles(schema, inner)
 }
 
 #[cycle(circles)]
@@ -71,13 +72,12 @@ fn lists_settle(
     keywords: &[Keyword],
     schema: &JsonValue,
     walk: Walk<'_, '_>,
-    alloc: Global,
 ) -> Result<bool, AllocError>
     ensures { IfOk result (λ is. is
         ≡ lists_pass (settles_in walk.entry) keywords.now (view schema.now)) }
 {
     for keyword in keywords {
-        let settled = list_settles(schemas_at(schema, *keyword), walk, alloc)?;
+        let settled = list_settles(schemas_at(schema, *keyword), walk)?;
         if !settled {
             return Ok(false);
         }
@@ -86,16 +86,12 @@ fn lists_settle(
 }
 
 #[cycle(circles)]
-fn list_settles(
-    schemas: &[JsonValue],
-    walk: Walk<'_, '_>,
-    alloc: Global,
-) -> Result<bool, AllocError>
+fn list_settles(schemas: &[JsonValue], walk: Walk<'_, '_>) -> Result<bool, AllocError>
     ensures { IfOk result (λ is. is
         ≡ all_pass (settles_in walk.entry) (items_view schemas.now)) }
 {
     for schema in schemas {
-        let settled = settles(schema, walk, alloc)?;
+        let settled = settles(schema, walk)?;
         if !settled {
             return Ok(false);
         }
@@ -108,13 +104,12 @@ fn singles_settle(
     keywords: &[Keyword],
     schema: &JsonValue,
     walk: Walk<'_, '_>,
-    alloc: Global,
 ) -> Result<bool, AllocError>
     ensures { IfOk result (λ is. is
         ≡ singles_pass (settles_in walk.entry) keywords.now (view schema.now)) }
 {
     for keyword in keywords {
-        let settled = single_settles(*keyword, schema, walk, alloc)?;
+        let settled = single_settles(*keyword, schema, walk)?;
         if !settled {
             return Ok(false);
         }
@@ -127,41 +122,32 @@ fn single_settles(
     keyword: Keyword,
     schema: &JsonValue,
     walk: Walk<'_, '_>,
-    alloc: Global,
 ) -> Result<bool, AllocError>
     ensures { IfOk result (λ is. is ≡ option_map_or
         (settles_in walk.entry) (schema_at (view schema.now) keyword) true) }
 {
     match schema_at(schema, keyword) {
-        Some(part) => settles(part, walk, alloc),
+        Some(part) => settles(part, walk),
         None => Ok(true),
     }
 }
 
 #[cycle(circles)]
-fn dependents_settle(
-    schema: &JsonValue,
-    walk: Walk<'_, '_>,
-    alloc: Global,
-) -> Result<bool, AllocError>
+fn dependents_settle(schema: &JsonValue, walk: Walk<'_, '_>) -> Result<bool, AllocError>
     ensures { IfOk result (λ is. is ≡ map_passes (settles_in walk.entry)
         (schema_map_at (view schema.now) kw.DependentSchemas)) }
 {
-    let listed = schema_map_at(schema, Keyword::DependentSchemas, alloc)?;
-    map_settles(listed.as_slice(), walk, alloc)
+    let listed = schema_map_at(schema, Keyword::DependentSchemas, walk.alloc)?;
+    map_settles(listed.as_slice(), walk)
 }
 
 #[cycle(circles)]
-fn map_settles(
-    schemas: &[(&String, &JsonValue)],
-    walk: Walk<'_, '_>,
-    alloc: Global,
-) -> Result<bool, AllocError>
+fn map_settles(schemas: &[(&String, &JsonValue)], walk: Walk<'_, '_>) -> Result<bool, AllocError>
     ensures { IfOk result (λ is. is
         ≡ map_passes (settles_in walk.entry) (members_listed schemas.now)) }
 {
     for &(_, schema) in schemas {
-        let settled = settles(schema, walk, alloc)?;
+        let settled = settles(schema, walk)?;
         if !settled {
             return Ok(false);
         }
@@ -170,19 +156,15 @@ fn map_settles(
 }
 
 #[cycle(circles)]
-fn reference_settles(
-    schema: &JsonValue,
-    walk: Walk<'_, '_>,
-    alloc: Global,
-) -> Result<bool, AllocError>
+fn reference_settles(schema: &JsonValue, walk: Walk<'_, '_>) -> Result<bool, AllocError>
     ensures { IfOk result (λ is. is ≡ reference_passes (view walk.entry.whole.now.root.now)
         (settles_in walk.entry) (view schema.now)) }
 {
-    let plain = target_settles(Keyword::Ref, schema, walk, alloc)?;
+    let plain = target_settles(Keyword::Ref, schema, walk)?;
     if !plain {
         return Ok(false);
     }
-    target_settles(Keyword::DynamicRef, schema, walk, alloc)
+    target_settles(Keyword::DynamicRef, schema, walk)
 }
 
 #[cycle(circles)]
@@ -191,13 +173,12 @@ fn target_settles(
     keyword: Keyword,
     schema: &JsonValue,
     walk: Walk<'_, '_>,
-    alloc: Global,
 ) -> Result<bool, AllocError>
     ensures { IfOk result (λ is. is ≡ option_map_or (settles_in walk.entry)
         (referenced (view walk.entry.whole.now.root.now) keyword (view schema.now)) true) }
 {
-    match referenced(schema, keyword, walk, alloc)? {
-        Some(part) => settles(part, walk, alloc),
+    match referenced(schema, keyword, walk)? {
+        Some(part) => settles(part, walk),
         None => Ok(true),
     }
 }

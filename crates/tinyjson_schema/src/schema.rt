@@ -96,7 +96,8 @@ impl<'s> Schema<'s> {
         let walk = Walk {
             whole: &self.whole,
             steps,
+            alloc,
         };
-        find_violation(value, walk, alloc)
+        find_violation(value, walk)
     }
 }

@@ -22,7 +22,6 @@ use crate::pattern::Pattern;
 use crate::validate::tested::unmet_test;
 use crate::validate::unevaluated::in_rest;
 use crate::violation::Violation;
-use std::alloc::Global;
 use tinyjson::{JsonValue, sorted_members};
 use tinyjson_schema_keywords::{
     CheckError, Keyword, Walk, branch, has_key, listed_members, referenced, schema_at,
@@ -36,19 +35,18 @@ use tinyjson_schema_keywords::{
 /// It calls itself for each schema that a schema applies, so it takes stack as these are applied in one another.
 ///
 /// ```
-/// let violation = find_violation(&value, walk, alloc)?;
+/// let violation = find_violation(&value, walk)?;
 /// ```
 pub fn find_violation(
     value: &JsonValue,
     walk: Walk<'_, '_>,
-    alloc: Global,
 ) -> Result<Option<Violation>, CheckError>
     ensures judged { Validates walk.entry.steps (view walk.entry.whole.now.root.now)
         (view value.now) result }
     ensures only { IfOk result
         (λ found. Agrees (view walk.entry.whole.now.root.now) (view value.now) found) }
 {
-    violation_in(value, walk.whole.root, walk, alloc)
+    violation_in(value, walk.whole.root, walk)
 }
 
 /// The same of a schema in the whole one.
@@ -57,39 +55,38 @@ fn violation_in(
     value: &JsonValue,
     schema: &JsonValue,
     walk: Walk<'_, '_>,
-    alloc: Global,
 ) -> Result<Option<Violation>, CheckError>
     ensures { Judges walk.entry (view schema.now) (view value.now) result }
 {
     let inner = walk.deeper()?;
     if refuses_all(schema) {
-        return Ok(Some(Violation::of_schema(alloc)));
+        return Ok(Some(Violation::of_schema(walk.alloc)));
     }
-    if let Some(keyword) = unmet(schema, value, alloc)? {
-        return Ok(Some(Violation::of_keyword(alloc, keyword)?));
+    if let Some(keyword) = unmet(schema, value, walk.alloc)? {
+        return Ok(Some(Violation::of_keyword(walk.alloc, keyword)?));
     }
-    if let Some(keyword) = unmet_test(value, schema, inner, alloc)? {
-        return Ok(Some(Violation::of_keyword(alloc, keyword)?));
+    if let Some(keyword) = unmet_test(value, schema, inner)? {
+        return Ok(Some(Violation::of_keyword(walk.alloc, keyword)?));
     }
-    if let Some(found) = in_all_of(value, schema, inner, alloc)? {
+    if let Some(found) = in_all_of(value, schema, inner)? {
         return Ok(Some(found));
     }
-    if let Some(found) = in_branch(value, schema, inner, alloc)? {
+    if let Some(found) = in_branch(value, schema, inner)? {
         return Ok(Some(found));
     }
-    if let Some(found) = in_dependents(value, schema, inner, alloc)? {
+    if let Some(found) = in_dependents(value, schema, inner)? {
         return Ok(Some(found));
     }
-    if let Some(found) = in_patterned(value, schema, inner, alloc)? {
+    if let Some(found) = in_patterned(value, schema, inner)? {
         return Ok(Some(found));
     }
-    if let Some(found) = in_reference(value, schema, inner, alloc)? {
+    if let Some(found) = in_reference(value, schema, inner)? {
         return Ok(Some(found));
     }
-    if let Some(found) = in_parts(value, schema, inner, alloc)? {
+    if let Some(found) = in_parts(value, schema, inner)? {
         return Ok(Some(found));
     }
-    in_rest(value, schema, inner, alloc)
+    in_rest(value, schema, inner)
 }
 
 /// Whether it is the schema `false`.
@@ -108,12 +105,11 @@ fn is_accepted(
     value: &JsonValue,
     schema: &JsonValue,
     walk: Walk<'_, '_>,
-    alloc: Global,
 ) -> Result<bool, CheckError>
     ensures { IfOk result
         (λ is. Follows walk.entry is (λ f. f (view schema.now) (view value.now))) }
 {
-    let found = violation_in(value, schema, walk, alloc)?;
+    let found = violation_in(value, schema, walk)?;
     Ok(is_nothing(&found))
 }
 
@@ -132,7 +128,6 @@ fn in_all_of(
     value: &JsonValue,
     schema: &JsonValue,
     walk: Walk<'_, '_>,
-    alloc: Global,
 ) -> Result<Option<Violation>, CheckError>
     ensures { Finds walk.entry
         (λ f. applies f kw.AllOf (view schema.now) (view value.now))
@@ -140,8 +135,8 @@ fn in_all_of(
 {
     let parts = schemas_at(schema, Keyword::AllOf);
     for (index, part) in parts.iter().enumerate() {
-        if let Some(mut found) = violation_in(value, part, walk, alloc)? {
-            found.enter_listed(alloc, Keyword::AllOf, index)?;
+        if let Some(mut found) = violation_in(value, part, walk)? {
+            found.enter_listed(walk.alloc, Keyword::AllOf, index)?;
             return Ok(Some(found));
         }
     }
@@ -154,7 +149,6 @@ fn in_branch(
     value: &JsonValue,
     schema: &JsonValue,
     walk: Walk<'_, '_>,
-    alloc: Global,
 ) -> Result<Option<Violation>, CheckError>
     ensures { Finds walk.entry (λ f. applies f kw.If (view schema.now) (view value.now))
         (view schema.now) (view value.now) result }
@@ -162,15 +156,15 @@ fn in_branch(
     let Some(test) = schema_at(schema, Keyword::If) else {
         return Ok(None);
     };
-    let accepted = is_accepted(value, test, walk, alloc)?;
+    let accepted = is_accepted(value, test, walk)?;
     let chosen = branch(accepted);
     let Some(part) = schema_at(schema, chosen) else {
         return Ok(None);
     };
-    let Some(mut found) = violation_in(value, part, walk, alloc)? else {
+    let Some(mut found) = violation_in(value, part, walk)? else {
         return Ok(None);
     };
-    found.enter_keyword(alloc, chosen)?;
+    found.enter_keyword(walk.alloc, chosen)?;
     Ok(Some(found))
 }
 
@@ -180,18 +174,17 @@ fn in_dependents(
     value: &JsonValue,
     schema: &JsonValue,
     walk: Walk<'_, '_>,
-    alloc: Global,
 ) -> Result<Option<Violation>, CheckError>
     ensures { Finds walk.entry
         (λ f. applies f kw.DependentSchemas (view schema.now) (view value.now))
         (view schema.now) (view value.now) result }
 {
-    let listed = schema_map_at(schema, Keyword::DependentSchemas, alloc)?;
+    let listed = schema_map_at(schema, Keyword::DependentSchemas, walk.alloc)?;
     let dependents = listed.as_slice();
     for &(key, part) in dependents {
         if has_key(value, key.as_str()) {
-            if let Some(mut found) = violation_in(value, part, walk, alloc)? {
-                found.enter_keyed(alloc, Keyword::DependentSchemas, key.as_str())?;
+            if let Some(mut found) = violation_in(value, part, walk)? {
+                found.enter_keyed(walk.alloc, Keyword::DependentSchemas, key.as_str())?;
                 return Ok(Some(found));
             }
         }
@@ -206,17 +199,16 @@ fn in_patterned(
     value: &JsonValue,
     schema: &JsonValue,
     walk: Walk<'_, '_>,
-    alloc: Global,
 ) -> Result<Option<Violation>, CheckError>
     ensures { Finds walk.entry
         (λ f. applies f kw.PatternProperties (view schema.now) (view value.now))
         (view schema.now) (view value.now) result }
 {
-    let listed = schema_map_at(schema, Keyword::PatternProperties, alloc)?;
+    let listed = schema_map_at(schema, Keyword::PatternProperties, walk.alloc)?;
     let patterns = listed.as_slice();
     for &(pattern, part) in patterns {
-        if let Some(mut found) = in_found(value, pattern.as_str(), part, walk, alloc)? {
-            found.enter_keyed(alloc, Keyword::PatternProperties, pattern.as_str())?;
+        if let Some(mut found) = in_found(value, pattern.as_str(), part, walk)? {
+            found.enter_keyed(walk.alloc, Keyword::PatternProperties, pattern.as_str())?;
             return Ok(Some(found));
         }
     }
@@ -231,19 +223,18 @@ fn in_found(
     pattern: &str,
     schema: &JsonValue,
     walk: Walk<'_, '_>,
-    alloc: Global,
 ) -> Result<Option<Violation>, CheckError>
     ensures { FindsFound walk.entry (chars pattern.now) (view schema.now)
         (members_in (view value.now)) result }
 {
-    let mut code = Pattern::read(alloc, pattern)?;
-    let listed = listed_members(value, alloc)?;
+    let mut code = Pattern::read(walk.alloc, pattern)?;
+    let listed = listed_members(value, walk.alloc)?;
     let members = listed.as_slice();
     for &(key, member) in members {
         let is_found = code.is_found_in(key.as_str());
         if is_found {
-            if let Some(mut found) = violation_in(member, schema, walk, alloc)? {
-                found.enter_value(alloc, key.as_str())?;
+            if let Some(mut found) = violation_in(member, schema, walk)? {
+                found.enter_value(walk.alloc, key.as_str())?;
                 return Ok(Some(found));
             }
         }
@@ -257,17 +248,16 @@ fn in_reference(
     value: &JsonValue,
     schema: &JsonValue,
     walk: Walk<'_, '_>,
-    alloc: Global,
 ) -> Result<Option<Violation>, CheckError>
     ensures { Finds walk.entry
         (λ f. reference_accepts (view walk.entry.whole.now.root.now) f (view schema.now)
         (view value.now))
         (view schema.now) (view value.now) result }
 {
-    if let Some(found) = in_target(value, schema, Keyword::Ref, walk, alloc)? {
+    if let Some(found) = in_target(value, schema, Keyword::Ref, walk)? {
         return Ok(Some(found));
     }
-    in_target(value, schema, Keyword::DynamicRef, walk, alloc)
+    in_target(value, schema, Keyword::DynamicRef, walk)
 }
 
 /// What the value does not meet of the schema that the reference leads to.
@@ -278,19 +268,18 @@ fn in_target(
     schema: &JsonValue,
     keyword: Keyword,
     walk: Walk<'_, '_>,
-    alloc: Global,
 ) -> Result<Option<Violation>, CheckError>
     requires { is_reference keyword ≡ true }
     ensures { Finds walk.entry (λ f. target_accepts (view walk.entry.whole.now.root.now) keyword f
         (view schema.now) (view value.now)) (view schema.now) (view value.now) result }
 {
-    let Some(part) = referenced(schema, keyword, walk, alloc)? else {
+    let Some(part) = referenced(schema, keyword, walk)? else {
         return Ok(None);
     };
-    let Some(mut found) = violation_in(value, part, walk, alloc)? else {
+    let Some(mut found) = violation_in(value, part, walk)? else {
         return Ok(None);
     };
-    found.enter_keyword(alloc, keyword)?;
+    found.enter_keyword(walk.alloc, keyword)?;
     Ok(Some(found))
 }
 
@@ -300,17 +289,16 @@ fn in_parts(
     value: &JsonValue,
     schema: &JsonValue,
     walk: Walk<'_, '_>,
-    alloc: Global,
 ) -> Result<Option<Violation>, CheckError>
     ensures { Finds walk.entry (λ f. parts_accepted f (view schema.now) (view value.now))
         (view schema.now) (view value.now) result }
 {
     match value {
         JsonValue::Object(members) => {
-            let sorted = sorted_members(alloc, members)?;
-            in_members(sorted.as_slice(), schema, walk, alloc)
+            let sorted = sorted_members(walk.alloc, members)?;
+            in_members(sorted.as_slice(), schema, walk)
         }
-        JsonValue::Array(items) => in_items(items.as_slice(), schema, walk, alloc),
+        JsonValue::Array(items) => in_items(items.as_slice(), schema, walk),
         _ => Ok(None),
     }
 }
@@ -320,7 +308,6 @@ fn in_members(
     members: &[(&String, &JsonValue)],
     schema: &JsonValue,
     walk: Walk<'_, '_>,
-    alloc: Global,
 ) -> Result<Option<Violation>, CheckError>
     requires { IsSorted (members_listed members.now) }
     ensures { Finds walk.entry
@@ -328,9 +315,9 @@ fn in_members(
         (view schema.now) (object (members_listed members.now)) result }
 {
     for &(key, member) in members {
-        if let Some(part) = member_part(schema, key.as_str(), alloc)? {
-            if let Some(mut found) = violation_in(member, part.schema, walk, alloc)? {
-                found.enter_member(alloc, part.applicator, key.as_str())?;
+        if let Some(part) = member_part(schema, key.as_str(), walk.alloc)? {
+            if let Some(mut found) = violation_in(member, part.schema, walk)? {
+                found.enter_member(walk.alloc, part.applicator, key.as_str())?;
                 return Ok(Some(found));
             }
         }
@@ -343,7 +330,6 @@ fn in_items(
     items: &[JsonValue],
     schema: &JsonValue,
     walk: Walk<'_, '_>,
-    alloc: Global,
 ) -> Result<Option<Violation>, CheckError>
     ensures { Finds walk.entry
         (λ f. items_accepted f (view schema.now) 0 (items_view items.now))
@@ -351,8 +337,8 @@ fn in_items(
 {
     for (index, item) in items.iter().enumerate() {
         if let Some(part) = item_part(schema, index) {
-            if let Some(mut found) = violation_in(item, part.schema, walk, alloc)? {
-                found.enter_item(alloc, part.applicator, index)?;
+            if let Some(mut found) = violation_in(item, part.schema, walk)? {
+                found.enter_item(walk.alloc, part.applicator, index)?;
                 return Ok(Some(found));
             }
         }

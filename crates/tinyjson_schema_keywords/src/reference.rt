@@ -26,13 +26,12 @@ pub fn referenced<'s>(
     schema: &JsonValue,
     keyword: Keyword,
     walk: Walk<'_, 's>,
-    alloc: Global,
 ) -> Result<Option<&'s JsonValue>, AllocError>
     ensures { IfOk result (λ r. option_map (λ x. view x.now) r
         ≡ referenced (view walk.entry.whole.now.root.now) keyword (view schema.now)) }
 {
     match schema_at(schema, keyword) {
-        Some(reference) => target(reference, walk, alloc),
+        Some(reference) => target(reference, walk),
         None => Ok(None),
     }
 }
@@ -43,7 +42,6 @@ pub fn referenced<'s>(
 pub fn target<'s>(
     reference: &JsonValue,
     walk: Walk<'_, 's>,
-    alloc: Global,
 ) -> Result<Option<&'s JsonValue>, AllocError>
     ensures { IfOk result (λ r. option_map (λ x. view x.now) r
         ≡ target (view walk.entry.whole.now.root.now) (view reference.now)) }
@@ -51,18 +49,14 @@ pub fn target<'s>(
     let JsonValue::String(reference) = reference else {
         return Ok(None);
     };
-    let Some(fragment) = read_reference(reference.as_str(), alloc)? else {
+    let Some(fragment) = read_reference(reference.as_str(), walk.alloc)? else {
         return Ok(None);
     };
-    at_fragment(fragment.as_slice(), walk, alloc)
+    at_fragment(fragment.as_slice(), walk)
 }
 
 /// The schema that a fragment leads to, if its bytes are UTF-8.
-fn at_fragment<'s>(
-    fragment: &[u8],
-    walk: Walk<'_, 's>,
-    alloc: Global,
-) -> Result<Option<&'s JsonValue>, AllocError>
+fn at_fragment<'s>(fragment: &[u8], walk: Walk<'_, 's>) -> Result<Option<&'s JsonValue>, AllocError>
     ensures { IfOk result (λ r. option_map (λ x. view x.now) r
         ≡ at_fragment (view walk.entry.whole.now.root.now) fragment.now) }
 {
@@ -72,7 +66,7 @@ fn at_fragment<'s>(
     if is_plain_name(text) {
         return Ok(anchored(walk.whole.anchors.as_slice(), text));
     }
-    at_pointer(walk.whole.root, text, alloc)
+    at_pointer(walk.whole.root, text, walk.alloc)
 }
 
 /// The schema that a pointer leads to.

@@ -3,7 +3,7 @@ ghost use Rattle.std.specs.Prelude.{◌≡◌, MatchResult};
 ghost use Rattle.tinyjson_schema_keywords.specs.Walks.{IsDeeper};
 
 use crate::document::Whole;
-use std::alloc::{AllocError, AllocFailed};
+use std::alloc::{AllocError, AllocFailed, Global};
 
 /// Why it is not known whether a value is valid.
 #[derive(Clone, Copy)]
@@ -26,11 +26,12 @@ impl<T: Drop> From<AllocFailed<T>> for CheckError {
     }
 }
 
-/// Where references lead, and how many schemas more may be applied in one another.
+/// Where references lead, how many more nested schemas may be applied, and where what the check makes is allocated.
 #[derive(Clone, Copy)]
 pub struct Walk<'d, 's> {
     pub whole: &'d Whole<'s>,
     pub steps: usize,
+    pub alloc: Global,
 }
 
 impl<'d, 's> Walk<'d, 's> {
@@ -43,6 +44,7 @@ impl<'d, 's> Walk<'d, 's> {
             Some(steps) => Ok(Walk {
                 whole: self.whole,
                 steps,
+                alloc: self.alloc,
             }),
             None => Err(CheckError::TooDeep),
         }

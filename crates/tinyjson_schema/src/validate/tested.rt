@@ -10,7 +10,6 @@ ghost use Rattle.tinyjson_schema.specs.Valid.{Follows, IsUnapplied};
 
 use crate::contains::{contains_at_least, contains_at_most, contains_some};
 use crate::validate::is_accepted;
-use std::alloc::Global;
 use tinyjson::JsonValue;
 use tinyjson_schema_keywords::{
     CheckError, Keyword, Walk, is_some_item, listed_members, name_of, schema_at, schemas_at,
@@ -23,28 +22,27 @@ pub fn unmet_test(
     value: &JsonValue,
     schema: &JsonValue,
     walk: Walk<'_, '_>,
-    alloc: Global,
 ) -> Result<Option<Keyword>, CheckError>
     ensures { IfOk result
         (λ found. IsUnapplied walk.entry tests (view schema.now) (view value.now) found) }
 {
-    let any = is_any_met(value, schemas_at(schema, Keyword::AnyOf), walk, alloc)?;
+    let any = is_any_met(value, schemas_at(schema, Keyword::AnyOf), walk)?;
     if !any {
         return Ok(Some(Keyword::AnyOf));
     }
-    let one = is_one_met(value, schemas_at(schema, Keyword::OneOf), walk, alloc)?;
+    let one = is_one_met(value, schemas_at(schema, Keyword::OneOf), walk)?;
     if !one {
         return Ok(Some(Keyword::OneOf));
     }
-    let other = is_not_met(value, schema, walk, alloc)?;
+    let other = is_not_met(value, schema, walk)?;
     if !other {
         return Ok(Some(Keyword::Not));
     }
-    let names = are_names_met(value, schema, walk, alloc)?;
+    let names = are_names_met(value, schema, walk)?;
     if !names {
         return Ok(Some(Keyword::PropertyNames));
     }
-    unmet_count(value, schema, walk, alloc)
+    unmet_count(value, schema, walk)
 }
 
 /// A keyword that the value does not meet by how many items the schema of `contains` accepts.
@@ -54,21 +52,20 @@ fn unmet_count(
     value: &JsonValue,
     schema: &JsonValue,
     walk: Walk<'_, '_>,
-    alloc: Global,
 ) -> Result<Option<Keyword>, CheckError>
     ensures { IfOk result
         (λ found. IsUnapplied walk.entry counts (view schema.now) (view value.now) found) }
 {
-    let count = contained(value, schema, walk, alloc)?;
+    let count = contained(value, schema, walk)?;
     let some = contains_some(count, schema);
     if !some {
         return Ok(Some(Keyword::Contains));
     }
-    let most = contains_at_most(count, schema, alloc)?;
+    let most = contains_at_most(count, schema, walk.alloc)?;
     if !most {
         return Ok(Some(Keyword::MaxContains));
     }
-    let least = contains_at_least(count, schema, alloc)?;
+    let least = contains_at_least(count, schema, walk.alloc)?;
     if !least {
         return Ok(Some(Keyword::MinContains));
     }
@@ -82,7 +79,6 @@ fn is_any_met(
     value: &JsonValue,
     schemas: &[JsonValue],
     walk: Walk<'_, '_>,
-    alloc: Global,
 ) -> Result<bool, CheckError>
     ensures { IfOk result
         (λ is. Follows walk.entry is
@@ -91,7 +87,7 @@ fn is_any_met(
     if !is_some_item(schemas) {
         return Ok(true);
     }
-    let accepted = is_some_met(value, schemas, walk, alloc)?;
+    let accepted = is_some_met(value, schemas, walk)?;
     Ok(accepted)
 }
 
@@ -101,14 +97,13 @@ fn is_some_met(
     value: &JsonValue,
     schemas: &[JsonValue],
     walk: Walk<'_, '_>,
-    alloc: Global,
 ) -> Result<bool, CheckError>
     ensures { IfOk result
         (λ is. Follows walk.entry is
         (λ f. some_accepts f (items_view schemas.now) (view value.now))) }
 {
     for schema in schemas {
-        let accepted = is_accepted(value, schema, walk, alloc)?;
+        let accepted = is_accepted(value, schema, walk)?;
         if accepted {
             return Ok(true);
         }
@@ -123,7 +118,6 @@ fn is_one_met(
     value: &JsonValue,
     schemas: &[JsonValue],
     walk: Walk<'_, '_>,
-    alloc: Global,
 ) -> Result<bool, CheckError>
     ensures { IfOk result
         (λ is. Follows walk.entry is
@@ -132,7 +126,7 @@ fn is_one_met(
     if !is_some_item(schemas) {
         return Ok(true);
     }
-    let count = count_accepting(value, schemas, walk, alloc)?;
+    let count = count_accepting(value, schemas, walk)?;
     Ok(count == 1)
 }
 
@@ -142,7 +136,6 @@ fn count_accepting(
     value: &JsonValue,
     schemas: &[JsonValue],
     walk: Walk<'_, '_>,
-    alloc: Global,
 ) -> Result<usize, CheckError>
     ensures { IfOk result
         (λ count. Follows walk.entry count
@@ -150,7 +143,7 @@ fn count_accepting(
 {
     let mut count = 0;
     for schema in schemas {
-        let accepted = is_accepted(value, schema, walk, alloc)?;
+        let accepted = is_accepted(value, schema, walk)?;
         if accepted {
             count += 1;
         }
@@ -161,19 +154,14 @@ fn count_accepting(
 /// Whether the schema of `not` does not accept the value.
 #[cycle(validate)]
 #[inline(never)]
-fn is_not_met(
-    value: &JsonValue,
-    schema: &JsonValue,
-    walk: Walk<'_, '_>,
-    alloc: Global,
-) -> Result<bool, CheckError>
+fn is_not_met(value: &JsonValue, schema: &JsonValue, walk: Walk<'_, '_>) -> Result<bool, CheckError>
     ensures { IfOk result
         (λ is. Follows walk.entry is
         (λ f. applies f kw.Not (view schema.now) (view value.now))) }
 {
     match schema_at(schema, Keyword::Not) {
         Some(part) => {
-            let accepted = is_accepted(value, part, walk, alloc)?;
+            let accepted = is_accepted(value, part, walk)?;
             Ok(!accepted)
         }
         None => Ok(true),
@@ -187,7 +175,6 @@ fn are_names_met(
     value: &JsonValue,
     schema: &JsonValue,
     walk: Walk<'_, '_>,
-    alloc: Global,
 ) -> Result<bool, CheckError>
     ensures { IfOk result
         (λ is. Follows walk.entry is
@@ -195,8 +182,8 @@ fn are_names_met(
 {
     match schema_at(schema, Keyword::PropertyNames) {
         Some(part) => {
-            let members = listed_members(value, alloc)?;
-            let accepted = are_keys_met(members.as_slice(), part, walk, alloc)?;
+            let members = listed_members(value, walk.alloc)?;
+            let accepted = are_keys_met(members.as_slice(), part, walk)?;
             Ok(accepted)
         }
         None => Ok(true),
@@ -209,15 +196,14 @@ fn are_keys_met(
     members: &[(&String, &JsonValue)],
     schema: &JsonValue,
     walk: Walk<'_, '_>,
-    alloc: Global,
 ) -> Result<bool, CheckError>
     ensures { IfOk result
         (λ is. Follows walk.entry is
         (λ f. keys_pass (f (view schema.now)) (members_listed members.now))) }
 {
     for &(key, _) in members {
-        let name = name_of(key, alloc)?;
-        let accepted = is_accepted(&name, schema, walk, alloc)?;
+        let name = name_of(key, walk.alloc)?;
+        let accepted = is_accepted(&name, schema, walk)?;
         if !accepted {
             return Ok(false);
         }
@@ -232,7 +218,6 @@ fn contained(
     value: &JsonValue,
     schema: &JsonValue,
     walk: Walk<'_, '_>,
-    alloc: Global,
 ) -> Result<Option<usize>, CheckError>
     ensures { IfOk result
         (λ count. Follows walk.entry count
@@ -243,7 +228,7 @@ fn contained(
     };
     match value {
         JsonValue::Array(items) => {
-            let count = count_passing(items.as_slice(), part, walk, alloc)?;
+            let count = count_passing(items.as_slice(), part, walk)?;
             Ok(Some(count))
         }
         _ => Ok(None),
@@ -255,7 +240,6 @@ fn count_passing(
     items: &[JsonValue],
     schema: &JsonValue,
     walk: Walk<'_, '_>,
-    alloc: Global,
 ) -> Result<usize, CheckError>
     ensures { IfOk result
         (λ count. Follows walk.entry count
@@ -263,7 +247,7 @@ fn count_passing(
 {
     let mut count = 0;
     for item in items {
-        let accepted = is_accepted(item, schema, walk, alloc)?;
+        let accepted = is_accepted(item, schema, walk)?;
         if accepted {
             count += 1;
         }

@@ -23,7 +23,7 @@ ghost use Rattle.tinyjson_schema.specs.Valid.{Follows, FindsRest, answers_in};
 use crate::part::{is_patterned, item_part, member_part};
 use crate::validate::{is_accepted, violation_in};
 use crate::violation::Violation;
-use std::alloc::{AllocError, Global};
+use std::alloc::AllocError;
 use tinyjson::{JsonValue, sorted_members};
 use tinyjson_schema_keywords::{
     CheckError, Keyword, Walk, branch, has_key, referenced, schema_at, schema_map_at, schemas_at,
@@ -46,7 +46,6 @@ pub fn in_rest(
     value: &JsonValue,
     schema: &JsonValue,
     walk: Walk<'_, '_>,
-    alloc: Global,
 ) -> Result<Option<Violation>, CheckError>
     ensures { FindsRest walk.entry (view schema.now) (view value.now) result }
 {
@@ -55,16 +54,16 @@ pub fn in_rest(
             let Some(rest) = schema_at(schema, Keyword::UnevaluatedProperties) else {
                 return Ok(None);
             };
-            let sources = sources_of(value, schema, walk, alloc)?;
-            let sorted = sorted_members(alloc, members)?;
-            in_members_left(sorted.as_slice(), rest, sources.as_slice(), walk, alloc)
+            let sources = sources_of(value, schema, walk)?;
+            let sorted = sorted_members(walk.alloc, members)?;
+            in_members_left(sorted.as_slice(), rest, sources.as_slice(), walk)
         }
         JsonValue::Array(items) => {
             let Some(rest) = schema_at(schema, Keyword::UnevaluatedItems) else {
                 return Ok(None);
             };
-            let sources = sources_of(value, schema, walk, alloc)?;
-            in_items_left(items.as_slice(), rest, sources.as_slice(), walk, alloc)
+            let sources = sources_of(value, schema, walk)?;
+            in_items_left(items.as_slice(), rest, sources.as_slice(), walk)
         }
         _ => Ok(None),
     }
@@ -78,17 +77,16 @@ fn in_members_left(
     rest: &JsonValue,
     sources: &[Source<'_, '_>],
     walk: Walk<'_, '_>,
-    alloc: Global,
 ) -> Result<Option<Violation>, CheckError>
     requires { IsSorted (members_listed members.now) }
     ensures { FindsLeft walk.entry kw.UnevaluatedProperties sources.now (view rest.now)
         (object (members_listed members.now)) result }
 {
     for &(key, member) in members {
-        let evaluated = is_member_evaluated(key.as_str(), sources, alloc)?;
+        let evaluated = is_member_evaluated(key.as_str(), sources)?;
         if !evaluated {
-            if let Some(mut found) = violation_in(member, rest, walk, alloc)? {
-                found.enter_member(alloc, Keyword::UnevaluatedProperties, key.as_str())?;
+            if let Some(mut found) = violation_in(member, rest, walk)? {
+                found.enter_member(walk.alloc, Keyword::UnevaluatedProperties, key.as_str())?;
                 return Ok(Some(found));
             }
         }
@@ -104,17 +102,16 @@ fn in_items_left(
     rest: &JsonValue,
     sources: &[Source<'_, '_>],
     walk: Walk<'_, '_>,
-    alloc: Global,
 ) -> Result<Option<Violation>, CheckError>
     requires { AreWithin walk.steps sources.now }
     ensures { FindsLeft walk.entry kw.UnevaluatedItems sources.now (view rest.now)
         (array (items_view items.now)) result }
 {
     for (index, item) in items.iter().enumerate() {
-        let evaluated = is_item_evaluated(index, item, sources, walk, alloc)?;
+        let evaluated = is_item_evaluated(index, item, sources, walk)?;
         if !evaluated {
-            if let Some(mut found) = violation_in(item, rest, walk, alloc)? {
-                found.enter_item(alloc, Keyword::UnevaluatedItems, index)?;
+            if let Some(mut found) = violation_in(item, rest, walk)? {
+                found.enter_item(walk.alloc, Keyword::UnevaluatedItems, index)?;
                 return Ok(Some(found));
             }
         }
@@ -124,16 +121,12 @@ fn in_items_left(
 
 /// Whether one of the sources evaluates the member at the key.
 #[inline(never)]
-fn is_member_evaluated(
-    key: &str,
-    sources: &[Source<'_, '_>],
-    alloc: Global,
-) -> Result<bool, AllocError>
+fn is_member_evaluated(key: &str, sources: &[Source<'_, '_>]) -> Result<bool, AllocError>
     ensures { IfOk result (λ is. (g : Answers) (u : Tree) →
         is ≡ sources_evaluate g sources.now (member_at (chars key.now) u)) }
 {
     for source in sources {
-        let evaluates = evaluates_member(source, key, alloc)?;
+        let evaluates = evaluates_member(source, key)?;
         if evaluates {
             return Ok(true);
         }
@@ -141,7 +134,7 @@ fn is_member_evaluated(
     Ok(false)
 }
 
-fn evaluates_member(source: &Source<'_, '_>, key: &str, alloc: Global) -> Result<bool, AllocError>
+fn evaluates_member(source: &Source<'_, '_>, key: &str) -> Result<bool, AllocError>
     ensures { IfOk result (λ is. (g : Answers) (u : Tree) →
         is ≡ source_evaluates g source.now (member_at (chars key.now) u)) }
 {
@@ -149,11 +142,11 @@ fn evaluates_member(source: &Source<'_, '_>, key: &str, alloc: Global) -> Result
     if has_rest {
         return Ok(true);
     }
-    let part = member_part(source.schema, key, alloc)?;
+    let part = member_part(source.schema, key, source.walk.alloc)?;
     if part.is_some() {
         return Ok(true);
     }
-    is_patterned(source.schema, key, alloc)
+    is_patterned(source.schema, key, source.walk.alloc)
 }
 
 /// Whether the source has the keyword for what the others leave, and does not ask.
@@ -175,14 +168,13 @@ fn is_item_evaluated(
     item: &JsonValue,
     sources: &[Source<'_, '_>],
     walk: Walk<'_, '_>,
-    alloc: Global,
 ) -> Result<bool, CheckError>
     requires { AreWithin walk.steps sources.now }
     ensures { IfOk result (λ is. (g : Answers) →
         is ≡ sources_evaluate g sources.now (item_at index (view item.now))) }
 {
     for source in sources {
-        let evaluates = evaluates_item(source, index, item, alloc)?;
+        let evaluates = evaluates_item(source, index, item)?;
         if evaluates {
             return Ok(true);
         }
@@ -196,7 +188,6 @@ fn evaluates_item(
     source: &Source<'_, '_>,
     index: usize,
     item: &JsonValue,
-    alloc: Global,
 ) -> Result<bool, CheckError>
     ensures { IfOk result (λ is. (g : Answers) →
         is ≡ source_evaluates g source.now (item_at index (view item.now))) }
@@ -212,7 +203,7 @@ fn evaluates_item(
     let Some(part) = schema_at(source.schema, Keyword::Contains) else {
         return Ok(false);
     };
-    let accepted = is_accepted(item, part, source.walk, alloc)?;
+    let accepted = is_accepted(item, part, source.walk)?;
     Ok(accepted)
 }
 
@@ -223,7 +214,6 @@ fn sources_of<'d, 's>(
     value: &JsonValue,
     schema: &'s JsonValue,
     walk: Walk<'d, 's>,
-    alloc: Global,
 ) -> Result<Vec<Source<'d, 's>>, CheckError>
     ensures evaluated { IfOk result (λ sources. (g : Answers) (c : Child) →
         sources_evaluate g sources.items c
@@ -231,13 +221,13 @@ fn sources_of<'d, 's>(
         (view schema.now) (view value.now) c) }
     ensures within { IfOk result (λ sources. AreWithin walk.entry.steps sources.items) }
 {
-    let mut sources = Vec::new(alloc);
+    let mut sources = Vec::new(walk.alloc);
     sources.push(Source {
         schema,
         walk,
         asks: true,
     })?;
-    add_inner(value, schema, walk, alloc, &mut sources)?;
+    add_inner(value, schema, walk, &mut sources)?;
     Ok(sources)
 }
 
@@ -248,7 +238,6 @@ fn add_schema<'d, 's>(
     value: &JsonValue,
     schema: &'s JsonValue,
     walk: Walk<'d, 's>,
-    alloc: Global,
     sources: &mut Vec<Source<'d, 's>>,
 ) -> Result<(), CheckError>
     ensures evaluated { OnOk result (Adds walk.entry
@@ -262,7 +251,7 @@ fn add_schema<'d, 's>(
         walk: inner,
         asks: false,
     })?;
-    add_inner(value, schema, inner, alloc, sources)?;
+    add_inner(value, schema, inner, sources)?;
     Ok(())
 }
 
@@ -273,7 +262,6 @@ fn add_inner<'d, 's>(
     value: &JsonValue,
     schema: &'s JsonValue,
     walk: Walk<'d, 's>,
-    alloc: Global,
     sources: &mut Vec<Source<'d, 's>>,
 ) -> Result<(), CheckError>
     ensures evaluated { OnOk result (Adds walk.entry
@@ -283,14 +271,14 @@ fn add_inner<'d, 's>(
     ensures within { OnOk result (StaysWithin walk.entry sources.old.items sources.new.items) }
 {
     let all = schemas_at(schema, Keyword::AllOf);
-    add_listed(value, all, walk, alloc, sources)?;
+    add_listed(value, all, walk, sources)?;
     let any = schemas_at(schema, Keyword::AnyOf);
-    add_accepting(value, any, walk, alloc, sources)?;
+    add_accepting(value, any, walk, sources)?;
     let one = schemas_at(schema, Keyword::OneOf);
-    add_accepting(value, one, walk, alloc, sources)?;
-    add_branch(value, schema, walk, alloc, sources)?;
-    add_dependents(value, schema, walk, alloc, sources)?;
-    add_reference(value, schema, walk, alloc, sources)?;
+    add_accepting(value, one, walk, sources)?;
+    add_branch(value, schema, walk, sources)?;
+    add_dependents(value, schema, walk, sources)?;
+    add_reference(value, schema, walk, sources)?;
     Ok(())
 }
 
@@ -301,7 +289,6 @@ fn add_listed<'d, 's>(
     value: &JsonValue,
     schemas: &'s [JsonValue],
     walk: Walk<'d, 's>,
-    alloc: Global,
     sources: &mut Vec<Source<'d, 's>>,
 ) -> Result<(), CheckError>
     ensures evaluated { OnOk result (Adds walk.entry
@@ -310,7 +297,7 @@ fn add_listed<'d, 's>(
     ensures within { OnOk result (StaysWithin walk.entry sources.old.items sources.new.items) }
 {
     for schema in schemas {
-        add_schema(value, schema, walk, alloc, sources)?;
+        add_schema(value, schema, walk, sources)?;
     }
     Ok(())
 }
@@ -322,7 +309,6 @@ fn add_accepting<'d, 's>(
     value: &JsonValue,
     schemas: &'s [JsonValue],
     walk: Walk<'d, 's>,
-    alloc: Global,
     sources: &mut Vec<Source<'d, 's>>,
 ) -> Result<(), CheckError>
     ensures evaluated { OnOk result (Adds walk.entry
@@ -331,7 +317,7 @@ fn add_accepting<'d, 's>(
     ensures within { OnOk result (StaysWithin walk.entry sources.old.items sources.new.items) }
 {
     for schema in schemas {
-        add_if_accepting(value, schema, walk, alloc, sources)?;
+        add_if_accepting(value, schema, walk, sources)?;
     }
     Ok(())
 }
@@ -343,7 +329,6 @@ fn add_if_accepting<'d, 's>(
     value: &JsonValue,
     schema: &'s JsonValue,
     walk: Walk<'d, 's>,
-    alloc: Global,
     sources: &mut Vec<Source<'d, 's>>,
 ) -> Result<bool, CheckError>
     ensures accepted { IfOk result (λ is. Follows walk.entry is
@@ -355,11 +340,11 @@ fn add_if_accepting<'d, 's>(
     ensures within { IfOk result (λ is.
         StaysWithin walk.entry sources.old.items sources.new.items) }
 {
-    let accepted = is_accepted(value, schema, walk, alloc)?;
+    let accepted = is_accepted(value, schema, walk)?;
     if !accepted {
         return Ok(false);
     }
-    add_schema(value, schema, walk, alloc, sources)?;
+    add_schema(value, schema, walk, sources)?;
     Ok(true)
 }
 
@@ -370,7 +355,6 @@ fn add_branch<'d, 's>(
     value: &JsonValue,
     schema: &'s JsonValue,
     walk: Walk<'d, 's>,
-    alloc: Global,
     sources: &mut Vec<Source<'d, 's>>,
 ) -> Result<(), CheckError>
     ensures evaluated { OnOk result (Adds walk.entry
@@ -381,12 +365,12 @@ fn add_branch<'d, 's>(
     let Some(test) = schema_at(schema, Keyword::If) else {
         return Ok(());
     };
-    let accepted = add_if_accepting(value, test, walk, alloc, sources)?;
+    let accepted = add_if_accepting(value, test, walk, sources)?;
     let chosen = branch(accepted);
     let Some(part) = schema_at(schema, chosen) else {
         return Ok(());
     };
-    add_schema(value, part, walk, alloc, sources)?;
+    add_schema(value, part, walk, sources)?;
     Ok(())
 }
 
@@ -397,7 +381,6 @@ fn add_dependents<'d, 's>(
     value: &JsonValue,
     schema: &'s JsonValue,
     walk: Walk<'d, 's>,
-    alloc: Global,
     sources: &mut Vec<Source<'d, 's>>,
 ) -> Result<(), CheckError>
     ensures evaluated { OnOk result (Adds walk.entry
@@ -406,10 +389,10 @@ fn add_dependents<'d, 's>(
         sources.old.items sources.new.items) }
     ensures within { OnOk result (StaysWithin walk.entry sources.old.items sources.new.items) }
 {
-    let listed = schema_map_at(schema, Keyword::DependentSchemas, alloc)?;
+    let listed = schema_map_at(schema, Keyword::DependentSchemas, walk.alloc)?;
     let dependents = listed.as_slice();
     for &(key, part) in dependents {
-        add_dependent(value, key.as_str(), part, walk, alloc, sources)?;
+        add_dependent(value, key.as_str(), part, walk, sources)?;
     }
     Ok(())
 }
@@ -422,7 +405,6 @@ fn add_dependent<'d, 's>(
     key: &str,
     schema: &'s JsonValue,
     walk: Walk<'d, 's>,
-    alloc: Global,
     sources: &mut Vec<Source<'d, 's>>,
 ) -> Result<(), CheckError>
     ensures evaluated { OnOk result (Adds walk.entry
@@ -434,7 +416,7 @@ fn add_dependent<'d, 's>(
     if !has_key(value, key) {
         return Ok(());
     }
-    add_schema(value, schema, walk, alloc, sources)?;
+    add_schema(value, schema, walk, sources)?;
     Ok(())
 }
 
@@ -445,7 +427,6 @@ fn add_reference<'d, 's>(
     value: &JsonValue,
     schema: &'s JsonValue,
     walk: Walk<'d, 's>,
-    alloc: Global,
     sources: &mut Vec<Source<'d, 's>>,
 ) -> Result<(), CheckError>
     ensures evaluated { OnOk result (Adds walk.entry
@@ -454,8 +435,8 @@ fn add_reference<'d, 's>(
         sources.old.items sources.new.items) }
     ensures within { OnOk result (StaysWithin walk.entry sources.old.items sources.new.items) }
 {
-    add_target(value, schema, Keyword::Ref, walk, alloc, sources)?;
-    add_target(value, schema, Keyword::DynamicRef, walk, alloc, sources)?;
+    add_target(value, schema, Keyword::Ref, walk, sources)?;
+    add_target(value, schema, Keyword::DynamicRef, walk, sources)?;
     Ok(())
 }
 
@@ -467,7 +448,6 @@ fn add_target<'d, 's>(
     schema: &'s JsonValue,
     keyword: Keyword,
     walk: Walk<'d, 's>,
-    alloc: Global,
     sources: &mut Vec<Source<'d, 's>>,
 ) -> Result<(), CheckError>
     ensures evaluated { OnOk result (Adds walk.entry
@@ -476,9 +456,9 @@ fn add_target<'d, 's>(
         sources.old.items sources.new.items) }
     ensures within { OnOk result (StaysWithin walk.entry sources.old.items sources.new.items) }
 {
-    let Some(part) = referenced(schema, keyword, walk, alloc)? else {
+    let Some(part) = referenced(schema, keyword, walk)? else {
         return Ok(());
     };
-    add_schema(value, part, walk, alloc, sources)?;
+    add_schema(value, part, walk, sources)?;
     Ok(())
 }
