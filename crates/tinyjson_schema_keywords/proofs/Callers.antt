@@ -6,7 +6,7 @@ pub use Rattle.tinyjson_schema_keywords.proofs.Lookups.{at_literal, at_name, nam
 pub use Rattle.tinyjson_schema_keywords.proofs.Naming.{anchors_had, no_plain_name, plain_name}
 -- ---- the members of a map in the order of their keys, and how deep they and items are
 pub use Rattle.tinyjson_schema_keywords.proofs.Listed.{Listed, listed_found, listed_sorted}
-pub use Rattle.tinyjson_schema_keywords.proofs.Depths.{items_depth_at, listed_depth}
+pub use Rattle.tinyjson_schema_keywords.proofs.Depths.{items_depth_at, items_in_depth, listed_depth, members_in_depth}
 -- ---- one turn of a loop over a list, and its end
 pub use Rattle.tinyjson_schema_keywords.proofs.Turns.{drop_suc, drop_item, drop_end, turn_next, turn_stop, turn_end, count_next, count_end}
 pub use Rattle.tinyjson_schema_keywords.proofs.Turns.{nth_item}

@@ -7,7 +7,8 @@ use Rattle.tinyjson.specs.View.{view, text, items_view, members_listed}
 use Rattle.tinyjson.specs.declared.value.JsonValue.{JsonValue}
 use Rattle.tinyjson_schema_keywords.specs.Forms.{form_at}
 use Rattle.tinyjson_schema_keywords.specs.Subschemas.{InSchema, in_schema, schema_members, members_among, members_of_items}
-use Rattle.tinyjson_schema_keywords.specs.Subschemas.{members_of_entries, members_by_form, seen, all_seen, Gathers}
+use Rattle.tinyjson_schema_keywords.specs.Subschemas.{members_of_entries, members_by_form}
+use Rattle.tinyjson_schema_keywords.specs.Subschemas.{seen, all_seen, Gathers}
 use Rattle.tinyjson_schema_keywords.specs.declared.subschemas.SchemaMember.{SchemaMember}
 use Rattle.tinyjson_schema_keywords.proofs.Listed.{Listed}
 use Rattle.tinyjson_schema_keywords.proofs.Lookups.{text_bytes}

@@ -6,7 +6,7 @@ ghost use Rattle.tinyjson.specs.Tree.{string};
 ghost use Rattle.tinyjson.specs.View.{view, text, items_view, members_listed};
 ghost use Rattle.tinyjson.specs.Soundness.{IsSorted};
 ghost use Rattle.tinyjson_schema_keywords.specs.Applied.{schema_at, schemas_at, schema_map_at};
-ghost use Rattle.tinyjson_schema_keywords.specs.Applied.{members_in, branch};
+ghost use Rattle.tinyjson_schema_keywords.specs.Applied.{items_in, members_in, branch};
 
 use crate::keyword::Keyword;
 use std::alloc::{AllocError, Global};
@@ -34,11 +34,18 @@ pub fn schema_at(schema: &JsonValue, keyword: Keyword) -> Option<&JsonValue>
 pub fn schemas_at(schema: &JsonValue, keyword: Keyword) -> &[JsonValue]
     ensures { items_view result.now ≡ schemas_at (view schema.now) keyword }
 {
-    let Some(list) = schema_at(schema, keyword) else {
-        return &[];
-    };
-    match list {
-        JsonValue::Array(schemas) => schemas.as_slice(),
+    match schema_at(schema, keyword) {
+        Some(list) => items_in(list),
+        None => &[],
+    }
+}
+
+/// The items of an array; of another value none.
+pub fn items_in(value: &JsonValue) -> &[JsonValue]
+    ensures { items_view result.now ≡ items_in (view value.now) }
+{
+    match value {
+        JsonValue::Array(items) => items.as_slice(),
         _ => &[],
     }
 }

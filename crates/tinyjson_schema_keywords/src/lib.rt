@@ -19,7 +19,8 @@ mod walk;
 
 pub use anchor::{Anchor, anchored, anchors_of, is_plain_name, repeated};
 pub use applied::{
-    branch, has_key, listed_members, name_of, operand, schema_at, schema_map_at, schemas_at,
+    branch, has_key, items_in, listed_members, name_of, operand, schema_at, schema_map_at,
+    schemas_at,
 };
 pub use document::{Document, Whole};
 pub use form::{Form, form_at, form_by, is_some_item};

@@ -2,10 +2,10 @@
 ghost use Rattle.std.specs.Prelude.{◌≡◌, IfOk, OnOk};
 ghost use Rattle.tinyjson.specs.View.{view, items_view, members_listed};
 ghost use Rattle.tinyjson_schema_keywords.specs.Subschemas.{schema_members, members_among};
-ghost use Rattle.tinyjson_schema_keywords.specs.Subschemas.{members_in_list, members_in_map};
 ghost use Rattle.tinyjson_schema_keywords.specs.Subschemas.{members_of_items, members_of_entries};
 ghost use Rattle.tinyjson_schema_keywords.specs.Subschemas.{members_by_form, all_seen, Gathers};
 
+use crate::applied::{items_in, listed_members};
 use crate::form::{Form, form_by};
 use crate::keyword::{Keyword, keyword_of};
 use std::alloc::{AllocError, Global};
@@ -91,23 +91,11 @@ fn gather_within<'s>(
 {
     match form {
         Form::Schema => gather(value, alloc, found),
-        Form::Schemas => gather_in_list(value, alloc, found),
-        Form::SchemaMap | Form::PatternMap => gather_in_map(value, alloc, found),
-        _ => Ok(()),
-    }
-}
-
-#[cycle(subschemas)]
-fn gather_in_list<'s>(
-    schemas: &'s JsonValue,
-    alloc: Global,
-    found: &mut Vec<SchemaMember<'s>>,
-) -> Result<(), AllocError>
-    ensures { OnOk result
-        (Gathers (members_in_list (view schemas.now)) found.old.items found.new.items) }
-{
-    match schemas {
-        JsonValue::Array(schemas) => gather_items(schemas.as_slice(), alloc, found),
+        Form::Schemas => gather_items(items_in(value), alloc, found),
+        Form::SchemaMap | Form::PatternMap => {
+            let sorted = listed_members(value, alloc)?;
+            gather_entries(sorted.as_slice(), alloc, found)
+        }
         _ => Ok(()),
     }
 }
@@ -125,24 +113,6 @@ fn gather_items<'s>(
         gather(schema, alloc, found)?;
     }
     Ok(())
-}
-
-#[cycle(subschemas)]
-fn gather_in_map<'s>(
-    schemas: &'s JsonValue,
-    alloc: Global,
-    found: &mut Vec<SchemaMember<'s>>,
-) -> Result<(), AllocError>
-    ensures { OnOk result
-        (Gathers (members_in_map (view schemas.now)) found.old.items found.new.items) }
-{
-    match schemas {
-        JsonValue::Object(schemas) => {
-            let sorted = sorted_members(alloc, schemas)?;
-            gather_entries(sorted.as_slice(), alloc, found)
-        }
-        _ => Ok(()),
-    }
 }
 
 #[cycle(subschemas)]

@@ -6,25 +6,19 @@ use Rattle.tinyjson_schema_keywords.proofs.Gathering.{IsLeft}
 use Rattle.tinyjson_schema_keywords.proofs.subschemas.+subschemas.Given as goal
 
 abbrev pub decreases-gather : goal.decreases-gather
-decreases-gather l = 3 * tree_depth (view l.schema.now) + 1
+decreases-gather l = 4 * tree_depth (view l.schema.now) + 2
 
 abbrev pub decreases-gather_named : goal.decreases-gather_named
-decreases-gather_named l = 3 * members_depth (members_listed l.members.now) + 3
+decreases-gather_named l = 4 * members_depth (members_listed l.members.now) + 5
 
 abbrev pub decreases-gather_within : goal.decreases-gather_within
-decreases-gather_within l = 3 * tree_depth (view l.value.now) + 2
-
-abbrev pub decreases-gather_in_list : goal.decreases-gather_in_list
-decreases-gather_in_list l = 3 * tree_depth (view l.schemas.now) + 1
+decreases-gather_within l = 4 * tree_depth (view l.value.now) + 4
 
 abbrev pub decreases-gather_items : goal.decreases-gather_items
-decreases-gather_items l = 3 * items_depth (items_view l.schemas.now) + 2
-
-abbrev pub decreases-gather_in_map : goal.decreases-gather_in_map
-decreases-gather_in_map l = 3 * tree_depth (view l.schemas.now) + 1
+decreases-gather_items l = 4 * items_depth (items_view l.schemas.now) + 3
 
 abbrev pub decreases-gather_entries : goal.decreases-gather_entries
-decreases-gather_entries l = 3 * members_depth (members_listed l.schemas.now) + 2
+decreases-gather_entries l = 4 * members_depth (members_listed l.schemas.now) + 3
 
 abbrev pub invariant-gather_named-loop-name : goal.invariant-gather_named-loop-name
 invariant-gather_named-loop-name l = IsLeft (members_among (view l.schema) (members_listed l.members))
