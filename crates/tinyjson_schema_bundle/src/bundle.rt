@@ -59,13 +59,14 @@ pub fn bundled(document: &JsonValue, alloc: Global) -> Result<JsonValue, AllocEr
         letters,
         copies: &[],
         from: &start,
+        alloc,
     };
-    let copies = copies_of(&guide, alloc)?;
+    let copies = copies_of(&guide)?;
     let guide = Guide {
         copies: copies.as_slice(),
         ..guide
     };
-    with_copies(document, &guide, alloc)
+    with_copies(document, &guide)
 }
 
 #[cycle(bundle)]
@@ -73,21 +74,20 @@ pub fn pointed(
     schema: &JsonValue,
     guide: &Guide<'_>,
     spot: Spot<'_>,
-    alloc: Global,
 ) -> Result<JsonValue, AllocError>
     ensures { IfOk result (λ v. view v ≡ pointed (guided guide.now)
         spot.entry.base.now spot.entry.place.now (view schema.now)) }
 {
     let JsonValue::Object(keywords) = schema else {
-        return schema.try_clone(alloc);
+        return schema.try_clone(guide.alloc);
     };
-    let base = base_in(spot.base, schema, alloc)?;
+    let base = base_in(spot.base, schema, guide.alloc)?;
     let spot = Spot {
         base: base.as_str(),
         place: spot.place,
     };
-    let sorted = sorted_members(alloc, keywords)?;
-    let members = pointed_named(sorted.as_slice(), guide, spot, alloc)?;
+    let sorted = sorted_members(guide.alloc, keywords)?;
+    let members = pointed_named(sorted.as_slice(), guide, spot)?;
     Ok(JsonValue::Object(members))
 }
 
@@ -97,20 +97,19 @@ pub fn pointed_named(
     keywords: &[(&String, &JsonValue)],
     guide: &Guide<'_>,
     spot: Spot<'_>,
-    alloc: Global,
 ) -> Result<HashMap<String, JsonValue>, AllocError>
     ensures { IfOk result (λ m. members_view m.entries ≡ pointed_among (guided guide.now)
         spot.entry.base.now spot.entry.place.now (members_listed keywords.now)) }
 {
-    let mut members = HashMap::new(alloc);
+    let mut members = HashMap::new(guide.alloc);
     let mut left = keywords.len();
     while left > 0 {
         left -= 1;
         let keyword = keywords[left];
         let (name, operand) = keyword;
-        let place = at_key(spot.place, name.as_str(), alloc)?;
-        let kept = kept_of(name.as_str(), operand, spot, place.as_str(), guide, alloc)?;
-        put_some(&mut members, name.as_str(), kept, alloc)?;
+        let place = at_key(spot.place, name.as_str(), guide.alloc)?;
+        let kept = kept_of(name.as_str(), operand, spot, place.as_str(), guide)?;
+        put_some(&mut members, name.as_str(), kept, guide.alloc)?;
     }
     Ok(members)
 }
@@ -125,7 +124,6 @@ fn kept_of(
     spot: Spot<'_>,
     place: &str,
     guide: &Guide<'_>,
-    alloc: Global,
 ) -> Result<Option<JsonValue>, AllocError>
     ensures { IfOk result (λ o. option_map view o ≡ kept_of (guided guide.now) name.now
         spot.entry.base.now spot.entry.place.now place.now (view operand.now)) }
@@ -135,10 +133,10 @@ fn kept_of(
         place,
     };
     match form_at(name) {
-        Form::Schema => Ok(Some(pointed(operand, guide, inner, alloc)?)),
-        Form::Schemas => Ok(Some(pointed_list(operand, guide, inner, alloc)?)),
-        Form::SchemaMap | Form::PatternMap => Ok(Some(pointed_map(operand, guide, inner, alloc)?)),
-        _ => kept_alone(name, operand, spot, guide, alloc),
+        Form::Schema => Ok(Some(pointed(operand, guide, inner)?)),
+        Form::Schemas => Ok(Some(pointed_list(operand, guide, inner)?)),
+        Form::SchemaMap | Form::PatternMap => Ok(Some(pointed_map(operand, guide, inner)?)),
+        _ => kept_alone(name, operand, spot, guide),
     }
 }
 
@@ -148,15 +146,14 @@ fn pointed_list(
     schemas: &JsonValue,
     guide: &Guide<'_>,
     spot: Spot<'_>,
-    alloc: Global,
 ) -> Result<JsonValue, AllocError>
     ensures { IfOk result (λ v. view v ≡ pointed_list (guided guide.now)
         spot.entry.base.now spot.entry.place.now (view schemas.now)) }
 {
     let JsonValue::Array(items) = schemas else {
-        return schemas.try_clone(alloc);
+        return schemas.try_clone(guide.alloc);
     };
-    let items = pointed_items(items.as_slice(), guide, spot, alloc)?;
+    let items = pointed_items(items.as_slice(), guide, spot)?;
     Ok(JsonValue::Array(items))
 }
 
@@ -165,19 +162,18 @@ fn pointed_items(
     schemas: &[JsonValue],
     guide: &Guide<'_>,
     spot: Spot<'_>,
-    alloc: Global,
 ) -> Result<Vec<JsonValue>, AllocError>
     ensures { IfOk result (λ l. items_view l.items ≡ pointed_items (guided guide.now)
         spot.entry.base.now spot.entry.place.now 0 (items_view schemas.now)) }
 {
-    let mut items = Vec::new(alloc);
+    let mut items = Vec::new(guide.alloc);
     for (index, schema) in schemas.iter().enumerate() {
-        let place = at_index(spot.place, index, alloc)?;
+        let place = at_index(spot.place, index, guide.alloc)?;
         let inner = Spot {
             base: spot.base,
             place: place.as_str(),
         };
-        let item = pointed(schema, guide, inner, alloc)?;
+        let item = pointed(schema, guide, inner)?;
         items.push(item)?;
     }
     Ok(items)
@@ -189,16 +185,15 @@ fn pointed_map(
     schemas: &JsonValue,
     guide: &Guide<'_>,
     spot: Spot<'_>,
-    alloc: Global,
 ) -> Result<JsonValue, AllocError>
     ensures { IfOk result (λ v. view v ≡ pointed_map (guided guide.now)
         spot.entry.base.now spot.entry.place.now (view schemas.now)) }
 {
     let JsonValue::Object(members) = schemas else {
-        return schemas.try_clone(alloc);
+        return schemas.try_clone(guide.alloc);
     };
-    let sorted = sorted_members(alloc, members)?;
-    let members = pointed_members(sorted.as_slice(), guide, spot, alloc)?;
+    let sorted = sorted_members(guide.alloc, members)?;
+    let members = pointed_members(sorted.as_slice(), guide, spot)?;
     Ok(JsonValue::Object(members))
 }
 
@@ -207,24 +202,23 @@ pub fn pointed_members(
     schemas: &[(&String, &JsonValue)],
     guide: &Guide<'_>,
     spot: Spot<'_>,
-    alloc: Global,
 ) -> Result<HashMap<String, JsonValue>, AllocError>
     ensures { IfOk result (λ m. members_view m.entries ≡ pointed_members (guided guide.now)
         spot.entry.base.now spot.entry.place.now (members_listed schemas.now)) }
 {
-    let mut members = HashMap::new(alloc);
+    let mut members = HashMap::new(guide.alloc);
     let mut left = schemas.len();
     while left > 0 {
         left -= 1;
         let member = schemas[left];
         let (key, schema) = member;
-        let place = at_key(spot.place, key.as_str(), alloc)?;
+        let place = at_key(spot.place, key.as_str(), guide.alloc)?;
         let inner = Spot {
             base: spot.base,
             place: place.as_str(),
         };
-        let value = pointed(schema, guide, inner, alloc)?;
-        put_member(&mut members, key.as_str(), value, alloc)?;
+        let value = pointed(schema, guide, inner)?;
+        put_member(&mut members, key.as_str(), value, guide.alloc)?;
     }
     Ok(members)
 }
@@ -270,7 +264,6 @@ fn kept_alone(
     operand: &JsonValue,
     spot: Spot<'_>,
     guide: &Guide<'_>,
-    alloc: Global,
 ) -> Result<Option<JsonValue>, AllocError>
     ensures { IfOk result (λ o. option_map view o ≡ kept_by (form_at name.now) (view operand.now)
         (kept_id (places_in guide.now.places.now) spot.entry.base.now spot.entry.place.now
@@ -281,10 +274,10 @@ fn kept_alone(
         (view operand.now) (view operand.now) (view operand.now)) }
 {
     match form_at(name) {
-        Form::Base => kept_id(operand, spot, guide.places, alloc),
-        Form::Anchor => kept_anchor(operand, spot, guide.places, alloc),
-        Form::Reference => Ok(Some(pointing(operand, is_dynamic(name), spot.base, guide, alloc)?)),
-        _ => Ok(Some(operand.try_clone(alloc)?)),
+        Form::Base => kept_id(operand, spot, guide.places, guide.alloc),
+        Form::Anchor => kept_anchor(operand, spot, guide.places, guide.alloc),
+        Form::Reference => Ok(Some(pointing(operand, is_dynamic(name), spot.base, guide)?)),
+        _ => Ok(Some(operand.try_clone(guide.alloc)?)),
     }
 }
 
@@ -366,18 +359,17 @@ fn pointing(
     dynamic: bool,
     base: &str,
     guide: &Guide<'_>,
-    alloc: Global,
 ) -> Result<JsonValue, AllocError>
     ensures { IfOk result (λ v. view v
         ≡ pointing (guided guide.now) dynamic base.now (view reference.now)) }
 {
     let JsonValue::String(text) = reference else {
-        return reference.try_clone(alloc);
+        return reference.try_clone(guide.alloc);
     };
-    let target = resolve(alloc, base, text.as_str())?;
-    match destination(target.as_str(), dynamic, base, guide, alloc)? {
-        Some(place) => Ok(JsonValue::String(format!(in alloc; "#{place}")?)),
-        None => reference.try_clone(alloc),
+    let target = resolve(guide.alloc, base, text.as_str())?;
+    match destination(target.as_str(), dynamic, base, guide)? {
+        Some(place) => Ok(JsonValue::String(format!(in guide.alloc; "#{place}")?)),
+        None => reference.try_clone(guide.alloc),
     }
 }
 
@@ -387,13 +379,12 @@ fn destination(
     dynamic: bool,
     base: &str,
     guide: &Guide<'_>,
-    alloc: Global,
 ) -> Result<Option<String>, AllocError>
     ensures { IfOk result (λ p. option_map string_bytes p
         ≡ destination (guided guide.now) dynamic base.now target.now) }
 {
-    match first_place(target, dynamic, base, guide, alloc)? {
-        Some(place) => Ok(Some(moved(base, place, guide, alloc)?)),
+    match first_place(target, dynamic, base, guide)? {
+        Some(place) => Ok(Some(moved(base, place, guide)?)),
         None => Ok(None),
     }
 }
@@ -404,13 +395,12 @@ pub fn first_place(
     dynamic: bool,
     base: &str,
     guide: &Guide<'_>,
-    alloc: Global,
 ) -> Result<Option<String>, AllocError>
     ensures { IfOk result (λ p. option_map string_bytes p
         ≡ first_place (guided guide.now) dynamic base.now target.now) }
 {
     let fragment = fragment_in(target);
-    let Some(decoded) = percent_decoded(fragment.as_bytes(), alloc)? else {
+    let Some(decoded) = percent_decoded(fragment.as_bytes(), guide.alloc)? else {
         return Ok(None);
     };
     let Ok(decoded) = str::from_utf8(decoded.as_slice()) else {
@@ -418,11 +408,11 @@ pub fn first_place(
     };
     let uri = without_fragment(target);
     if begins_pointer(decoded) {
-        place_below(uri, decoded, guide.places, alloc)
+        place_below(uri, decoded, guide.places, guide.alloc)
     } else if dynamic {
-        place_of_dynamic(base, uri, decoded, guide, alloc)
+        place_of_dynamic(base, uri, decoded, guide)
     } else {
-        place_of_name(uri, decoded, guide.places, alloc)
+        place_of_name(uri, decoded, guide.places, guide.alloc)
     }
 }
 

@@ -59,11 +59,7 @@ fn longer(count: usize, other: usize) -> usize
 }
 
 /// The document with pointers, and with the copies in its `$defs`.
-pub fn with_copies(
-    document: &JsonValue,
-    guide: &Guide<'_>,
-    alloc: Global,
-) -> Result<JsonValue, AllocError>
+pub fn with_copies(document: &JsonValue, guide: &Guide<'_>) -> Result<JsonValue, AllocError>
     requires root { reached_of guide.now.from.now ≡ from_root }
     ensures { IfOk result (λ v. view v ≡ with_copies (places_in guide.now.places.now)
         (all_marked guide.now.marks.now) guide.now.root.now guide.now.letters.now
@@ -74,12 +70,12 @@ pub fn with_copies(
         base: "",
         place: "",
     };
-    let whole = pointed(document, guide, spot, alloc)?;
+    let whole = pointed(document, guide, spot)?;
     if guide.copies.is_empty() {
         return Ok(whole);
     }
-    let defs = copied_defs(document, guide, alloc)?;
-    with_defs(whole, defs, alloc)
+    let defs = copied_defs(document, guide)?;
+    with_defs(whole, defs, guide.alloc)
 }
 
 /// The schema with these as its `$defs`, if there are any.
@@ -108,7 +104,6 @@ fn with_defs(
 fn copied_defs(
     document: &JsonValue,
     guide: &Guide<'_>,
-    alloc: Global,
 ) -> Result<Option<HashMap<String, JsonValue>>, AllocError>
     ensures { IfOk result (λ o. option_map (λ m. members_view m.entries) o ≡ option_map
         (put_copies (copy_of (places_in guide.now.places.now) (all_marked guide.now.marks.now)
@@ -117,10 +112,10 @@ fn copied_defs(
         (map reached_of guide.now.copies.now))
         (defs_in (guided guide.now) guide.now.root.now (schema_at (view document.now) Defs))) }
 {
-    let Some(mut defs) = defs_of(document, guide, alloc)? else {
+    let Some(mut defs) = defs_of(document, guide)? else {
         return Ok(None);
     };
-    put_copies(&mut defs, document, guide, alloc)?;
+    put_copies(&mut defs, document, guide)?;
     Ok(Some(defs))
 }
 
@@ -128,13 +123,12 @@ fn copied_defs(
 fn defs_of(
     document: &JsonValue,
     guide: &Guide<'_>,
-    alloc: Global,
 ) -> Result<Option<HashMap<String, JsonValue>>, AllocError>
     ensures { IfOk result (λ o. option_map (λ m. members_view m.entries) o
         ≡ defs_in (guided guide.now) guide.now.root.now (schema_at (view document.now) Defs)) }
 {
     let Some(defs) = schema_at(document, Keyword::Defs) else {
-        return Ok(Some(HashMap::new(alloc)));
+        return Ok(Some(HashMap::new(guide.alloc)));
     };
     let JsonValue::Object(schemas) = defs else {
         return Ok(None);
@@ -143,8 +137,8 @@ fn defs_of(
         base: guide.root,
         place: "/$defs",
     };
-    let sorted = sorted_members(alloc, schemas)?;
-    Ok(Some(pointed_members(sorted.as_slice(), guide, spot, alloc)?))
+    let sorted = sorted_members(guide.alloc, schemas)?;
+    Ok(Some(pointed_members(sorted.as_slice(), guide, spot)?))
 }
 
 /// Puts the copies.
@@ -152,7 +146,6 @@ fn put_copies(
     defs: &mut HashMap<String, JsonValue>,
     document: &JsonValue,
     guide: &Guide<'_>,
-    alloc: Global,
 ) -> Result<(), AllocError>
     ensures { OnOk result (members_view defs.new.entries ≡ put_copies
         (copy_of (places_in guide.now.places.now) (all_marked guide.now.marks.now)
@@ -162,19 +155,15 @@ fn put_copies(
 {
     for (index, from) in guide.copies.iter().enumerate() {
         let guide = Guide { from, ..*guide };
-        let copy = copy_of(document, &guide, alloc)?;
-        let key = format!(in alloc; "{}{index}", guide.letters)?;
-        put_some(defs, key.as_str(), copy, alloc)?;
+        let copy = copy_of(document, &guide)?;
+        let key = format!(in guide.alloc; "{}{index}", guide.letters)?;
+        put_some(defs, key.as_str(), copy, guide.alloc)?;
     }
     Ok(())
 }
 
 /// A copy of the resource that was reached, with pointers.
-fn copy_of(
-    document: &JsonValue,
-    guide: &Guide<'_>,
-    alloc: Global,
-) -> Result<Option<JsonValue>, AllocError>
+fn copy_of(document: &JsonValue, guide: &Guide<'_>) -> Result<Option<JsonValue>, AllocError>
     ensures { IfOk result (λ o. option_map view o ≡ copy_by (guided guide.now)
         (home (all_marked guide.now.marks.now) guide.now.root.now
         (string_bytes guide.now.from.now.entry)).0
@@ -182,7 +171,7 @@ fn copy_of(
         (schema_there (view document.now) (string_bytes guide.now.from.now.entry))) }
 {
     let place = guide.from.entry.as_str();
-    let Some(schema) = schema_there(document, place, alloc)? else {
+    let Some(schema) = schema_there(document, place, guide.alloc)? else {
         return Ok(None);
     };
     let JsonValue::Object(keywords) = schema else {
@@ -190,8 +179,8 @@ fn copy_of(
     };
     let (base, _) = home(place, guide);
     let spot = Spot { base, place };
-    let sorted = sorted_members(alloc, keywords)?;
-    let members = pointed_named(sorted.as_slice(), guide, spot, alloc)?;
+    let sorted = sorted_members(guide.alloc, keywords)?;
+    let members = pointed_named(sorted.as_slice(), guide, spot)?;
     Ok(Some(JsonValue::Object(members)))
 }
 
@@ -218,39 +207,35 @@ const MOST_COPIES: usize = 1000;
 
 /// What is to be copied, as references lead to it from the whole on. No clause says that it is all of that: a reference to
 /// what is not among them is refused at its place.
-pub fn copies_of(guide: &Guide<'_>, alloc: Global) -> Result<Vec<State>, AllocError> {
-    let mut copies = Vec::new(alloc);
+pub fn copies_of(guide: &Guide<'_>) -> Result<Vec<State>, AllocError> {
+    let mut copies = Vec::new(guide.alloc);
     if !guide.contested {
         return Ok(copies);
     }
-    gather_reached(guide, &mut copies, alloc)?;
+    gather_reached(guide, &mut copies)?;
     for next in 0..MOST_COPIES {
         if next >= copies.len() {
             break;
         }
-        let from = copies[next].try_clone(alloc)?;
+        let from = copies[next].try_clone(guide.alloc)?;
         let guide = Guide {
             from: &from,
             ..*guide
         };
-        gather_reached(&guide, &mut copies, alloc)?;
+        gather_reached(&guide, &mut copies)?;
     }
     Ok(copies)
 }
 
 /// What the references lead to from what was reached, if the document has it not itself.
-fn gather_reached(
-    guide: &Guide<'_>,
-    copies: &mut Vec<State>,
-    alloc: Global,
-) -> Result<(), AllocError> {
+fn gather_reached(guide: &Guide<'_>, copies: &mut Vec<State>) -> Result<(), AllocError> {
     for mark in guide.marks {
         let is_reference = matches!(mark.kind, Kind::Inside | Kind::Outside);
         if is_reference && is_within(guide.from.entry.as_str(), mark.place.as_str()) {
             let (base, _) = home(mark.place.as_str(), guide);
-            let target = resolve(alloc, base, mark.uri.as_str())?;
-            gather_target(target.as_str(), false, base, guide, copies, alloc)?;
-            gather_target(target.as_str(), true, base, guide, copies, alloc)?;
+            let target = resolve(guide.alloc, base, mark.uri.as_str())?;
+            gather_target(target.as_str(), false, base, guide, copies)?;
+            gather_target(target.as_str(), true, base, guide, copies)?;
         }
     }
     Ok(())
@@ -262,16 +247,15 @@ fn gather_target(
     base: &str,
     guide: &Guide<'_>,
     copies: &mut Vec<State>,
-    alloc: Global,
 ) -> Result<(), AllocError> {
     if copies.len() >= MOST_COPIES {
         return Ok(());
     }
-    let Some(place) = first_place(target, dynamic, base, guide, alloc)? else {
+    let Some(place) = first_place(target, dynamic, base, guide)? else {
         return Ok(());
     };
-    let state = reached(place_of_base(base, guide), place.as_str(), guide, alloc)?;
-    if is_in_document(&state, place.as_str(), guide, alloc)?
+    let state = reached(place_of_base(base, guide), place.as_str(), guide)?;
+    if is_in_document(&state, place.as_str(), guide)?
         || place_in_list(copies.as_slice(), &state) < copies.len()
     {
         return Ok(());

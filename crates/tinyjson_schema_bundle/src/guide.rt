@@ -18,7 +18,7 @@ use uri_reference::fragment;
 
 /// What the references of a document are looked up in: the place of each URI, all marks, and the URI of the whole; whether
 /// what has led to a dynamic reference tells where it leads, what was reached so, and what has a copy, at a key that
-/// begins with the letters.
+/// begins with the letters; and where what is made is allocated.
 #[derive(Clone, Copy)]
 pub struct Guide<'a> {
     pub places: &'a BTreeMap<String, String>,
@@ -28,6 +28,7 @@ pub struct Guide<'a> {
     pub letters: &'a str,
     pub copies: &'a [State],
     pub from: &'a State,
+    pub alloc: Global,
 }
 
 /// The place of each URI: the first one that it has.

@@ -178,7 +178,6 @@ fn is_entering(
     scope: &[Mark],
     uri: &str,
     guide: &Guide<'_>,
-    alloc: Global,
 ) -> Result<bool, AllocError>
     ensures { IfOk result (λ b. b ≡ is_entering (all_marked guide.now.marks.now)
         guide.now.root.now (all_marked scope.now) uri.now (marked mark.now)) }
@@ -187,22 +186,17 @@ fn is_entering(
     if without_fragment(text) != uri || settled(scope, fragment_in(text)).is_some() {
         return Ok(false);
     }
-    is_contested(guide.marks, guide.root, mark, alloc)
+    is_contested(guide.marks, guide.root, mark, guide.alloc)
 }
 
 /// Enters the resource with the URI: of its contested names those come into the scope that it has not.
-fn enter(
-    scope: &mut Vec<Mark>,
-    uri: &str,
-    guide: &Guide<'_>,
-    alloc: Global,
-) -> Result<(), AllocError>
+fn enter(scope: &mut Vec<Mark>, uri: &str, guide: &Guide<'_>) -> Result<(), AllocError>
     ensures { OnOk result (all_marked scope.new.items ≡ entered (all_marked guide.now.marks.now)
         guide.now.root.now uri.now (all_marked scope.old.items)) }
 {
     for mark in guide.marks {
-        if is_entering(mark, scope.as_slice(), uri, guide, alloc)? {
-            let copy = mark.try_clone(alloc)?;
+        if is_entering(mark, scope.as_slice(), uri, guide)? {
+            let copy = mark.try_clone(guide.alloc)?;
             scope.push(copy)?;
         }
     }
@@ -210,19 +204,14 @@ fn enter(
 }
 
 /// The scope at the place, within what was reached.
-fn scope_at(
-    state: &State,
-    place: &str,
-    guide: &Guide<'_>,
-    alloc: Global,
-) -> Result<Vec<Mark>, AllocError>
+fn scope_at(state: &State, place: &str, guide: &Guide<'_>) -> Result<Vec<Mark>, AllocError>
     ensures { IfOk result (λ s. all_marked s.items ≡ scope_at (all_marked guide.now.marks.now)
         guide.now.root.now (reached_of state.now) place.now) }
 {
-    let mut scope = copied(state.scope.as_slice(), alloc)?;
+    let mut scope = copied(state.scope.as_slice(), guide.alloc)?;
     for mark in guide.marks {
         if is_between(state.entry.as_str(), place, mark) {
-            enter(&mut scope, mark.uri.as_str(), guide, alloc)?;
+            enter(&mut scope, mark.uri.as_str(), guide)?;
         }
     }
     Ok(scope)
@@ -243,60 +232,45 @@ pub fn home<'a>(place: &str, guide: &Guide<'a>) -> (&'a str, &'a str)
 }
 
 /// What is reached at the place from a schema at the other place.
-pub fn reached(
-    from: &str,
-    place: &str,
-    guide: &Guide<'_>,
-    alloc: Global,
-) -> Result<State, AllocError>
+pub fn reached(from: &str, place: &str, guide: &Guide<'_>) -> Result<State, AllocError>
     ensures { IfOk result (λ s. reached_of s ≡ reached (all_marked guide.now.marks.now)
         guide.now.root.now (scope_at (all_marked guide.now.marks.now) guide.now.root.now
         (reached_of guide.now.from.now) from.now) place.now) }
 {
-    let mut scope = scope_at(guide.from, from, guide, alloc)?;
+    let mut scope = scope_at(guide.from, from, guide)?;
     let (uri, entry) = home(place, guide);
-    enter(&mut scope, uri, guide, alloc)?;
+    enter(&mut scope, uri, guide)?;
     Ok(State {
         scope,
-        entry: String::from_str(alloc, entry)?,
+        entry: String::from_str(guide.alloc, entry)?,
     })
 }
 
 /// Whether the document itself has the place in this scope.
-pub fn is_in_document(
-    state: &State,
-    place: &str,
-    guide: &Guide<'_>,
-    alloc: Global,
-) -> Result<bool, AllocError>
+pub fn is_in_document(state: &State, place: &str, guide: &Guide<'_>) -> Result<bool, AllocError>
     ensures { IfOk result (λ b. b ≡ is_same (reached_of state.now).0
         (scope_at (all_marked guide.now.marks.now) guide.now.root.now from_root place.now)) }
 {
-    let start = State::whole(alloc);
-    let scope = scope_at(&start, place, guide, alloc)?;
+    let start = State::whole(guide.alloc);
+    let scope = scope_at(&start, place, guide)?;
     Ok(is_same(state.scope.as_slice(), scope.as_slice()))
 }
 
 /// The place of a reference in a schema with the base URI, in the document or in a copy.
-pub fn moved(
-    base: &str,
-    place: String,
-    guide: &Guide<'_>,
-    alloc: Global,
-) -> Result<String, AllocError>
+pub fn moved(base: &str, place: String, guide: &Guide<'_>) -> Result<String, AllocError>
     ensures { IfOk result (λ s. string_bytes s
         ≡ (guided guide.now).2 base.now (string_bytes place)) }
 {
     if !guide.contested {
         return Ok(place);
     }
-    let state = reached(place_of_base(base, guide), place.as_str(), guide, alloc)?;
-    if is_in_document(&state, place.as_str(), guide, alloc)? {
+    let state = reached(place_of_base(base, guide), place.as_str(), guide)?;
+    if is_in_document(&state, place.as_str(), guide)? {
         return Ok(place);
     }
     let index = place_in_list(guide.copies, &state);
     let rest = rest_below(state.entry.as_str(), place.as_str());
-    Ok(format!(in alloc; "/$defs/{}{index}{rest}", guide.letters)?)
+    Ok(format!(in guide.alloc; "/$defs/{}{index}{rest}", guide.letters)?)
 }
 
 /// The place of the resource with the base URI.
@@ -316,15 +290,14 @@ pub fn place_of_dynamic(
     uri: &str,
     name: &str,
     guide: &Guide<'_>,
-    alloc: Global,
 ) -> Result<Option<String>, AllocError>
     ensures { IfOk result (λ p. option_map string_bytes p
         ≡ (guided guide.now).1 base.now uri.now name.now) }
 {
-    let first = with_name(uri, name, alloc)?;
+    let first = with_name(uri, name, guide.alloc)?;
     match dynamic_place(guide.marks, first.as_str()) {
-        Some(place) => Ok(Some(leads_over(base, name, place, guide, alloc)?)),
-        None => place_of_name(uri, name, guide.places, alloc),
+        Some(place) => Ok(Some(leads_over(base, name, place, guide)?)),
+        None => place_of_name(uri, name, guide.places, guide.alloc),
     }
 }
 
@@ -335,18 +308,17 @@ fn leads_over<'a>(
     name: &str,
     place: &'a str,
     guide: &Guide<'a>,
-    alloc: Global,
 ) -> Result<String, AllocError>
     ensures { IfOk result (λ s. string_bytes s ≡ leads_over (all_marked guide.now.marks.now)
         guide.now.root.now (reached_of guide.now.from.now)
         (unwrap_or (places_in guide.now.places.now base.now) []) name.now place.now) }
 {
-    if let Some(place) = outermost(guide.marks, guide.root, name, place, alloc)? {
-        return String::from_str(alloc, place);
+    if let Some(place) = outermost(guide.marks, guide.root, name, place, guide.alloc)? {
+        return String::from_str(guide.alloc, place);
     }
-    let scope = scope_at(guide.from, place_of_base(base, guide), guide, alloc)?;
+    let scope = scope_at(guide.from, place_of_base(base, guide), guide)?;
     match settled(scope.as_slice(), name) {
-        Some(outer) => String::from_str(alloc, outer),
-        None => String::from_str(alloc, place),
+        Some(outer) => String::from_str(guide.alloc, outer),
+        None => String::from_str(guide.alloc, place),
     }
 }
