@@ -1,0 +1,6 @@
+pub mod Arguments
+pub mod Failures
+pub mod Shown
+pub mod Misuses
+pub mod Places
+pub mod Refusals
