@@ -8,8 +8,9 @@ import whole
 from checks import shared
 from faults import BROKEN, FOLDER, FULL, Faults
 from padding import padded_lines, padded_rows
+from pages import Page, misused
 from running import program, printed, reported, run_of
-from values import CONTROLS, DEEP, LONG, NESTED, NOT_UTF8, QUOTED
+from values import CONTROLS, DEEP, LONG, NESTED, QUOTED
 
 FAULTS = Faults("json_lines", is_stopping=True)
 
@@ -25,15 +26,15 @@ MANY = 70_000
 LINES = [
     (b"", printed()),
     (b'{"b":1, "a":[1.0]}\r\n"x"', printed(b'{"a":[1],"b":1}', b'"x"')),
-    (b"1\n[1,]\n2\n", reported(1, "json_lines", "line 2, col 3: Invalid character: ]", b"1\n")),
-    (b"1\n\n", reported(1, "json_lines", "line 2, col 0: Unexpected EOF", b"1\n")),
-    (b"[1\n", reported(1, "json_lines", "line 1, col 2: Unexpected EOF")),
-    (b"1\n \r", reported(1, "json_lines", "line 2, col 2: Unexpected EOF", b"1\n")),
-    (b'1\n"\xff"\n[', reported(1, "json_lines", "line 2: not UTF-8", b"1\n")),
+    (b"1\n[1,]\n2\n", reported(3, "json_lines", "line 2, col 3: Invalid character: ]", b"1\n")),
+    (b"1\n\n", reported(3, "json_lines", "line 2, col 0: Unexpected EOF", b"1\n")),
+    (b"[1\n", reported(3, "json_lines", "line 1, col 2: Unexpected EOF")),
+    (b"1\n \r", reported(3, "json_lines", "line 2, col 2: Unexpected EOF", b"1\n")),
+    (b'1\n"\xff"\n[', reported(3, "json_lines", "line 2: not UTF-8", b"1\n")),
     (NESTED, printed(NESTED)),
     # More lines than 16 bits count.
     (b"[1.0]\n" * MANY, printed(*[b"[1]"] * MANY)),
-    (b"1 \n" * MANY + b"x", reported(1, "json_lines", f"line {MANY + 1}, col 0: Invalid character: x", b"1\n" * MANY)),
+    (b"1 \n" * MANY + b"x", reported(3, "json_lines", f"line {MANY + 1}, col 0: Invalid character: x", b"1\n" * MANY)),
     (LONG + b"\n2", printed(LONG, b"2")),
 ]
 
@@ -46,22 +47,26 @@ ALL_LINES = [
     (["-k"], b'[\n"\xc3\n1\n\xff', told(b"1\n", b"1, col 1: Unexpected EOF", b"2: not UTF-8", b"4: not UTF-8")),
     (["-k"], b"x\n" * MANY, told(b"", *(b"%d, col 0: Invalid character: x" % (n + 1) for n in range(MANY)))),
     (["-k"], b"x\n1\n" * (MANY // 2), told(b"1\n" * (MANY // 2), *(b"%d, col 0: Invalid character: x" % n for n in range(1, MANY, 2)))),
-    (["-d", "1"], b"[]\n[[]]\n[]", reported(1, "json_lines", "line 2, col 1: Nesting is too deep at '['", b"[]\n")),
-    (["-d", "0"], b"1\n{}", reported(1, "json_lines", "line 2, col 0: Nesting is too deep at '{'", b"1\n")),
+    (["-d", "1"], b"[]\n[[]]\n[]", reported(3, "json_lines", "line 2, col 1: Nesting is too deep at '['", b"[]\n")),
+    (["-d", "0"], b"1\n{}", reported(3, "json_lines", "line 2, col 0: Nesting is too deep at '{'", b"1\n")),
     (["-k", "-d", "1"], b"[[]]\n[]\n", told(b"[]\n", b"1, col 1: Nesting is too deep at '['")),
     (["-d", "1", "-k"], b"[[]]\n[]\n", told(b"[]\n", b"1, col 1: Nesting is too deep at '['")),
+    (["-kd1"], b"[[]]\n[]\n", told(b"[]\n", b"1, col 1: Nesting is too deep at '['")),
+    (["-kd", "1"], b"[[]]\n[]\n", told(b"[]\n", b"1, col 1: Nesting is too deep at '['")),
+    (["--depth=1", "--keep-going"], b"[[]]\n[]\n", told(b"[]\n", b"1, col 1: Nesting is too deep at '['")),
+    (["-d5", "--depth", "1", "-k", "-k"], b"[[]]\n[]\n", told(b"[]\n", b"1, col 1: Nesting is too deep at '['")),
     *[
-        (words, b"1", (2, b"", b"usage: json_lines [-k] [-d N]\n"))
-        for words in (["-x"], ["-k", "-k"], ["-d"], ["-d", "+1"], ["-d", "1234567890"], ["-d", ""], ["x", "-k"], [NOT_UTF8])
+        (words, b"1", misused("json_lines", "no number of 1 to 9 digits after -d"))
+        for words in (["-d"], ["-d", "+1"], ["-d", "1234567890"], ["-d", ""], ["--depth="], ["-dk"])
     ],
 ]
 
 # Control characters are shown by their code points.
 CLEAN = [
     ([], b'"' + CONTROLS + b'"', printed(b'"' + QUOTED + b'"')),
-    ([], b"1\x1b[2J", reported(1, "json_lines", "line 1, col 2: Expected EOF but got character 'U+001B'")),
+    ([], b"1\x1b[2J", reported(3, "json_lines", "line 1, col 2: Expected EOF but got character 'U+001B'")),
     (["-k"], b'"\r', reported(1, "json_lines", "line 1, col 2: String cannot contain control character U+000D")),
-    ([], b"[\xc2\x9b", reported(1, "json_lines", "line 1, col 1: Invalid character: U+009B")),
+    ([], b"[\xc2\x9b", reported(3, "json_lines", "line 1, col 1: Invalid character: U+009B")),
 ]
 
 # How many rows are not padded, and why.
@@ -69,7 +74,7 @@ UNPADDED = {"a large text": 6}
 
 # Deep lines in what fails, and where memory is refused.
 DEEP_FAILURES = [
-    ([], b"1\n" + NESTED + b"x\n2", reported(1, "json_lines", "line 2, col 200001: Expected EOF but got character 'x'", b"1\n")),
+    ([], b"1\n" + NESTED + b"x\n2", reported(3, "json_lines", "line 2, col 200001: Expected EOF but got character 'x'", b"1\n")),
     (["-k"], NESTED + b"x\n" + NESTED[:-1] + b"\n2\n", told(b"2\n", b"1, col 200001: Expected EOF but got character 'x'", b"2, col 199999: Unexpected EOF")),
     (["-k", "-d", "99999"], NESTED + b"\n1", told(b"1\n", b"1, col 99999: Nesting is too deep at '['")),
     ([], b'{"b":1,"a":%s}' % NESTED, (4, FULL)),
@@ -77,7 +82,7 @@ DEEP_FAILURES = [
 DEEP_MEMORY = [(["-k"], b'{"b":1,"a":%s}\n%sx\n%s' % (DEEP, DEEP, DEEP))]
 
 # The arguments, an input, and the statuses and words where the input is not UTF-8, can't be read, and where the output can't be written.
-STREAMS = [([], b"1", (1, "line 1: not UTF-8"), (4, FOLDER), (4, FULL))]
+STREAMS = [([], b"1", (3, "line 1: not UTF-8"), (4, FOLDER), (4, FULL))]
 
 # The arguments, an input, what is printed of it, and the statuses and words where a read and where a write fails.
 FAILING = [([], b"[1.0]\n" * 5_000, b"[1]\n" * 5_000, (4, BROKEN), (4, BROKEN))]
@@ -109,7 +114,7 @@ def check_rows(checks):
 def check_padded(checks):
     """The same lines with 40 members more in each object, and 40 items in each array."""
     rows = [(row, [], *row) for row in LINES] + [(row, *row) for row in (*ALL_LINES, *CLEAN) if row[2][0] != 2]
-    pad = lambda words, given, expected: (words, *padded_lines(given, expected, is_limited="-d" in words))
+    pad = lambda words, given, expected: (words, *padded_lines(given, expected, is_limited=any("d" in word for word in words)))
     for row, (words, given, expected) in padded_rows(checks, "json_lines", rows, pad, UNPADDED):
         checks.row(f"json_lines: padded {words} {row[-2][:60]}", expected, run_of, program("json_lines"), words, given, at=row)
 
@@ -157,4 +162,7 @@ def check_memory(checks):
     FAULTS.refusing(checks, REFUSED_MEMORY)
 
 
-PARTS = (check_groups, check_rows, check_padded, check_deep, check_faults, *shared(check_memory))
+PAGE = Page("json_lines", [], is_lines=True)
+
+
+PARTS = (PAGE.check, check_groups, check_rows, check_padded, check_deep, check_faults, *shared(check_memory))

@@ -2,8 +2,9 @@
 
 import os
 
-from faults import BROKEN, FOLDER, INVALID, WRITING, Faults
+from faults import BROKEN, FOLDER, FULL, NO_TEXT, Faults
 from padding import padded_merge, padded_rows
+from pages import Page, misused
 from places import TOP
 from running import printed, program, reported, run_of
 from values import DEEP as DEEP_VALUE, LONG, NESTED, NOT_UTF8
@@ -64,7 +65,7 @@ LONG_MERGES = [
     (b"{", b"[1,]", reported(2, "json_merge", "the patch: Parse error at line:1, col:3: Invalid character: ]")),
     (b"[1,]", b"{}", reported(3, "json_merge", "Parse error at line:1, col:3: Invalid character: ]")),
     (b"1", b"", reported(2, "json_merge", "the patch: Parse error at line:1, col:0: Unexpected EOF")),
-    (b"1", NOT_UTF8, reported(2, "json_merge", "the patch: stream did not contain valid UTF-8")),
+    (b"1", NOT_UTF8, reported(2, "json_merge", "patch:1:0: not UTF-8")),
 ]
 
 # How many rows are not padded, and why.
@@ -72,18 +73,19 @@ UNPADDED = {"a large text": 6}
 
 # The arguments, the input, and the answer.
 ROWS = [
-    *((words, b"1", reported(2, "json_merge", "usage: json_merge PATCH-FILE")) for words in ([], [PATCH, PATCH], [NOT_UTF8])),
-    (["/none"], b"1", reported(2, "json_merge", "the patch: No such file or directory (os error 2)")),
-    (["/"], b"1", reported(2, "json_merge", "the patch: Is a directory (os error 21)")),
+    ([], b"1", misused("json_merge", "PATCH is missing")),
+    ([NOT_UTF8], b"1", misused("json_merge", "an argument is not UTF-8")),
+    (["/none"], b"1", reported(2, "json_merge", "/none: No such file or directory (os error 2)")),
+    (["/"], b"1", reported(2, "json_merge", "/: Is a directory (os error 21)")),
     # Control characters are shown by their code points.
     ([PATCH], b"\x1b", reported(3, "json_merge", "Parse error at line:1, col:0: Invalid character: U+001B")),
 ]
 
 # The arguments, an input, and the statuses and words where the input is not UTF-8, can't be read, and where the output can't be written.
-STREAMS = [([PATCH], b"1", (3, INVALID), (4, FOLDER), (4, WRITING))]
+STREAMS = [([PATCH], b"1", (3, NO_TEXT), (4, FOLDER), (4, FULL))]
 
 # The arguments, an input, what is printed of it, and the statuses and words where a read and where a write fails.
-FAILING = [([PATCH], b'{"a":%s}' % LONG, b'{"a":%s,%s}\n' % (LONG, ADDED), (4, BROKEN), (4, WRITING))]
+FAILING = [([PATCH], b'{"a":%s}' % LONG, b'{"a":%s,%s}\n' % (LONG, ADDED), (4, BROKEN), (4, BROKEN))]
 
 # Where each request for memory is refused: a patch that replaces, removes, adds and merges.
 CHANGED = b'{"title":"","author":{"familyName":[[{"a":1.5}]],"b":"x"},"tags":{"a":[1]},"c":[{"d":[]}]}'
@@ -93,7 +95,7 @@ REFUSED_MEMORY = [([PATCH], CHANGED)]
 # Deep values in what fails, and where memory is refused: members that the patch merges into, replaces, and leaves.
 DEEP_FAILURES = [
     ([PATCH], NESTED + b"x", reported(3, "json_merge", "Parse error at line:1, col:200001: Expected EOF but got character 'x'")),
-    ([PATCH], b'{"a":%s,"author":{"b":%s}}' % (NESTED, NESTED), (4, WRITING)),
+    ([PATCH], b'{"a":%s,"author":{"b":%s}}' % (NESTED, NESTED), (4, FULL)),
 ]
 DEEP_MEMORY = [([PATCH], b'{"title":%s,"author":{"familyName":%s,"b":%s},"c":%s}' % ((DEEP_VALUE,) * 4))]
 
@@ -103,7 +105,7 @@ def merged(folder, patch, given):
     path = os.path.join(folder, "patch")
     with open(path, "wb") as file:
         file.write(patch)
-    return run_of(program("json_merge"), [path], given)
+    return run_of(program("json_merge"), ["patch"], given, cwd=folder)
 
 
 def check_rows(checks):
@@ -139,4 +141,7 @@ def check_deep(checks):
     FAULTS.refusing_deep(checks, DEEP_MEMORY)
 
 
-PARTS = (check_rows, check_padded, check_deep, check_faults)
+PAGE = Page("json_merge", [PATCH])
+
+
+PARTS = (PAGE.check, check_rows, check_padded, check_deep, check_faults)

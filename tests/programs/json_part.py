@@ -7,8 +7,9 @@ import json
 
 import whole
 from checks import shared
-from faults import BROKEN, FOLDER, INVALID, WRITING, Faults
+from faults import BROKEN, FOLDER, FULL, NO_TEXT, Faults
 from padding import padded_part, padded_rows
+from pages import Page, misused
 from running import printed, program, reported, run_of
 from values import CONTROLS, DEEP, LONG, NESTED, NOT_UTF8, QUOTED, normal
 
@@ -55,7 +56,8 @@ ROWS = [
     ([""], LONG, printed(LONG)),
     # The pointer is read first.
     (["x"], b"[1,]", said(2, "the pointer begins with no '/'")),
-    *((words, TEXT, said(2, "usage: json_part POINTER")) for words in ([], ["", ""], [NOT_UTF8])),
+    ([], TEXT, misused("json_part", "POINTER is missing")),
+    ([NOT_UTF8], TEXT, misused("json_part", "an argument is not UTF-8")),
     ([""], b"[1,]", said(3, "Parse error at line:1, col:3: Invalid character: ]")),
     # Control characters are shown by their code points.
     (["/a"], b'{"a":"' + CONTROLS + b'"}', printed(b'"' + QUOTED + b'"')),
@@ -74,15 +76,15 @@ DEEP_FAILURES = [
     (["/0" * 60_000 + "/1"], NESTED, NO_SUCH_PART),
     (["/0" * 60_000 + "/~2"], NESTED, said(2, "a '~' is followed by neither '0' nor '1'")),
     (["/b/0/x"], b'{"a":%s,"b":[%s]}' % (NESTED, NESTED), NO_SUCH_PART),
-    (["/a"], b'{"a":%s,"b":[%s]}' % (NESTED, NESTED), (4, WRITING)),
+    (["/a"], b'{"a":%s,"b":[%s]}' % (NESTED, NESTED), (4, FULL)),
 ]
 DEEP_MEMORY = [(["/a"], b'{"a":[1.5,"x",%s],"b":%s}' % (DEEP, DEEP))]
 
 # The arguments, an input, and the statuses and words where the input is not UTF-8, can't be read, and where the output can't be written.
-STREAMS = [([""], b"1", (3, INVALID), (4, FOLDER), (4, WRITING))]
+STREAMS = [([""], b"1", (3, NO_TEXT), (4, FOLDER), (4, FULL))]
 
 # The arguments, an input, what is printed of it, and the statuses and words where a read and where a write fails.
-FAILING = [([""], b"[" + LONG + b", 1.0]", b"[" + LONG + b",1]\n", (4, BROKEN), (4, WRITING))]
+FAILING = [([""], b"[" + LONG + b", 1.0]", b"[" + LONG + b",1]\n", (4, BROKEN), (4, BROKEN))]
 
 # Where each request for memory is refused.
 REFUSED_MEMORY = [(["/a~1b/0"], b'{"a/b":[[1.5,"x"]]}')]
@@ -114,7 +116,7 @@ def check_padded(checks):
     """The same with 40 members more in each object, and 40 items in each array, under 40 levels."""
     rows = [(row, pointer, TEXT, printed(normal(part))) for row in POINTERS for pointer, part in [row]]
     rows += [(row, pointer, TEXT, row[1]) for row in NO_POINTER for pointer in row[0]]
-    rows += [(row, words[0], *rest) for row in ROWS for words, *rest in [row] if len(words) == 1 and words[0] != NOT_UTF8]
+    rows += [(row, words[0], *rest) for row in ROWS for words, *rest in [row] if rest[-1][0] != 2 or words not in ([], [NOT_UTF8])]
     for row, (pointer, given, expected) in padded_rows(checks, "json_part", rows, padded_part, UNPADDED):
         checks.row(f"json_part: padded {pointer[-60:]}", expected, run_of, program("json_part"), [pointer], given, at=row)
 
@@ -130,7 +132,11 @@ def check_faults(checks):
     FAULTS.refusing(checks, REFUSED_MEMORY)
 
 
+PAGE = Page("json_part", [""])
+
+
 PARTS = (
+    PAGE.check,
     check_groups,
     check_rows,
     check_padded,

@@ -5,7 +5,8 @@ import os
 import resource
 
 from checks import shared
-from faults import BROKEN, FOLDER, INVALID, WRITING, Faults
+from faults import BROKEN, FOLDER, FULL, NO_TEXT, Faults
+from pages import Page, misused
 from places import TOP
 from padding import padded_failure, padded_mistake, padded_patch, padded_rows
 from running import printed, program, reported, run_of, small_stack
@@ -412,9 +413,6 @@ MANY_OPERATIONS = [
 # Forty copies of the whole to its end: more than fits.
 DOUBLED = patch(*[("copy", "/-", "")] * 40)
 
-USAGE = reported(2, "json_patch", "usage: json_patch PATCH-FILE")
-
-
 def told(words):
     """The answer of `json_patch` to a file that is no patch."""
     return reported(2, "json_patch", f"the patch: {words}")
@@ -427,24 +425,25 @@ ROWS = [
     (b"{", b"[1,]", told("Parse error at line:1, col:3: Invalid character: ]")),
     (b"[1,]", b"[]", reported(3, "json_patch", "Parse error at line:1, col:3: Invalid character: ]")),
     (b"1", b"", told("Parse error at line:1, col:0: Unexpected EOF")),
-    (b"1", NOT_UTF8, told("stream did not contain valid UTF-8")),
+    (b"1", NOT_UTF8, reported(2, "json_patch", "operations:1:0: not UTF-8")),
     (b"1", b"[" * (LEVELS + 1), told("Parse error at line:1, col:1000: Nesting is too deep at '['")),
 ]
 
 # The arguments, the input, and the answer.
 ARGUMENTS = [
-    *((words, b"1", USAGE) for words in ([], [OPERATIONS, OPERATIONS], [NOT_UTF8])),
-    (["/none"], b"1", told("No such file or directory (os error 2)")),
-    (["/"], b"1", told("Is a directory (os error 21)")),
+    ([], b"1", misused("json_patch", "PATCH is missing")),
+    ([NOT_UTF8], b"1", misused("json_patch", "an argument is not UTF-8")),
+    (["/none"], b"1", reported(2, "json_patch", "/none: No such file or directory (os error 2)")),
+    (["/"], b"1", reported(2, "json_patch", "/: Is a directory (os error 21)")),
     # Control characters are shown by their code points.
     ([OPERATIONS], b"\x1b", reported(3, "json_patch", "Parse error at line:1, col:0: Invalid character: U+001B")),
 ]
 
 # The arguments, an input, and the statuses and words where the input is not UTF-8, can't be read, and where the output can't be written.
-STREAMS = [([OPERATIONS], PATCHED, (3, INVALID), (4, FOLDER), (4, WRITING))]
+STREAMS = [([OPERATIONS], PATCHED, (3, NO_TEXT), (4, FOLDER), (4, FULL))]
 
 # The arguments, an input, what is printed of it, and the statuses and words where a read and where a write fails.
-FAILING = [([OPERATIONS], PATCHED[:-1] + b',"z":%s}' % LONG, b'%s,"z":%s}\n' % (CHANGED[:-1], LONG), (4, BROKEN), (4, WRITING))]
+FAILING = [([OPERATIONS], PATCHED[:-1] + b',"z":%s}' % LONG, b'%s,"z":%s}\n' % (CHANGED[:-1], LONG), (4, BROKEN), (4, BROKEN))]
 
 # Where each request for memory is refused.
 SOME = b'{"title":"Goodbye!","author":{"givenName":"John","a":[1.5]},"tags":["example",{"b":"x"}]}'
@@ -497,7 +496,7 @@ def patched(folder, given, operations, **how):
     path = os.path.join(folder, "operations")
     with open(path, "wb") as file:
         file.write(operations)
-    return run_of(program("json_patch"), [path], given, **how)
+    return run_of(program("json_patch"), ["operations"], given, cwd=folder, **how)
 
 
 def answers():
@@ -567,7 +566,7 @@ def check_deep(checks):
     with open(path, "w", encoding="utf-8") as file:
         file.write(patch(("copy", "/b/0", "/a")))
     wrong = reported(3, "json_patch", "Parse error at line:1, col:200001: Expected EOF but got character 'x'")
-    FAULTS.deep(checks, [([path], NESTED + b"x", wrong), ([path], TWO, (4, WRITING))])
+    FAULTS.deep(checks, [([path], NESTED + b"x", wrong), ([path], TWO, (4, FULL))])
     for row in DEEP_MEMORY:
         given, operations = row
         with open(path, "w", encoding="utf-8") as file:
@@ -581,4 +580,7 @@ def check_faults(checks):
     FAULTS.refusing(checks, REFUSED_MEMORY)
 
 
-PARTS = (*shared(check_rows), check_padded, check_many, check_deep, check_faults)
+PAGE = Page("json_patch", [OPERATIONS], PATCHED)
+
+
+PARTS = (PAGE.check, *shared(check_rows), check_padded, check_many, check_deep, check_faults)

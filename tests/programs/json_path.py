@@ -4,9 +4,10 @@ import itertools
 import json
 
 from checks import shared
-from faults import BROKEN, FOLDER, INVALID, WRITING, Faults
+from faults import BROKEN, FOLDER, FULL, NO_TEXT, Faults
 from padded_queries import padded_refusal_of_query, padded_selection
 from padding import padded_rows
+from pages import Page, misused
 from running import printed, program, reported, run_of, run_small
 from values import CONTROLS, DEEP, LONG, NESTED, NOT_UTF8, QUOTED, normal
 
@@ -479,11 +480,10 @@ LONG_PATHS = [
     (["$." + "x" * 100_000], b'{"%s":[1.0]}' % (b"x" * 100_000), printed(b"[1]")),
     (["$[*]"], b"[" + LONG + b",0]", printed(LONG, b"0")),
     (["$"], b"[1,]", reported(3, "json_path", "Parse error at line:1, col:3: Invalid character: ]")),
-    *(
-        (words, b"1", reported(2, "json_path", "usage: json_path [-p] QUERY"))
-        for words in ([], ["-p", "$", "$"], ["$", "-p"], ["-q", "$"], ["$", "$"], [NOT_UTF8], ["-p", NOT_UTF8])
-    ),
-    (["-p"], b"1", reported(2, "json_path", NO_QUERY % 0)),
+    *((words, b"1", misused("json_path", "QUERY is missing")) for words in ([], ["-p"])),
+    *((words, b"1", misused("json_path", "an argument is not UTF-8")) for words in ([NOT_UTF8], ["-p", NOT_UTF8])),
+    (["-q", "$"], b"1", misused("json_path", 'unknown option "-q"')),
+    *((words, b"[1]", printed(b"$[0]")) for words in (["$[0]", "-p"], ["--paths", "$[0]"], ["-pp", "--", "$[0]", "-"])),
 ]
 
 # How many of the refused rows are not padded, and why.
@@ -497,8 +497,8 @@ DEEP_FAILURES = [
     (["$[?match(@, 'a{10001}')]"], b'[%s,"a",%s]' % (NESTED, NESTED), reported(4, "json_path", "a regular expression is too large")),
     (["$.a[?search(@, $.p)]"], b'{"a":["a",%s],"b":%s,"p":"%s"}' % (NESTED, NESTED, b"(" * 100_000 + b")" * 100_000),
      reported(4, "json_path", "the groups of a regular expression are too deep")),
-    (["$"], NESTED, (4, WRITING)),
-    (["-p", "$..[1]"], UNDER, (4, WRITING)),
+    (["$"], NESTED, (4, FULL)),
+    (["-p", "$..[1]"], UNDER, (4, FULL)),
 ]
 DEEP_MEMORY = [
     (["$..[?@.b]"], b'{"a":%s,"c":[%s,{"b":%s}]}' % (DEEP, DEEP, DEEP)),
@@ -514,10 +514,10 @@ ROWS = [
 ]
 
 # The arguments, an input, and the statuses and words where the input is not UTF-8, can't be read, and where the output can't be written.
-STREAMS = [(["$"], b"1", (3, INVALID), (4, FOLDER), (4, WRITING))]
+STREAMS = [(["$"], b"1", (3, NO_TEXT), (4, FOLDER), (4, FULL))]
 
 # The arguments, an input, what is printed of it, and the statuses and words where a read and where a write fails.
-FAILING = [(["$[*]"], b"[" + LONG + b", 1.0]", LONG + b"\n1\n", (4, BROKEN), (4, WRITING))]
+FAILING = [(["$[*]"], b"[" + LONG + b", 1.0]", LONG + b"\n1\n", (4, BROKEN), (4, BROKEN))]
 
 # Where each request for memory is refused: a value in which queries select, queries with each selector, and one that selects nothing.
 SOME = b'{"a\\n":[1.5,{"b":["x",{"a":{}}]}],"c":[[2,3],4]}'
@@ -613,4 +613,7 @@ def check_memory(checks):
     FAULTS.refusing(checks, REFUSED_MEMORY)
 
 
-PARTS = (*shared(check_rows), check_padded, check_deep, check_faults, *shared(check_memory))
+PAGE = Page("json_path", ["$"])
+
+
+PARTS = (PAGE.check, *shared(check_rows), check_padded, check_deep, check_faults, *shared(check_memory))

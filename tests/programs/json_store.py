@@ -2,6 +2,7 @@
 
 from faults import BROKEN, FOLDER, FULL, Faults
 from padding import padded_lines, padded_rows
+from pages import Page
 from running import printed, program, reported, run_of
 from values import CONTROLS, DEEP, LONG, NESTED, QUOTED
 
@@ -14,9 +15,9 @@ MANY = 70_000
 LINES = [
     (b"", printed()),
     (b'{"a": 1, "b": [2.0]}\n[]\r\n{"b": [20e-1], "a": 1}', printed(b'1 {"a":1,"b":[2]}', b"1 []", b'2 {"a":1,"b":[2]}')),
-    (b"1\n[1,]\n2\n", reported(1, "json_store", "line 2, col 3: Invalid character: ]", b"1 1\n")),
-    (b"1.0\n1\n\n", reported(1, "json_store", "line 3, col 0: Unexpected EOF", b"1 1\n2 1\n")),
-    (b'1\n"\xff"\n[', reported(1, "json_store", "line 2: not UTF-8", b"1 1\n")),
+    (b"1\n[1,]\n2\n", reported(3, "json_store", "line 2, col 3: Invalid character: ]", b"1 1\n")),
+    (b"1.0\n1\n\n", reported(3, "json_store", "line 3, col 0: Unexpected EOF", b"1 1\n2 1\n")),
+    (b'1\n"\xff"\n[', reported(3, "json_store", "line 2: not UTF-8", b"1 1\n")),
     (NESTED, printed(b"1 " + NESTED)),
     (b"".join(b"%d.0\n" % i for i in range(MANY)), printed(*[b"1 %d" % i for i in range(MANY)])),
     (b'{"a":[]}\n' * MANY, printed(*[b'%d {"a":[]}' % (i + 1) for i in range(MANY)])),
@@ -26,7 +27,7 @@ LINES = [
 # Control characters are shown by their code points.
 CLEAN = [
     (b'"' + CONTROLS + b'"', printed(b'1 "' + QUOTED + b'"')),
-    (b"[\x1b]", reported(1, "json_store", "line 1, col 1: Invalid character: U+001B")),
+    (b"[\x1b]", reported(3, "json_store", "line 1, col 1: Invalid character: U+001B")),
 ]
 
 # How many rows are not padded, and why.
@@ -34,14 +35,14 @@ UNPADDED = {"a large text": 4}
 
 # Deep lines in what fails, and where memory is refused.
 DEEP_FAILURES = [
-    ([], b"1\n" + NESTED + b"x\n2", reported(1, "json_store", "line 2, col 200001: Expected EOF but got character 'x'", b"1 1\n")),
-    ([], b"[1,]\n" + NESTED, reported(1, "json_store", "line 1, col 3: Invalid character: ]")),
+    ([], b"1\n" + NESTED + b"x\n2", reported(3, "json_store", "line 2, col 200001: Expected EOF but got character 'x'", b"1 1\n")),
+    ([], b"[1,]\n" + NESTED, reported(3, "json_store", "line 1, col 3: Invalid character: ]")),
     ([], NESTED, (4, FULL)),
 ]
 DEEP_MEMORY = [([], b'%s\n{"b":1,"a":%s}\n%s' % (DEEP, DEEP, DEEP))]
 
 # The arguments, an input, and the statuses and words where the input is not UTF-8, can't be read, and where the output can't be written.
-STREAMS = [([], b"1", (1, "line 1: not UTF-8"), (4, FOLDER), (4, FULL))]
+STREAMS = [([], b"1", (3, "line 1: not UTF-8"), (4, FOLDER), (4, FULL))]
 
 # The arguments, an input, what is printed of it, and the statuses and words where a read and where a write fails.
 FAILING = [([], LONG, b"1 " + LONG + b"\n", (4, BROKEN), (4, BROKEN))]
@@ -79,4 +80,7 @@ def check_faults(checks):
     FAULTS.refusing(checks, REFUSED_MEMORY)
 
 
-PARTS = (check_rows, check_padded, check_deep, check_faults)
+PAGE = Page("json_store", [], is_lines=True)
+
+
+PARTS = (PAGE.check, check_rows, check_padded, check_deep, check_faults)

@@ -23,6 +23,7 @@ COUNTED = rb"\((\d+) requests\)\n"
 
 # What the C library and the standard library say of a stream.
 INVALID = "stream did not contain valid UTF-8"
+NO_TEXT = "Parse error at line:1, col:0: not UTF-8"
 FOLDER = "Is a directory (os error 21)"
 FULL = "No space left on device (os error 28)"
 TOO_LARGE = "File too large (os error 27)"

@@ -9,41 +9,42 @@ use Rattle.tinyjson.proofs.Callers.{Appends_keeps, Appends_written, begins, stop
 use Rattle.tinyjson.specs.Written.{Written, WrittenPart}
 use Rattle.json_lines.specs.Lines.{telling_of}
 use Rattle.json_lines.specs.Run.{Handles, WritesLine}
+use Rattle.json_lines.specs.declared.lines.Options.{Options}
 use Rattle.json_lines.specs.declared.lines.Outcome.{Outcome}
 use Rattle.json_lines.specs.declared.lines.Outcome.TheVariants.{AllWritten, SomeRefused}
 use Rattle.tinyjson_lines.specs.declared.refusal.Cause.{Cause}
 
-module _ (limit : Option ℕ) (n : ℕ) (line : List ℕ) (held holds told : Option (List ℕ)) where
-  pub line_written : (o : Option Cause) → o ≡ None → WritesLine limit line held holds (Ok o)
-      → Handles limit n line held holds told told (Ok AllWritten)
+module _ (options : Options) (n : ℕ) (line : List ℕ) (held holds told : Option (List ℕ)) where
+  pub line_written : (o : Option Cause) → o ≡ None → WritesLine options.limit line held holds (Ok o)
+      → Handles options n line held holds told told (Ok AllWritten)
   line_written o is h =
-      let w : WritesLine limit line held holds (Ok None) = subst (λ q. WritesLine limit line held holds (Ok q)) is h in
+      let w : WritesLine options.limit line held holds (Ok None) = subst (λ q. WritesLine options.limit line held holds (Ok q)) is h in
       (Ok w.0, w.1, refl, w.2, Appends-nil told)
 
-  pub write_failed : (e : Error) → WritesLine limit line held holds (Err e) → Handles limit n line held holds told told (Err e)
+  pub write_failed : (e : Error) → WritesLine options.limit line held holds (Err e) → Handles options n line held holds told told (Err e)
   write_failed e h = ⊎_elim (λ k. inl (k, Keeps-refl told)) (λ w. inr (Ok w.0, w.1, w.2, stop begins)) h
 
 -- a line is refused, the output is flushed, and the refusal is told
-module _ (limit : Option ℕ) (n : ℕ) (line : List ℕ) (held mid holds told tells : Option (List ℕ)) (o : Option Cause) (c : Cause)
-    (is : o ≡ Some c) (h : WritesLine limit line held mid (Ok o)) (flushed : Keeps mid holds) where
-  not_written : WritesLine limit line held mid (Ok (Some c))
-  not_written = subst (λ q. WritesLine limit line held mid (Ok q)) is h
+module _ (options : Options) (n : ℕ) (line : List ℕ) (held mid holds told tells : Option (List ℕ)) (o : Option Cause) (c : Cause)
+    (is : o ≡ Some c) (h : WritesLine options.limit line held mid (Ok o)) (flushed : Keeps mid holds) where
+  not_written : WritesLine options.limit line held mid (Ok (Some c))
+  not_written = subst (λ q. WritesLine options.limit line held mid (Ok q)) is h
 
-  pub line_told : Written told tells (telling_of n (Err c)) [] → Handles limit n line held holds told tells (Ok SomeRefused)
+  pub line_told : Written told tells (telling_of options n (Err c)) [] → Handles options n line held holds told tells (Ok SomeRefused)
   line_told t = (
     Err c,
     not_written.0,
     refl,
     Appends_keeps held mid holds [] (Appends_keeps held held mid [] (Appends-nil held) not_written.1) flushed,
-    Appends_written told tells (telling_of n (Err c)) t,
+    Appends_written told tells (telling_of options n (Err c)) t,
   )
 
-  pub tell_failed : (e : Error) → WrittenPart told tells (telling_of n (Err c)) → Handles limit n line held holds told tells (Err e)
+  pub tell_failed : (e : Error) → WrittenPart told tells (telling_of options n (Err c)) → Handles options n line held holds told tells (Err e)
   tell_failed e t = inr (Err c, not_written.0, stop (written_same (written_same begins not_written.1) flushed), t)
 
 -- the exit of a `?`
-pub at_line_error : (limit : Option ℕ) (n : ℕ) (line : List ℕ) (held holds told tells : Option (List ℕ)) (r : Result Outcome Error)
+pub at_line_error : (options : Options) (n : ℕ) (line : List ℕ) (held holds told tells : Option (List ℕ)) (r : Result Outcome Error)
     (e : Error)
-    → IsErr r → Handles limit n line held holds told tells (Err e) → Handles limit n line held holds told tells r
-at_line_error limit n line held holds told tells (Ok x) e i h = absurd (false≢true i)
-at_line_error limit n line held holds told tells (Err x) e i h = h
+    → IsErr r → Handles options n line held holds told tells (Err e) → Handles options n line held holds told tells r
+at_line_error options n line held holds told tells (Ok x) e i h = absurd (false≢true i)
+at_line_error options n line held holds told tells (Err x) e i h = h

@@ -28,13 +28,13 @@ outputs_next : (fates : List Fate) (f : Fate) → outputs_of (fates ++ f ∷ [])
 outputs_next fates f = both_outputs fates (f ∷ []) ∙ ap (λ l. outputs_of fates ++ l) (append-nil (output_of f))
 
 -- the lines before are counted from n, and the next one is number m
-tellings_next : (n m : ℕ) (fates : List Fate) (f : Fate) → m ≡ n + length fates
-    → tellings_of n (fates ++ f ∷ []) ≡ tellings_of n fates ++ telling_of m f
-tellings_next n m [] f e = let is : n ≡ m = omega (arith, e) in append-nil (telling_of n f) ∙ ap (λ k. telling_of k f) is
-tellings_next n m (g ∷ fates) f e =
+tellings_next : (o : Options) (n m : ℕ) (fates : List Fate) (f : Fate) → m ≡ n + length fates
+    → tellings_of o n (fates ++ f ∷ []) ≡ tellings_of o n fates ++ telling_of o m f
+tellings_next o n m [] f e = let is : n ≡ m = omega (arith, e) in append-nil (telling_of o n f) ∙ ap (λ k. telling_of o k f) is
+tellings_next o n m (g ∷ fates) f e =
     let is : m ≡ suc n + length fates = omega (arith, e) in
-    ap (λ l. telling_of n g ++ l) (tellings_next (suc n) m fates f is)
-    ∙ sym (append_assoc (telling_of n g) (tellings_of (suc n) fates) (telling_of m f))
+    ap (λ l. telling_of o n g ++ l) (tellings_next o (suc n) m fates f is)
+    ∙ sym (append_assoc (telling_of o n g) (tellings_of o (suc n) fates) (telling_of o m f))
 
 written_last : (fates : List Fate) (f : Fate) → AllWritten ≡ outcome_of (f ∷ []) → outcome_of fates ≡ outcome_of (fates ++ f ∷ [])
 written_last [] f h = h
@@ -74,7 +74,7 @@ pub record Progress (options : Options) (unread left held holds told tells : Opt
   pub are : HaveFates options.limit read fates
   pub lines_read : LinesRead unread left read
   pub written : Appends held holds (outputs_of fates)
-  pub telling : Appends told tells (tellings_of 1 fates)
+  pub telling : Appends told tells (tellings_of options 1 fates)
   pub count : number ≡ 1 + length fates
   pub is : outcome ≡ outcome_of fates
   pub unless : options.goes_on ≡ false → outcome ≡ AllWritten
@@ -109,7 +109,7 @@ module _ (options : Options) (unread left held holds told tells : Option (List �
     are = p.are;
     first = first_lines unread left p.read p.lines_read;
     written = stop (written_same (all_written held holds (outputs_of p.fates) p.written) k);
-    telling = stop (written_same (all_written told tells (tellings_of 1 p.fates) p.telling) l);
+    telling = stop (written_same (all_written told tells (tellings_of options 1 p.fates) p.telling) l);
   }
 
   pub ended : (after new : Option (List ℕ)) → AllRead left after [] → Keeps holds new
@@ -133,15 +133,15 @@ module _ (options : Options) (unread left held holds told tells : Option (List �
     next_written f w = subst (Appends held new) (sym (outputs_next p.fates f)) (Appends-trans held holds new (outputs_of p.fates)
         (output_of f) p.written w)
 
-    next_telling : (f : Fate) → Appends tells news (telling_of n f) → Appends told news (tellings_of 1 (p.fates ++ f ∷ []))
-    next_telling f w = subst (Appends told news) (sym (tellings_next 1 n p.fates f p.count)) (Appends-trans told tells news
-        (tellings_of 1 p.fates) (telling_of n f) p.telling w)
+    next_telling : (f : Fate) → Appends tells news (telling_of options n f) → Appends told news (tellings_of options 1 (p.fates ++ f ∷ []))
+    next_telling f w = subst (Appends told news) (sym (tellings_next options 1 n p.fates f p.count)) (Appends-trans told tells news
+        (tellings_of options 1 p.fates) (telling_of options n f) p.telling w)
 
     next_count : (f : Fate) → n + 1 ≡ 1 + length (p.fates ++ f ∷ [])
     next_count f = omega (arith, p.count, length-append p.fates (f ∷ []))
 
     -- it was written
-    pub next : (r : Outcome) → r ≡ AllWritten → Handles options.limit n line holds new tells news (Ok r)
+    pub next : (r : Outcome) → r ≡ AllWritten → Handles options n line holds new tells news (Ok r)
         → Progress options unread after held new told news (n + 1) o
     next r all h = record {
       read = p.read ++ line ∷ [];
@@ -156,7 +156,7 @@ module _ (options : Options) (unread left held holds told tells : Option (List �
     }
 
     -- it was refused, and the run goes on
-    pub next_refused : options.goes_on ≡ true → (r : Outcome) → r ≡ SomeRefused → Handles options.limit n line holds new tells news (Ok r)
+    pub next_refused : options.goes_on ≡ true → (r : Outcome) → r ≡ SomeRefused → Handles options n line holds new tells news (Ok r)
         → Progress options unread after held new told news (n + 1) SomeRefused
     next_refused on r some_refused h = record {
       read = p.read ++ line ∷ [];
@@ -171,7 +171,7 @@ module _ (options : Options) (unread left held holds told tells : Option (List �
     }
 
     -- it was refused, and the run ends
-    pub refused : options.goes_on ≡ false → (r : Outcome) → r ≡ SomeRefused → Handles options.limit n line holds new tells news (Ok r)
+    pub refused : options.goes_on ≡ false → (r : Outcome) → r ≡ SomeRefused → Handles options n line holds new tells news (Ok r)
         → AnswersLines options unread after held new told news SomeRefused
     refused off r some_refused h = record {
       read = p.read ++ line ∷ [];
@@ -185,7 +185,7 @@ module _ (options : Options) (unread left held holds told tells : Option (List �
     }
 
     -- writing it or telling of it failed
-    cut : (f : Fate) → HasFate options.limit line f → WrittenPart holds new (output_of f) → WrittenPart tells news (telling_of n f)
+    cut : (f : Fate) → HasFate options.limit line f → WrittenPart holds new (output_of f) → WrittenPart tells news (telling_of options n f)
         → StopsAmongLines options unread held new told news
     cut f h w t = record {
       read = p.read ++ line ∷ [];
@@ -193,15 +193,15 @@ module _ (options : Options) (unread left held holds told tells : Option (List �
       are = fates_next options.limit p.read p.fates line f p.are h;
       first = first_lines unread after (p.read ++ line ∷ []) one_more;
       written = stops_then (output_of f) (record { done = outputs_of p.fates; split = outputs_next p.fates f; appended = p.written }) w;
-      telling = stops_then (telling_of n f) (record {
-        done = tellings_of 1 p.fates;
-        split = tellings_next 1 n p.fates f p.count;
+      telling = stops_then (telling_of options n f) (record {
+        done = tellings_of options 1 p.fates;
+        split = tellings_next options 1 n p.fates f p.count;
         appended
             = p.telling;
       }) t;
     }
 
-    pub failed : (e : Error) → Handles options.limit n line holds new tells news (Err e) → StopsAmongLines options unread held new told news
+    pub failed : (e : Error) → Handles options n line holds new tells news (Err e) → StopsAmongLines options unread held new told news
     failed e h = ⊎_elim (λ k. stopped new news k.0 k.1) (λ k. cut k.0 k.1 k.2 k.3) h
 
 -- the exit of a `?`

@@ -1,5 +1,5 @@
 -- The lines of an input, and what each of them gives.
-use Rattle.std.specs.Prelude.{◌≡◌, ℕ, suc, List, [], ◌∷◌, ◌++◌, Option, Result, Ok, Err, ⊤}
+use Rattle.std.specs.Prelude.{◌≡◌, ℕ, suc, List, [], ◌∷◌, ◌++◌, Option, Result, Ok, Err, ⊤, codes, option_map}
 use Rattle.std.specs.Str.{IsUtf8, chars}
 use Rattle.tinyjson.specs.Error.{error_kind}
 use Rattle.tinyjson.specs.Grammar.{IsText, IsAccepted}
@@ -7,10 +7,11 @@ use Rattle.tinyjson.specs.JsonParseErrorKind.TheVariants as kind
 use Rattle.tinyjson.specs.Parser.{ParsesText}
 use Rattle.tinyjson.specs.Tree.{Tree}
 use Rattle.tinyjson.specs.declared.parser.error.JsonParseError.{JsonParseError}
+use Rattle.tinyjson_cli.specs.Refusals.{refusal_line}
 use Rattle.tinyjson_lines.specs.Line.{line_of}
 -- the lines of the bytes, and a line without its line feed
 pub use Rattle.tinyjson_lines.specs.Lines.{lines, onto_first, content}
-use Rattle.json_lines.specs.Refusal.{told_line}
+use Rattle.json_lines.specs.declared.lines.Options.{Options}
 use Rattle.json_lines.specs.declared.lines.Outcome.{Outcome}
 use Rattle.json_lines.specs.declared.lines.Outcome.TheVariants.{AllWritten, SomeRefused}
 use Rattle.tinyjson_lines.specs.declared.refusal.Cause.{Cause}
@@ -46,14 +47,14 @@ outputs_of [] = []
 outputs_of (f ∷ fs) = output_of f ++ outputs_of fs
 
 -- what is told of the line of this number: nothing, or why it is refused
-abbrev pub telling_of : ℕ → Fate → List ℕ
-telling_of n (Ok t) = []
-telling_of n (Err c) = told_line record { number = n; cause = c }
+abbrev pub telling_of : Options → ℕ → Fate → List ℕ
+telling_of o n (Ok t) = []
+telling_of o n (Err c) = refusal_line (codes "json_lines") (option_map (λ f. f.now) o.file) record { number = n; cause = c }
 
 -- what is told of lines that are counted from this number
-abbrev pub tellings_of : ℕ → List Fate → List ℕ
-tellings_of n [] = []
-tellings_of n (f ∷ fs) = telling_of n f ++ tellings_of (suc n) fs
+abbrev pub tellings_of : Options → ℕ → List Fate → List ℕ
+tellings_of o n [] = []
+tellings_of o n (f ∷ fs) = telling_of o n f ++ tellings_of o (suc n) fs
 
 -- whether each is written
 abbrev pub outcome_of : List Fate → Outcome

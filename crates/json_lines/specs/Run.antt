@@ -29,7 +29,7 @@ pub record AnswersLines (options : Options) (unread left held holds told tells :
   pub are : HaveFates options.limit read fates
   pub reaches : Reaches options.goes_on unread left read fates outcome
   pub written : Appends held holds (outputs_of fates)
-  pub telling : Appends told tells (tellings_of 1 fates)
+  pub telling : Appends told tells (tellings_of options 1 fates)
   pub is : outcome ≡ outcome_of fates
 
 -- Of what is to be written for the first lines, and of what is to be told of them, a prefix was.
@@ -39,7 +39,7 @@ pub record StopsAmongLines (options : Options) (unread held holds told tells : O
   pub are : HaveFates options.limit read fates
   pub first : IfSome unread (λ xs. (more : List (List ℕ)) × (lines xs ≡ read ++ more))
   pub written : WrittenPart held holds (outputs_of fates)
-  pub telling : WrittenPart told tells (tellings_of 1 fates)
+  pub telling : WrittenPart told tells (tellings_of options 1 fates)
 
 -- what the input had and has, the output held and holds, and standard error held and holds
 abbrev pub Runs : Options → Option (List ℕ) → Option (List ℕ) → Option (List ℕ) → Option (List ℕ) → Option (List ℕ) → Option (List ℕ)
@@ -48,14 +48,14 @@ Runs options unread left held holds told tells (Ok outcome) = AnswersLines optio
 Runs options unread left held holds told tells (Err e) = StopsAmongLines options unread held holds told tells
 
 -- the same of one line
-abbrev pub Handles : Option ℕ → ℕ → List ℕ → Option (List ℕ) → Option (List ℕ) → Option (List ℕ) → Option (List ℕ)
+abbrev pub Handles : Options → ℕ → List ℕ → Option (List ℕ) → Option (List ℕ) → Option (List ℕ) → Option (List ℕ)
     → Result Outcome Error → Type 0
-Handles limit n line held holds told tells (Ok outcome) =
-    (f : Fate) × HasFate limit line f × (outcome ≡ outcome_of (f ∷ []))
-    × Appends held holds (output_of f) × Appends told tells (telling_of n f)
-Handles limit n line held holds told tells (Err e) =
+Handles options n line held holds told tells (Ok outcome) =
+    (f : Fate) × HasFate options.limit line f × (outcome ≡ outcome_of (f ∷ []))
+    × Appends held holds (output_of f) × Appends told tells (telling_of options n f)
+Handles options n line held holds told tells (Err e) =
     (Keeps held holds × Keeps told tells)
-    ⊎ ((f : Fate) × HasFate limit line f × WrittenPart held holds (output_of f) × WrittenPart told tells (telling_of n f))
+    ⊎ ((f : Fate) × HasFate options.limit line f × WrittenPart held holds (output_of f) × WrittenPart told tells (telling_of options n f))
 
 -- the same of writing it
 abbrev pub WritesLine : Option ℕ → List ℕ → Option (List ℕ) → Option (List ℕ) → Result (Option Cause) Error → Type 0

@@ -6,20 +6,22 @@ ghost use Rattle.tinyjson_normal.specs.Normal.{HasTree};
 ghost use Rattle.tinyjson_lines.specs.Line.{line_of};
 ghost use Rattle.json_lines.specs.Run.{Runs, Handles, WritesLine};
 
-use crate::refusal::tell;
 use std::alloc::Global;
 use std::io::{self, BufRead, ErrorKind, Write};
 use std::str;
+use tinyjson_cli::{RefusedLine, tell};
 use tinyjson_lines::{Cause, Refusal, content, read_line, write_all};
 use tinyjson_normal::{NormalReader, NormalText};
 
 /// How lines are read.
 #[derive(Clone, Copy)]
-pub struct Options {
+pub struct Options<'a> {
     /// Whether the run goes on after a line that is refused.
     pub goes_on: bool,
     /// How many containers may be open at once, if there is a limit.
     pub limit: Option<usize>,
+    /// The name of the file with the lines, which is told of those that are refused.
+    pub file: Option<&'a str>,
 }
 
 /// What became of the lines that were read.
@@ -48,12 +50,12 @@ pub enum Outcome {
 /// ```
 pub fn run<R: BufRead, W: Write, E: Write>(
     alloc: Global,
-    options: Options,
+    options: Options<'_>,
     input: &mut R,
     output: &mut W,
     errors: &mut E,
 ) -> io::Result<Outcome>
-    ensures { Runs options (R.remaining input.old) (R.remaining input.new)
+    ensures { Runs options.entry (R.remaining input.old) (R.remaining input.new)
         (W.contents output.old) (W.contents output.new)
         (E.contents errors.old) (E.contents errors.new) result }
 {
@@ -67,7 +69,7 @@ pub fn run<R: BufRead, W: Write, E: Write>(
         }
         let handled = handle(
             &mut reader,
-            options.limit,
+            options,
             number,
             line.as_slice(),
             output,
@@ -87,20 +89,25 @@ pub fn run<R: BufRead, W: Write, E: Write>(
 /// Writes the normal form of one line, or tells of it, after what was written before it.
 fn handle<W: Write, E: Write>(
     reader: &mut NormalReader,
-    limit: Option<usize>,
+    options: Options<'_>,
     number: u64,
     line: &[u8],
     output: &mut W,
     errors: &mut E,
 ) -> io::Result<Outcome>
-    ensures { Handles limit number line.now (W.contents output.old) (W.contents output.new)
+    ensures { Handles options.entry number line.now (W.contents output.old) (W.contents output.new)
         (E.contents errors.old) (E.contents errors.new) result }
 {
-    let Some(cause) = write_line(reader, limit, line, output)? else {
+    let Some(cause) = write_line(reader, options.limit, line, output)? else {
         return Ok(Outcome::AllWritten);
     };
     output.flush()?;
-    tell(reader.allocator(), errors, Refusal { number, cause })?;
+    let refused = RefusedLine {
+        program: "json_lines",
+        file: options.file,
+        refusal: Refusal { number, cause },
+    };
+    tell(reader.allocator(), errors, &refused)?;
     Ok(Outcome::SomeRefused)
 }
 

@@ -1,65 +1,93 @@
-//! Reads JSON texts from standard input, one on a line, and prints the normal form of each. A line that
-//! is refused is told on standard error, with its number.
-//!
-//! The arguments `-k` and `-d N` ask to go on after a line that is refused, and for a limit on depth. The
-//! status is 0 where all lines are JSON texts, 1 where one is refused, 2 for other arguments, and 4 where
-//! memory, a read or a write failed.
+//! Prints the normal form of each JSON text on a line. Its help page has the arguments and the statuses.
 #![tactic(auto)]
 
 pub mod lines;
 pub mod options;
-pub mod refusal;
 pub mod shares;
 
 use lines::{Options, Outcome};
-use std::env::{self, Env};
-use std::io::{self, BufReader, BufWriter, ErrorKind};
+use options::{DEPTH, KEEP_GOING, options};
+use std::alloc::Global;
+use std::io::{self, BufRead, Write};
 use std::process::ExitCode;
+use tinyjson_cli::{
+    AnswerLines, HELP, Program, Status, VERSION, answer_lines, argument_words, arguments_of,
+};
 
-/// How many bytes are gathered of the input, and of the output.
-const BUFFER_LEN: usize = 64 * 1024;
+const PROGRAM: Program<'static> = Program {
+    name: "json_lines",
+    options: &[KEEP_GOING, DEPTH, HELP, VERSION],
+    help: "\
+Usage: json_lines [-k] [-d N] [FILE..]
 
-const USAGE: &str = "usage: json_lines [-k] [-d N]";
+Reads JSON texts, one on a line, and prints the normal form of each: no white
+space, sorted keys, one spelling for each number.
 
-fn main(rt: HostRuntime) -> ExitCode {
-    let ended = match asked(&rt) {
-        Ok(Some(options)) => write_lines(rt, options),
-        Ok(None) => {
-            let _ = eprintln!(rt; "{USAGE}");
-            return ExitCode::from(2);
-        }
-        Err(error) => Err(error),
-    };
-    match ended {
-        Ok(Outcome::AllWritten) => ExitCode::SUCCESS,
-        Ok(Outcome::SomeRefused) => ExitCode::from(1),
-        Err(error) => {
-            let _ = eprintln!(rt; "json_lines: {error}");
-            ExitCode::from(4)
+The lines are those of the files, or of standard input where none is named; '-'
+is standard input, too. Options may come anywhere; after '--' all are operands.
+
+Options:
+  -k, --keep-going  go on after a line that is refused
+  -d, --depth N     refuse a line with more than N nested containers
+  -h, --help        print this page
+  -V, --version     print the version
+
+Exit status:
+  0  all lines are JSON texts
+  1  with -k: a line is refused
+  2  the arguments are not understood
+  3  without -k: a line is refused, and ends the run
+  4  memory ran out, or a read or a write failed
+
+Examples:
+  $ printf '{\"b\":1, \"a\":[1.0]}\\n\"x\"\\n' | json_lines
+  {\"a\":[1],\"b\":1}
+  \"x\"
+  $ printf '1.0\\n[1,]\\n2\\n' | json_lines -k 2> refused
+  1
+  2
+",
+};
+
+/// How lines are read.
+#[derive(Drop)]
+struct Asked {
+    alloc: Global,
+    options: Options<'static>,
+}
+
+impl AnswerLines for Asked {
+    fn answer<R: BufRead, W: Write, E: Write>(
+        &mut self,
+        file: Option<&str>,
+        input: &mut R,
+        output: &mut W,
+        errors: &mut E,
+    ) -> io::Result<(bool, Status)> {
+        let options = Options {
+            goes_on: self.options.goes_on,
+            limit: self.options.limit,
+            file,
+        };
+        match lines::run(self.alloc, options, input, output, errors)? {
+            Outcome::AllWritten => Ok((true, Status::Done)),
+            Outcome::SomeRefused if options.goes_on => Ok((true, Status::No)),
+            Outcome::SomeRefused => Ok((false, Status::Refused)),
         }
     }
 }
 
-/// The options that the arguments ask for; `None` where they aren't understood.
-fn asked(rt: &(impl Env + AllocGlobal)) -> io::Result<Option<Options>> {
-    let words = match env::args(rt) {
-        Ok(words) => words,
-        Err(error) if error.kind() == ErrorKind::OutOfMemory => return Err(error),
-        Err(_) => return Ok(None),
-    };
-    let words = words.skip(1).collect::<Vec<String>>(rt.alloc())?;
-    Ok(options::options(words.as_slice()))
+fn main(rt: HostRuntime) -> ExitCode {
+    let (Ok(status) | Err(status)) = run(&rt);
+    ExitCode::from(status.code())
 }
 
-/// From standard input to standard output and standard error. After a failure nothing more is
-/// written, though some bytes may be gathered.
-fn write_lines(rt: HostRuntime, options: Options) -> io::Result<Outcome> {
-    let alloc = rt.alloc();
-    let mut input = BufReader::with_capacity(alloc, BUFFER_LEN, rt.reader())?;
-    let mut output = BufWriter::with_capacity(alloc, BUFFER_LEN, rt.stdout())?;
-    let mut errors = rt.stderr();
-    let answer = lines::run(alloc, options, &mut input, &mut output, &mut errors);
-    // Dropped, the gathered bytes would be written.
-    let (_output, _gathered) = output.into_parts();
-    answer
+fn run(rt: &HostRuntime) -> Result<Status, Status> {
+    let words = argument_words(rt, PROGRAM)?;
+    let arguments = arguments_of(rt, PROGRAM, words.as_slice())?;
+    let mut asked = Asked {
+        alloc: rt.alloc(),
+        options: options(&arguments),
+    };
+    Ok(answer_lines(rt, PROGRAM, arguments.operands.as_slice(), &mut asked))
 }

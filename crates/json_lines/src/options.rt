@@ -1,44 +1,32 @@
-//! The arguments.
-ghost use Rattle.std.specs.Prelude.{◌≡◌, ◌≢◌, Some, IfSome, SomeIff, MatchBool, map, string_bytes};
-ghost use Rattle.std.specs.Str.Parse.{digits_value};
-ghost use Rattle.json_lines.specs.Options.{Asks, IsLimit};
-ghost use Rattle.json_lines.specs.declared.lines.Options.{Options};
+//! What the arguments ask for.
+ghost use Rattle.std.specs.Prelude.{◌≡◌};
+ghost use Rattle.tinyjson_cli.specs.Arguments.{given_of};
+ghost use Rattle.json_lines.specs.Options.{asks};
 
 use crate::lines::Options;
+use tinyjson_cli::{Arguments, Known};
 
-/// Reads the arguments that follow the program's name: `-k` for a run that goes on after a line that
-/// is refused, and `-d N` for a limit on depth, N of 1 to 9 decimal digits. They stand in either
-/// order, each at most once; other arguments give `None`.
-pub fn options(words: &[String]) -> Option<Options>
-    ensures asked { IfSome result (λ o. Asks (map string_bytes words.now) o.goes_on o.limit) }
-    ensures given { (o : Options) → Asks (map string_bytes words.now) o.goes_on o.limit →
-        result ≡ Some o }
-{
-    let (goes_on, limit) = match words {
-        [] => (false, None),
-        [k] if is_word(k, "-k") => (true, None),
-        [d, n] if is_word(d, "-d") => (false, Some(depth(n.as_str())?)),
-        [k, d, n] if is_word(k, "-k") && is_word(d, "-d") => (true, Some(depth(n.as_str())?)),
-        [d, n, k] if is_word(d, "-d") && is_word(k, "-k") => (true, Some(depth(n.as_str())?)),
-        _ => return None,
-    };
-    Some(Options { goes_on, limit })
-}
+/// `-k` and `--keep-going`.
+pub const KEEP_GOING: Known<'static> = Known {
+    letter: b'k',
+    name: "keep-going",
+    takes_number: false,
+};
 
-/// Whether the argument is this one.
-fn is_word(word: &String, expected: &str) -> bool
-    ensures { MatchBool result (string_bytes word.now ≡ expected.now)
-        (string_bytes word.now ≢ expected.now) }
-{
-    word.as_str() == expected
-}
+/// `-d` and `--depth`.
+pub const DEPTH: Known<'static> = Known {
+    letter: b'd',
+    name: "depth",
+    takes_number: true,
+};
 
-/// The number that 1 to 9 decimal digits write.
-fn depth(word: &str) -> Option<usize>
-    ensures { SomeIff result (IsLimit word.now) (digits_value 10 word.now) }
+/// How the lines of standard input are read: `[-k] [-d N]`.
+pub fn options(arguments: &Arguments<'_>) -> Options<'static>
+    ensures { (result.goes_on, result.limit) ≡ asks (given_of arguments.now) }
 {
-    if word.is_empty() || word.len() > 9 || word.as_bytes()[0] == b'+' {
-        return None;
+    Options {
+        goes_on: arguments.has(b'k'),
+        limit: arguments.number(b'd'),
+        file: None,
     }
-    word.parse().ok()
 }

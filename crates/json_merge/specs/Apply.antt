@@ -9,15 +9,21 @@ use Rattle.tinyjson.specs.Tree.{Tree}
 use Rattle.tinyjson.specs.Written.{WrittenPart}
 use Rattle.tinyjson_patch.specs.Merge.{merge_patch}
 use Rattle.tinyjson.specs.declared.parser.error.JsonParseError.{JsonParseError}
+use Rattle.tinyjson_cli.specs.Failures.{failure_message, failure_status}
+use Rattle.tinyjson_cli.specs.declared.failure.Failure.{Failure}
+use Rattle.tinyjson_cli.specs.declared.failure.Failure.TheVariants as failure
+use Rattle.tinyjson_cli.specs.declared.status.Status.{Status}
+use Rattle.tinyjson_cli.specs.declared.status.Status.TheVariants as status
 use Rattle.tinyjson_lines.specs.Line.{line_of}
 use Rattle.json_merge.specs.declared.apply.MergeError.{MergeError}
 use Rattle.json_merge.specs.declared.apply.MergeError.TheVariants.{BadPatch, Refused, OutOfMemory, Writing}
 
-abbrev pub status_of : MergeError → ℕ
-status_of (BadPatch e) = 2
-status_of (Refused e) = 3
-status_of OutOfMemory = 4
-status_of Writing = 4
+-- how the program ends: with status 1, 2, 3 and 4
+abbrev pub status_of : MergeError → Status
+status_of (BadPatch e) = status.Misused
+status_of (Refused e) = status.Refused
+status_of OutOfMemory = status.Failed
+status_of Writing = status.Failed
 
 -- the message of an error; of a text that is refused its reader's
 abbrev pub merge_error_message : MergeError → List ℕ
@@ -25,6 +31,11 @@ merge_error_message (BadPatch e) = codes "the patch: " ++ error_message e
 merge_error_message (Refused e) = error_message e
 merge_error_message OutOfMemory = codes "out of memory"
 merge_error_message Writing = codes "writing failed"
+
+-- The failure has the status and the message of the error, or memory ran out; a text that is refused is told with its place.
+abbrev pub Tells : MergeError → Failure → Type 0
+Tells (Refused e) f = (f ≡ failure.NotJson e) ⊎ (f ≡ failure.OutOfMemory)
+Tells e f = ((failure_status f ≡ status_of e) × (failure_message f ≡ Some (merge_error_message e))) ⊎ (f ≡ failure.OutOfMemory)
 
 -- how many containers of a patch may be open at once
 abbrev pub patch_depth : Option ℕ

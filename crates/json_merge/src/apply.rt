@@ -3,7 +3,7 @@ ghost use Rattle.std.specs.IoError.{error_kind};
 ghost use Rattle.std.specs.Prelude.{◌≡◌, Some};
 ghost use Rattle.std.specs.Str.{chars};
 ghost use Rattle.tinyjson.specs.View.{view};
-ghost use Rattle.json_merge.specs.Apply.{status_of, merge_error_message, patch_depth};
+ghost use Rattle.json_merge.specs.Apply.{merge_error_message, patch_depth};
 ghost use Rattle.json_merge.specs.Apply.{IsFailedWrite, AppliesTree, Applies, WritesMerged};
 
 use std::alloc::Global;
@@ -28,19 +28,6 @@ pub enum MergeError {
     OutOfMemory,
     /// A write failed.
     Writing,
-}
-
-impl MergeError {
-    /// The status with which the program ends.
-    pub fn status(&self) -> u8
-        ensures { result ≡ status_of self.now }
-    {
-        match self {
-            MergeError::BadPatch(_) => 2,
-            MergeError::Refused(_) => 3,
-            MergeError::OutOfMemory | MergeError::Writing => 4,
-        }
-    }
 }
 
 /// The message that the program writes after its name.

@@ -1,84 +1,21 @@
-//! Why the program prints no result.
-ghost use Rattle.std.specs.IoError.{error_kind};
-ghost use Rattle.std.specs.Prelude.{◌≡◌};
-ghost use Rattle.json_merge.specs.Failures.{failure_status, failure_message, IsMemoryOr};
-ghost use Rattle.json_merge.specs.declared.failure.Failure.{Failure};
+//! How the program ends where it prints no result.
+ghost use Rattle.json_merge.specs.Apply.{Tells};
 
 use crate::apply::MergeError;
-use std::alloc::AllocError;
-use std::fmt;
-use std::io::{self, ErrorKind};
+use std::alloc::Global;
+use tinyjson_cli::Failure;
 
-/// Why the program prints no result.
-#[derive(Drop)]
-pub enum Failure {
-    /// The arguments are others than the name of a file.
-    Arguments,
-    /// The file of the patch can't be read, or is not UTF-8.
-    PatchFile(io::Error),
-    /// Standard input can't be read, or is not UTF-8.
-    Input(io::Error),
-    /// Memory ran out while the arguments or the texts were read, or before a write.
-    OutOfMemory,
-    /// No merged value was written.
-    Merge(MergeError),
-}
-
-impl From<AllocError> for Failure {
-    ghost from_gives = { λ _ f. f ≡ Failure.OutOfMemory };
-
-    fn from(_: AllocError) -> Failure {
-        Failure::OutOfMemory
-    }
-}
-
-impl Failure {
-    /// The status with which the program ends.
-    pub fn status(&self) -> u8
-        ensures { result ≡ failure_status self.now }
-    {
-        match self {
-            Failure::Arguments | Failure::PatchFile(_) => 2,
-            Failure::Input(error) if error.kind() == ErrorKind::InvalidData => 3,
-            Failure::Input(_) | Failure::OutOfMemory => 4,
-            Failure::Merge(error) => error.status(),
-        }
-    }
-}
-
-/// The message that the program writes after its name.
-impl fmt::Display for Failure {
-    ghost output = { λ e. failure_message e };
-
-    fn fmt<W: fmt::Write>(&self, f: &mut fmt::Formatter<W>) -> fmt::Result {
-        match self {
-            Failure::Arguments => f.write_str("usage: json_merge PATCH-FILE"),
-            Failure::PatchFile(error) => write!(f, "the patch: {error}"),
-            Failure::Input(error) => write!(f, "{error}"),
-            Failure::OutOfMemory => f.write_str("out of memory"),
-            Failure::Merge(error) => write!(f, "{error}"),
-        }
-    }
-}
-
-/// A failure to read the patch.
-pub fn patch_error(error: io::Error) -> Failure
-    ensures { IsMemoryOr (error_kind error ≡ ErrorKind.OutOfMemory)
-        (Failure.PatchFile error) result }
+/// The failure of an error, with its message and its status.
+pub fn apply_failure(alloc: Global, error: MergeError) -> Failure
+    ensures { Tells error result }
 {
-    match error.kind() {
-        ErrorKind::OutOfMemory => Failure::OutOfMemory,
-        _ => Failure::PatchFile(error),
-    }
-}
-
-/// A failure to read the text.
-pub fn input_error(error: io::Error) -> Failure
-    ensures { IsMemoryOr (error_kind error ≡ ErrorKind.OutOfMemory)
-        (Failure.Input error) result }
-{
-    match error.kind() {
-        ErrorKind::OutOfMemory => Failure::OutOfMemory,
-        _ => Failure::Input(error),
+    let Ok(words) = error.to_string(alloc) else {
+        return Failure::OutOfMemory;
+    };
+    match error {
+        MergeError::BadPatch(_) => Failure::Misused(words),
+        MergeError::Refused(error) => Failure::NotJson(error),
+        MergeError::OutOfMemory => Failure::OutOfMemory,
+        MergeError::Writing => Failure::Failed(words),
     }
 }

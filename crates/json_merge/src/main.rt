@@ -1,56 +1,85 @@
-//! Applies a JSON Merge Patch (RFC 7396) to a JSON text, and prints the result as compact text.
-//!
-//! The one argument names the file of the patch, and the text comes from standard input. The status is 0 for
-//! a result, 2 for other arguments, or a patch that is no JSON text, deeper than 1,000 containers or can't be read,
-//! 3 for no JSON text, and 4 where memory, a read or a write failed.
+//! Applies a JSON Merge Patch (RFC 7396) to each JSON text, and prints the result. Its help page has the arguments
+//! and the statuses.
 #![tactic(auto)]
 
 mod apply;
 mod failure;
-mod options;
 
-use apply::{write_merged, writing_error};
-use failure::{Failure, input_error, patch_error};
-use options::asked;
-use std::env::{self, Env};
-use std::fs::{self, Files};
-use std::io::{self, BufWriter, ErrorKind, Write};
+use apply::write_merged;
+use failure::apply_failure;
+use std::alloc::Global;
+use std::io::Write;
 use std::process::ExitCode;
+use tinyjson_cli::{
+    Answer, Failure, HELP, Misuse, Program, Status, VERSION, answer_files, argument_words,
+    arguments_of, misused, read_named, report,
+};
 
-fn main(rt: HostRuntime) -> ExitCode {
-    match print_merged(&rt) {
-        Ok(()) => ExitCode::SUCCESS,
-        Err(failure) => {
-            let _ = eprintln!(rt; "json_merge: {failure}");
-            ExitCode::from(failure.status())
+const PROGRAM: Program<'static> = Program {
+    name: "json_merge",
+    options: &[HELP, VERSION],
+    help: "\
+Usage: json_merge PATCH [FILE..]
+
+Applies a JSON Merge Patch (RFC 7396) to each JSON text, and prints the result as
+compact text with sorted keys. PATCH is the name of the patch's file.
+
+The texts are those of the files, or standard input where none is named; '-' is
+standard input, too. Options may come anywhere; after '--' all are operands.
+
+Options:
+  -h, --help     print this page
+  -V, --version  print the version
+
+Exit status:
+  0  each result was printed
+  2  the arguments are not understood, or PATCH can't be read,
+     is no JSON text, or has more than 1,000 nested containers
+  3  an input is no JSON text, or not UTF-8
+  4  memory ran out, or a read or a write failed
+
+Examples:
+  $ echo '{\"a\": null, \"b\": {\"c\": 2}}' > patch.json
+  $ echo '{\"a\": 1, \"b\": {\"d\": 3}}' | json_merge patch.json
+  {\"b\":{\"c\":2,\"d\":3}}
+  $ echo '[1]' | json_merge patch.json
+  {\"b\":{\"c\":2}}
+",
+};
+
+/// A patch that is applied to each text.
+#[derive(Drop)]
+struct Asked {
+    patch: String,
+}
+
+impl Answer for Asked {
+    fn answer<W: Write>(
+        &self,
+        alloc: Global,
+        text: &str,
+        output: &mut W,
+    ) -> Result<Status, Failure> {
+        match write_merged(alloc, self.patch.as_str(), text, output) {
+            Ok(()) => Ok(Status::Done),
+            Err(error) => Err(apply_failure(alloc, error)),
         }
     }
 }
 
-/// From the file of the patch and standard input to standard output, which is flushed once, after success.
-fn print_merged(rt: &(impl Env + Files + Input + Print + AllocGlobal)) -> Result<(), Failure> {
-    let alloc = rt.alloc();
-    let words = arguments(rt)?;
-    let Some(file) = asked(words.as_slice()) else {
-        return Err(Failure::Arguments);
-    };
-    let patch = fs::read_to_string(rt, file).map_err(patch_error)?;
-    let text = io::read_to_string(alloc, rt.reader()).map_err(input_error)?;
-    let Ok(mut output) = BufWriter::new(alloc, io::writer(rt)) else {
-        return Err(Failure::OutOfMemory);
-    };
-    let answer = write_merged(alloc, patch.as_str(), text.as_str(), &mut output);
-    let answer = answer.and_then(|()| output.flush().map_err(writing_error));
-    // Dropped, the gathered bytes would be written, also after a write that failed.
-    let (_output, _gathered) = output.into_parts();
-    answer.map_err(Failure::Merge)
+fn main(rt: HostRuntime) -> ExitCode {
+    let (Ok(status) | Err(status)) = run(&rt);
+    ExitCode::from(status.code())
 }
 
-/// The arguments after the program's name.
-fn arguments(rt: &(impl Env + AllocGlobal)) -> Result<Vec<String>, Failure> {
-    match env::args(rt) {
-        Ok(words) => Ok(words.skip(1).collect::<Vec<String>>(rt.alloc())?),
-        Err(error) if error.kind() == ErrorKind::OutOfMemory => Err(Failure::OutOfMemory),
-        Err(_) => Err(Failure::Arguments),
+fn run(rt: &HostRuntime) -> Result<Status, Status> {
+    let words = argument_words(rt, PROGRAM)?;
+    let arguments = arguments_of(rt, PROGRAM, words.as_slice())?;
+    let Some((file, files)) = arguments.first() else {
+        return Err(misused(rt, PROGRAM, Misuse::Missing("PATCH")));
+    };
+    match read_named(rt, file) {
+        Ok(patch) => Ok(answer_files(rt, PROGRAM, files, &Asked { patch })),
+        Err(failure) => Err(report(rt, PROGRAM, None, &failure)),
     }
 }

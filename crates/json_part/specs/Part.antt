@@ -11,16 +11,22 @@ use Rattle.tinyjson_pointer.specs.Reading.{IsNoPointer, Reads, pointer_error_mes
 use Rattle.tinyjson_pointer.specs.Text.{pointer_text}
 use Rattle.tinyjson_pointer.specs.Walk.{part_at}
 use Rattle.tinyjson_pointer.specs.declared.pointer.PointerError.TheVariants as refusal
+use Rattle.tinyjson_cli.specs.Failures.{failure_message, failure_status}
+use Rattle.tinyjson_cli.specs.declared.failure.Failure.{Failure}
+use Rattle.tinyjson_cli.specs.declared.failure.Failure.TheVariants as failure
+use Rattle.tinyjson_cli.specs.declared.status.Status.{Status}
+use Rattle.tinyjson_cli.specs.declared.status.Status.TheVariants as status
 use Rattle.tinyjson_lines.specs.Line.{line_of}
 use Rattle.json_part.specs.declared.part.PartError.{PartError}
 use Rattle.json_part.specs.declared.part.PartError.TheVariants.{BadPointer, Refused, NoPart, OutOfMemory, Writing}
 
-abbrev pub status_of : PartError → ℕ
-status_of NoPart = 1
-status_of (BadPointer e) = 2
-status_of (Refused e) = 3
-status_of OutOfMemory = 4
-status_of Writing = 4
+-- how the program ends: with status 1, 2, 3 and 4
+abbrev pub status_of : PartError → Status
+status_of NoPart = status.No
+status_of (BadPointer e) = status.Misused
+status_of (Refused e) = status.Refused
+status_of OutOfMemory = status.Failed
+status_of Writing = status.Failed
 
 -- the message of an error; of a text that is not a pointer and of a refused one its reader's
 abbrev pub part_error_message : PartError → List ℕ
@@ -29,6 +35,11 @@ part_error_message (Refused e) = error_message e
 part_error_message NoPart = codes "the pointer names no part"
 part_error_message OutOfMemory = codes "out of memory"
 part_error_message Writing = codes "writing failed"
+
+-- The failure has the status and the message of the error, or memory ran out; a text that is refused is told with its place.
+abbrev pub Tells : PartError → Failure → Type 0
+Tells (Refused e) f = (f ≡ failure.NotJson e) ⊎ (f ≡ failure.OutOfMemory)
+Tells e f = ((failure_status f ≡ status_of e) × (failure_message f ≡ Some (part_error_message e))) ⊎ (f ≡ failure.OutOfMemory)
 
 -- the tokens name a part, and a prefix of its line is written
 abbrev pub WritesLinePrefix : List (List ℕ) → Tree → Option (List ℕ) → Option (List ℕ) → Type 0

@@ -1,60 +1,81 @@
-//! Prints the part of a JSON text that a JSON pointer names, as compact text.
-//!
-//! The pointer is the one argument, and the text comes from standard input. The status
-//! is 0 for a part, 1 where the pointer names none, 2 for other arguments or no pointer, 3 for no JSON text,
-//! and 4 where memory, a read or a write failed.
+//! Prints the part of each JSON text that a JSON pointer names, as compact text. Its help page has the arguments and
+//! the statuses.
 #![tactic(auto)]
 
+mod failure;
 mod part;
 
-use part::{PartError, write_part, writing_error};
-use std::env::{self, Env};
-use std::io::{self, BufWriter, ErrorKind, Write};
+use failure::part_failure;
+use part::write_part;
+use std::alloc::Global;
+use std::io::Write;
 use std::process::ExitCode;
+use tinyjson_cli::{
+    Answer, Failure, HELP, Misuse, Program, Status, VERSION, answer_files, argument_words,
+    arguments_of, misused,
+};
 
-const USAGE: &str = "usage: json_part POINTER";
+const PROGRAM: Program<'static> = Program {
+    name: "json_part",
+    options: &[HELP, VERSION],
+    help: "\
+Usage: json_part POINTER [FILE..]
+
+Prints the part of each JSON text at a JSON Pointer (RFC 6901), as compact text
+with sorted keys.
+
+The texts are those of the files, or standard input where none is named; '-' is
+standard input, too. Options may come anywhere; after '--' all are operands.
+
+Options:
+  -h, --help     print this page
+  -V, --version  print the version
+
+Exit status:
+  0  each part was printed
+  1  a text has no part there
+  2  the arguments are not understood, or POINTER is no pointer
+  3  an input is no JSON text, or not UTF-8
+  4  memory ran out, or a read or a write failed
+
+Examples:
+  $ echo '{\"a\": [1, {\"b\": 2.0}]}' | json_part /a/1
+  {\"b\":2}
+  $ echo '{\"a/b\": \"x\"}' | json_part /a~1b
+  \"x\"
+",
+};
+
+/// A pointer that is followed in each text.
+#[derive(Drop)]
+struct Asked<'a> {
+    pointer: &'a str,
+}
+
+impl Answer for Asked<'_> {
+    fn answer<W: Write>(
+        &self,
+        alloc: Global,
+        text: &str,
+        output: &mut W,
+    ) -> Result<Status, Failure> {
+        match write_part(alloc, self.pointer, text, output) {
+            Ok(()) => Ok(Status::Done),
+            Err(error) => Err(part_failure(alloc, error)),
+        }
+    }
+}
 
 fn main(rt: HostRuntime) -> ExitCode {
-    match print_part(&rt) {
-        Ok(Ok(())) => ExitCode::SUCCESS,
-        Ok(Err(error)) => {
-            let _ = eprintln!(rt; "json_part: {error}");
-            ExitCode::from(error.status())
-        }
-        Err(error) => {
-            let _ = eprintln!(rt; "json_part: {error}");
-            match error.kind() {
-                ErrorKind::InvalidInput => ExitCode::from(2),
-                ErrorKind::InvalidData => ExitCode::from(3),
-                _ => ExitCode::from(4),
-            }
-        }
-    }
+    let (Ok(status) | Err(status)) = run(&rt);
+    ExitCode::from(status.code())
 }
 
-/// From standard input to standard output, which is flushed once, after success. The outer error is one of
-/// the arguments, or of reading.
-fn print_part(rt: &(impl Env + Input + Print + AllocGlobal)) -> io::Result<Result<(), PartError>> {
-    let alloc = rt.alloc();
-    let pointer = pointer_asked(rt)?;
-    let text = io::read_to_string(alloc, rt.reader())?;
-    let mut output = BufWriter::new(alloc, io::writer(rt))?;
-    let answer = write_part(alloc, pointer.as_str(), text.as_str(), &mut output);
-    let answer = answer.and_then(|()| output.flush().map_err(writing_error));
-    // Dropped, the gathered bytes would be written, also after a write that failed.
-    let (_output, _gathered) = output.into_parts();
-    Ok(answer)
-}
-
-/// The one argument.
-fn pointer_asked(rt: &(impl Env + AllocGlobal)) -> io::Result<String> {
-    let mut words = match env::args(rt) {
-        Ok(words) => words.skip(1),
-        Err(error) if error.kind() == ErrorKind::OutOfMemory => return Err(error),
-        Err(_) => return Err(io::Error::new(ErrorKind::InvalidInput, USAGE)),
+fn run(rt: &HostRuntime) -> Result<Status, Status> {
+    let words = argument_words(rt, PROGRAM)?;
+    let arguments = arguments_of(rt, PROGRAM, words.as_slice())?;
+    let Some((pointer, files)) = arguments.first() else {
+        return Err(misused(rt, PROGRAM, Misuse::Missing("POINTER")));
     };
-    match (words.next(), words.next()) {
-        (Some(pointer), None) => Ok(pointer),
-        _ => Err(io::Error::new(ErrorKind::InvalidInput, USAGE)),
-    }
+    Ok(answer_files(rt, PROGRAM, files, &Asked { pointer }))
 }

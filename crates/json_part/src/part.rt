@@ -4,7 +4,7 @@ ghost use Rattle.std.specs.Prelude.{◌≡◌, Some};
 ghost use Rattle.std.specs.Str.{chars};
 ghost use Rattle.tinyjson.specs.View.{view};
 ghost use Rattle.tinyjson_pointer.specs.Tokens.{tokens_of};
-ghost use Rattle.json_part.specs.Part.{status_of, part_error_message};
+ghost use Rattle.json_part.specs.Part.{part_error_message};
 ghost use Rattle.json_part.specs.Part.{IsFailedWrite, WritesFound, WritesPart};
 
 use std::alloc::Global;
@@ -27,20 +27,6 @@ pub enum PartError {
     OutOfMemory,
     /// A write failed.
     Writing,
-}
-
-impl PartError {
-    /// The status with which the program ends.
-    pub fn status(&self) -> u8
-        ensures { result ≡ status_of self.now }
-    {
-        match self {
-            PartError::NoPart => 1,
-            PartError::BadPointer(_) => 2,
-            PartError::Refused(_) => 3,
-            PartError::OutOfMemory | PartError::Writing => 4,
-        }
-    }
 }
 
 /// The message that the program writes after its name.

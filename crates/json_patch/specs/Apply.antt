@@ -13,18 +13,24 @@ use Rattle.tinyjson_patch.specs.Operation.{Action, reason_message}
 use Rattle.tinyjson_patch.specs.Patch.{all_applied}
 use Rattle.tinyjson_patch.specs.declared.fault.PatchError.{PatchError}
 use Rattle.tinyjson_patch.specs.declared.fault.PatchError.TheVariants as document
+use Rattle.tinyjson_cli.specs.Failures.{failure_message, failure_status}
+use Rattle.tinyjson_cli.specs.declared.failure.Failure.{Failure}
+use Rattle.tinyjson_cli.specs.declared.failure.Failure.TheVariants as failure
+use Rattle.tinyjson_cli.specs.declared.status.Status.{Status}
+use Rattle.tinyjson_cli.specs.declared.status.Status.TheVariants as status
 use Rattle.tinyjson_lines.specs.Line.{line_of}
 use Rattle.json_patch.specs.declared.apply.PatchingError.{PatchingError}
 use Rattle.json_patch.specs.declared.apply.PatchingError.TheVariants.{BadText, BadPatch, Refused, Failed, OutOfMemory, Writing}
 use Rattle.tinyjson.specs.declared.parser.error.JsonParseError.{JsonParseError}
 
-abbrev pub status_of : PatchingError → ℕ
-status_of (Failed n r) = 1
-status_of (BadText e) = 2
-status_of (BadPatch e) = 2
-status_of (Refused e) = 3
-status_of OutOfMemory = 4
-status_of Writing = 4
+-- how the program ends: with status 1, 2, 3 and 4
+abbrev pub status_of : PatchingError → Status
+status_of (Failed n r) = status.No
+status_of (BadText e) = status.Misused
+status_of (BadPatch e) = status.Misused
+status_of (Refused e) = status.Refused
+status_of OutOfMemory = status.Failed
+status_of Writing = status.Failed
 
 -- the message of an error; of a text that is refused its reader's
 abbrev pub patching_error_message : PatchingError → List ℕ
@@ -34,6 +40,11 @@ patching_error_message (Refused e) = error_message e
 patching_error_message (Failed n r) = numbered_message n (reason_message r)
 patching_error_message OutOfMemory = codes "out of memory"
 patching_error_message Writing = codes "writing failed"
+
+-- The failure has the status and the message of the error, or memory ran out; a text that is refused is told with its place.
+abbrev pub Tells : PatchingError → Failure → Type 0
+Tells (Refused e) f = (f ≡ failure.NotJson e) ⊎ (f ≡ failure.OutOfMemory)
+Tells e f = ((failure_status f ≡ status_of e) × (failure_message f ≡ Some (patching_error_message e))) ⊎ (f ≡ failure.OutOfMemory)
 
 -- how many containers of a patch may be open at once
 abbrev pub patch_depth : Option ℕ

@@ -4,7 +4,7 @@ ghost use Rattle.std.specs.Prelude.{◌≡◌, Some};
 ghost use Rattle.std.specs.Str.{chars};
 ghost use Rattle.tinyjson.specs.View.{view};
 ghost use Rattle.tinyjson_patch.specs.Patch.{actions_of};
-ghost use Rattle.json_patch.specs.Apply.{status_of, patching_error_message, patch_depth};
+ghost use Rattle.json_patch.specs.Apply.{patching_error_message, patch_depth};
 ghost use Rattle.json_patch.specs.Apply.{IsFailedWrite, WritesLine, AppliesTree, AppliesText};
 ghost use Rattle.json_patch.specs.Apply.{AppliesDocument, WritesPatched};
 
@@ -33,20 +33,6 @@ pub enum PatchingError {
     OutOfMemory,
     /// A write failed.
     Writing,
-}
-
-impl PatchingError {
-    /// The status with which the program ends.
-    pub fn status(&self) -> u8
-        ensures { result ≡ status_of self.now }
-    {
-        match self {
-            PatchingError::Failed(_, _) => 1,
-            PatchingError::BadText(_) | PatchingError::BadPatch(_) => 2,
-            PatchingError::Refused(_) => 3,
-            PatchingError::OutOfMemory | PatchingError::Writing => 4,
-        }
-    }
 }
 
 /// The message that the program writes after its name.

@@ -1,5 +1,5 @@
 -- What is written of a query and a text.
-use Rattle.std.specs.Prelude.{◌≡◌, ◌≢◌, ℕ, List, [], ◌∷◌, ◌++◌, Option, None, Result, Ok, Err, ◌⊎◌, codes}
+use Rattle.std.specs.Prelude.{◌≡◌, ◌≢◌, ℕ, List, [], ◌∷◌, ◌++◌, Option, None, Some, Result, Ok, Err, ◌⊎◌, codes}
 use Rattle.std.specs.Prelude.{encode_utf8_all, Any}
 use Rattle.std.specs.Io.KnownBytes.{Appends}
 use Rattle.tinyjson.specs.Characters.{line_feed}
@@ -20,18 +20,24 @@ use Rattle.tinyjson_path.specs.Paths.{path_text}
 use Rattle.tinyjson_path.specs.Patterns.{Judge, IsRight}
 use Rattle.tinyjson_path.specs.Queries.{query_parts}
 use Rattle.tinyjson_path.specs.Strings.{strings_in, query_strings, Exceeds}
+use Rattle.tinyjson_cli.specs.Failures.{failure_message, failure_status}
+use Rattle.tinyjson_cli.specs.declared.failure.Failure.{Failure}
+use Rattle.tinyjson_cli.specs.declared.failure.Failure.TheVariants as failure
+use Rattle.tinyjson_cli.specs.declared.status.Status.{Status}
+use Rattle.tinyjson_cli.specs.declared.status.Status.TheVariants as status
 use Rattle.json_path.specs.declared.lines.Form.{Form}
 use Rattle.json_path.specs.declared.lines.Form.TheVariants.{Value, Path}
 use Rattle.json_path.specs.declared.lines.PathError.{PathError}
 use Rattle.json_path.specs.declared.lines.PathError.TheVariants.{BadQuery, Refused, NoNode, Pattern, OutOfMemory, Writing}
 
-abbrev pub status_of : PathError → ℕ
-status_of NoNode = 1
-status_of (BadQuery e) = 2
-status_of (Refused e) = 3
-status_of (Pattern l) = 4
-status_of OutOfMemory = 4
-status_of Writing = 4
+-- how the program ends: with status 1, 2, 3 and 4
+abbrev pub status_of : PathError → Status
+status_of NoNode = status.No
+status_of (BadQuery e) = status.Misused
+status_of (Refused e) = status.Refused
+status_of (Pattern l) = status.Failed
+status_of OutOfMemory = status.Failed
+status_of Writing = status.Failed
 
 -- the message of an error; of a text that is no query and of a refused one its reader's
 abbrev pub path_error_message : PathError → List ℕ
@@ -41,6 +47,11 @@ path_error_message NoNode = codes "the query selects no node"
 path_error_message (Pattern l) = limit_message l
 path_error_message OutOfMemory = codes "out of memory"
 path_error_message Writing = codes "writing failed"
+
+-- The failure has the status and the message of the error, or memory ran out; a text that is refused is told with its place.
+abbrev pub Tells : PathError → Failure → Type 0
+Tells (Refused e) f = (f ≡ failure.NotJson e) ⊎ (f ≡ failure.OutOfMemory)
+Tells e f = ((failure_status f ≡ status_of e) × (failure_message f ≡ Some (path_error_message e))) ⊎ (f ≡ failure.OutOfMemory)
 
 -- what is shown of a part: its compact text, or its normalized path
 abbrev pub form_text : Form → Part → List ℕ

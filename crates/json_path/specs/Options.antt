@@ -1,11 +1,9 @@
 -- What the arguments ask for.
-use Rattle.std.specs.Prelude.{ℕ, List, [], ◌∷◌, Option, Some, None, cond, codes}
-use Rattle.std.specs.Str.{bytes_eq}
+use Rattle.std.specs.Prelude.{ℕ, List, Option, cond, option_map}
+use Rattle.tinyjson_cli.specs.Arguments.{Given, first_operand, is_given}
 use Rattle.json_path.specs.declared.lines.Form.{Form}
 use Rattle.json_path.specs.declared.lines.Form.TheVariants.{Value, Path}
 
--- what is shown of each part, and the query: `QUERY` or `-p QUERY`
-abbrev pub asks : List (List ℕ) → Option (Form × List ℕ)
-asks (query ∷ []) = Some (Value, query)
-asks (word ∷ query ∷ []) = cond (bytes_eq word (codes "-p")) (Some (Path, query)) None
-asks _ = None
+-- what is shown of each part, with `-p` its path; the query; and the files
+abbrev pub asks : Given → Option (Form × (List ℕ × List (List ℕ)))
+asks a = option_map (λ o. (cond (is_given 112 a) Path Value, o)) (first_operand a.operands)

@@ -5,7 +5,7 @@ ghost use Rattle.std.specs.Str.{chars};
 ghost use Rattle.tinyjson.specs.Characters.{line_feed};
 ghost use Rattle.tinyjson.specs.View.{view};
 ghost use Rattle.tinyjson.specs.Written.{WritesPrefix};
-ghost use Rattle.json_path.specs.Lines.{status_of, path_error_message, form_text, line_of, lines_of};
+ghost use Rattle.json_path.specs.Lines.{path_error_message, form_text, line_of, lines_of};
 ghost use Rattle.json_path.specs.Lines.{IsFailedWrite, WritesNodes, WritesOfText, WritesOfQuery, WritesSelected};
 ghost use Rattle.tinyjson_path.specs.Nodes.{path_view, part_view, parts_view};
 ghost use Rattle.tinyjson_path.specs.Paths.{path_text};
@@ -44,20 +44,6 @@ pub enum PathError {
     OutOfMemory,
     /// A write failed.
     Writing,
-}
-
-impl PathError {
-    /// The status with which the program ends.
-    pub fn status(&self) -> u8
-        ensures { result ≡ status_of self.now }
-    {
-        match self {
-            PathError::NoNode => 1,
-            PathError::BadQuery(_) => 2,
-            PathError::Refused(_) => 3,
-            PathError::Pattern(_) | PathError::OutOfMemory | PathError::Writing => 4,
-        }
-    }
 }
 
 /// The message that the program writes after its name.

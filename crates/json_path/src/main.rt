@@ -1,55 +1,88 @@
-//! Prints what a query of JSONPath (RFC 9535) selects in a JSON text: the compact text of each value on a
-//! line, or with `-p` its normalized path.
-//!
-//! The query is the last argument, and the text comes from standard input. The status is 0 where something
-//! is selected, 1 where nothing is, 2 for other arguments or no query, 3 for no JSON text, and 4 where
-//! memory, a read or a write failed, or a regular expression is too deep or too large.
+//! Prints what a query of JSONPath (RFC 9535) selects in each JSON text. Its help page has the arguments
+//! and the statuses.
 #![tactic(auto)]
 
 mod failure;
 mod lines;
 mod options;
 
-use failure::{Failure, input_error};
-use lines::{write_selected, writing_error};
-use options::{Request, asked};
-use std::env::{self, Env};
-use std::io::{self, BufWriter, ErrorKind, Write};
+use failure::path_failure;
+use lines::{Form, write_selected};
+use options::{PATHS, Request, requested};
+use std::alloc::Global;
+use std::io::Write;
 use std::process::ExitCode;
+use tinyjson_cli::{
+    Answer, Failure, HELP, Misuse, Program, Status, VERSION, answer_files, argument_words,
+    arguments_of, misused,
+};
 
-fn main(rt: HostRuntime) -> ExitCode {
-    match print_selected(&rt) {
-        Ok(()) => ExitCode::SUCCESS,
-        Err(failure) => {
-            let _ = eprintln!(rt; "json_path: {failure}");
-            ExitCode::from(failure.status())
+const PROGRAM: Program<'static> = Program {
+    name: "json_path",
+    options: &[PATHS, HELP, VERSION],
+    help: "\
+Usage: json_path [-p] QUERY [FILE..]
+
+Prints what a JSONPath query (RFC 9535) selects in each JSON text, each value as
+compact text with sorted keys on a line.
+
+The texts are those of the files, or standard input where none is named; '-' is
+standard input, too. Options may come anywhere; after '--' all are operands.
+
+Options:
+  -p, --paths    print the normalized path of each value in place of the value
+  -h, --help     print this page
+  -V, --version  print the version
+
+Exit status:
+  0  something was selected in each text
+  1  nothing was selected in a text
+  2  the arguments are not understood, or QUERY is no query
+  3  an input is no JSON text, or not UTF-8
+  4  memory ran out, a read or a write failed, or a regular expression of the
+     query is too deep or too large
+
+Examples:
+  $ echo '{\"a\": [{\"b\": 1.0}, {\"b\": 2}]}' | json_path '$.a[*].b'
+  1
+  2
+  $ echo '{\"a\": [{\"b\": 1.0}, {\"b\": 2}]}' | json_path -p '$..b'
+  $['a'][0]['b']
+  $['a'][1]['b']
+",
+};
+
+/// A query, and what is written of what it selects in each text.
+#[derive(Drop)]
+struct Asked<'a> {
+    form: Form,
+    query: &'a str,
+}
+
+impl Answer for Asked<'_> {
+    fn answer<W: Write>(
+        &self,
+        alloc: Global,
+        text: &str,
+        output: &mut W,
+    ) -> Result<Status, Failure> {
+        match write_selected(alloc, self.query, text, self.form, output) {
+            Ok(()) => Ok(Status::Done),
+            Err(error) => Err(path_failure(alloc, error)),
         }
     }
 }
 
-/// From standard input to standard output, which is flushed once, after success.
-fn print_selected(rt: &(impl Env + Input + Print + AllocGlobal)) -> Result<(), Failure> {
-    let alloc = rt.alloc();
-    let words = arguments(rt)?;
-    let Some(Request { form, query }) = asked(words.as_slice()) else {
-        return Err(Failure::Arguments);
-    };
-    let text = io::read_to_string(alloc, rt.reader()).map_err(input_error)?;
-    let Ok(mut output) = BufWriter::new(alloc, io::writer(rt)) else {
-        return Err(Failure::OutOfMemory);
-    };
-    let answer = write_selected(alloc, query, text.as_str(), form, &mut output);
-    let answer = answer.and_then(|()| output.flush().map_err(writing_error));
-    // Dropped, the gathered bytes would be written, also after a write that failed.
-    let (_output, _gathered) = output.into_parts();
-    answer.map_err(Failure::Path)
+fn main(rt: HostRuntime) -> ExitCode {
+    let (Ok(status) | Err(status)) = run(&rt);
+    ExitCode::from(status.code())
 }
 
-/// The arguments after the program's name.
-fn arguments(rt: &(impl Env + AllocGlobal)) -> Result<Vec<String>, Failure> {
-    match env::args(rt) {
-        Ok(words) => Ok(words.skip(1).collect::<Vec<String>>(rt.alloc())?),
-        Err(error) if error.kind() == ErrorKind::OutOfMemory => Err(Failure::OutOfMemory),
-        Err(_) => Err(Failure::Arguments),
-    }
+fn run(rt: &HostRuntime) -> Result<Status, Status> {
+    let words = argument_words(rt, PROGRAM)?;
+    let arguments = arguments_of(rt, PROGRAM, words.as_slice())?;
+    let Some(Request { form, query, files }) = requested(&arguments) else {
+        return Err(misused(rt, PROGRAM, Misuse::Missing("QUERY")));
+    };
+    Ok(answer_files(rt, PROGRAM, files, &Asked { form, query }))
 }

@@ -1,30 +1,36 @@
 //! What the arguments ask for.
-ghost use Rattle.std.specs.Prelude.{◌≡◌, option_map, map, string_bytes};
+ghost use Rattle.std.specs.Prelude.{◌≡◌, option_map, map};
+ghost use Rattle.tinyjson_cli.specs.Arguments.{given_of};
 ghost use Rattle.json_path.specs.Options.{asks};
 
 use crate::lines::Form;
+use tinyjson_cli::{Arguments, Known};
 
-/// A query, and what is written of each node that it selects.
-#[derive(Clone, Copy)]
-pub struct Request<'a> {
+/// `-p` and `--paths`.
+pub const PATHS: Known<'static> = Known {
+    letter: b'p',
+    name: "paths",
+    takes_number: false,
+};
+
+/// A query, what is written of each node that it selects, and the files that are searched.
+#[derive(Drop)]
+pub struct Request<'w, 'a> {
     pub form: Form,
-    pub query: &'a str,
+    pub query: &'w str,
+    pub files: &'a [&'w str],
 }
 
-/// What is asked for by the arguments after the program's name: `QUERY` or `-p QUERY`.
-pub fn asked(words: &[String]) -> Option<Request<'_>>
-    ensures { option_map (λ r. (r.form, r.query.now)) result
-        ≡ asks (map string_bytes words.now) }
+/// What is asked for: `[-p] QUERY [FILE..]`.
+pub fn requested<'w, 'a>(arguments: &'a Arguments<'w>) -> Option<Request<'w, 'a>>
+    ensures { option_map (λ r. (r.form, (r.query.now, map (λ f. f.now) r.files.now))) result
+        ≡ asks (given_of arguments.now) }
 {
-    match words {
-        [query] => Some(Request {
-            form: Form::Value,
-            query: query.as_str(),
-        }),
-        [option, query] if option.as_str() == "-p" => Some(Request {
-            form: Form::Path,
-            query: query.as_str(),
-        }),
-        _ => None,
-    }
+    let form = if arguments.has(b'p') {
+        Form::Path
+    } else {
+        Form::Value
+    };
+    let (query, files) = arguments.first()?;
+    Some(Request { form, query, files })
 }

@@ -4,25 +4,25 @@ use Rattle.json_lines.proofs.lines.handle.Goals as goal
 pub returns-in_err-cause : goal.returns-in_err-cause
 returns-in_err-cause g c =
     let told = g.E.Write.contents c.args.errors.now in
-    at_line_error c.args.limit c.args.number c.args.line.now (g.W.Write.contents c.args.output.now)
+    at_line_error c.args.options c.args.number c.args.line.now (g.W.Write.contents c.args.output.now)
     (g.W.Write.contents c.write_line.new.output) told told
     c.from_residual.result c.in_err-cause.field-0.0 c.from_residual.ensures.0
-    (write_failed c.args.limit c.args.number c.args.line.now _ _ _ c.in_err-cause.field-0.0 c.in_err-cause.ensures)
+    (write_failed c.args.options c.args.number c.args.line.now _ _ _ c.in_err-cause.field-0.0 c.in_err-cause.ensures)
 
 pub returns-in_default : goal.returns-in_default
 returns-in_default g c =
-    line_written c.args.limit c.args.number c.args.line.now _ _ _ c.in_ok-cause.field-0 c.in_default.is c.in_ok-cause.ensures
+    line_written c.args.options c.args.number c.args.line.now _ _ _ c.in_ok-cause.field-0 c.in_default.is c.in_ok-cause.ensures
 
 pub returns-in_err-tell : goal.returns-in_err-tell
 returns-in_err-tell g c =
-    at_line_error c.args.limit c.args.number c.args.line.now (g.W.Write.contents c.args.output.now) (g.W.Write.contents c.flush.new.self)
+    at_line_error c.args.options c.args.number c.args.line.now (g.W.Write.contents c.args.output.now) (g.W.Write.contents c.flush.new.self)
     (g.E.Write.contents c.args.errors.now) (g.E.Write.contents c.tell.new.errors)
     c.from_residual-in_err-tell.result c.in_err-tell.field-0.0 c.from_residual-in_err-tell.ensures.0
-    (tell_failed c.args.limit c.args.number c.args.line.now _ _ _ _ _ c.in_ok-cause.field-0 c.in-Some.cause c.in-Some.is
+    (tell_failed c.args.options c.args.number c.args.line.now _ _ _ _ _ c.in_ok-cause.field-0 c.in-Some.cause c.in-Some.is
     c.in_ok-cause.ensures
     c.flush.ensures.bytes c.in_err-tell.field-0.0 c.in_err-tell.ensures)
 
 pub returns : goal.returns
 returns g c =
-    line_told c.args.limit c.args.number c.args.line.now _ _ _ _ _ c.in_ok-cause.field-0 c.in-Some.cause c.in-Some.is c.in_ok-cause.ensures
+    line_told c.args.options c.args.number c.args.line.now _ _ _ _ _ c.in_ok-cause.field-0 c.in-Some.cause c.in-Some.is c.in_ok-cause.ensures
     c.flush.ensures.bytes c.in_ok-tell.ensures
