@@ -144,7 +144,12 @@ def ours(work):
 
 
 def values(work):
-    """A text read into a value that is written again and freed: `json_part`, asked for the whole."""
+    """A text read into a value that is written again and freed: `json_path`, asked for the whole."""
+    return {"text": [built("json_path", work, "null", "$"), "$"]}
+
+
+def documents(work):
+    """A text read into a document that is written again and freed: `json_part`, asked for the whole."""
     return {"text": [built("json_part", work, "null", ""), ""]}
 
 

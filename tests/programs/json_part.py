@@ -1,6 +1,6 @@
 """Rows of `json_part`: the part of a text at a pointer (RFC 6901).
 
-With the pointer to all of it, it reads a value and writes all of it: so the texts of `jsonnorm` and of `json_lines` are read by it too.
+With the pointer to all of it, it reads a document and writes all of it: so the texts of `jsonnorm` and of `json_lines` are read by it too.
 """
 
 import json
@@ -13,7 +13,7 @@ from pages import Page, misused
 from running import printed, program, reported, run_of
 from values import CONTROLS, DEEP, LONG, NESTED, NOT_UTF8, QUOTED, normal
 
-VALUE_READER = whole.Reader("json_part", [""], 3)
+DOCUMENT_READER = whole.Reader("json_part", [""], 3)
 FAULTS = Faults("json_part", is_stopping=True)
 
 
@@ -109,7 +109,7 @@ def check_groups(checks):
     for name, rows in whole.groups():
         accepted = [row for row in checks.some(list(rows)) if len(row) == 2]
         text, compact = whole.as_items(accepted) if accepted else (b"[]", b"[]")
-        VALUE_READER.check(checks, f"{name}, as the items of a value", text, compact)
+        DOCUMENT_READER.check(checks, f"{name}, as the items of a value", text, compact)
 
 
 def check_padded(checks):
@@ -142,12 +142,11 @@ PARTS = (
     check_padded,
     check_deep,
     check_faults,
-    *shared(VALUE_READER.check_inputs),
-    VALUE_READER.check_padded,
-    VALUE_READER.check_sizes,
-    VALUE_READER.check_wide,
-    VALUE_READER.check_large,
-    VALUE_READER.check_nested,
-    VALUE_READER.check_deep_members,
-    VALUE_READER.check_deep_memory,
+    *shared(DOCUMENT_READER.check_inputs),
+    DOCUMENT_READER.check_padded,
+    DOCUMENT_READER.check_sizes,
+    DOCUMENT_READER.check_wide,
+    DOCUMENT_READER.check_large,
+    DOCUMENT_READER.check_nested,
+    DOCUMENT_READER.check_deep_members,
 )

@@ -1,8 +1,12 @@
-"""Rows of `json_path`: the values that a query selects, or their normalized paths (RFC 9535)."""
+"""Rows of `json_path`: the values that a query selects, or their normalized paths (RFC 9535).
+
+With the query of all of it, it reads a value and writes all of it: so the texts of `jsonnorm` are read by it too.
+"""
 
 import itertools
 import json
 
+import whole
 from checks import shared
 from faults import BROKEN, FOLDER, FULL, NO_TEXT, Faults
 from padded_queries import padded_refusal_of_query, padded_selection
@@ -11,6 +15,7 @@ from pages import Page, misused
 from running import printed, program, reported, run_of, run_small
 from values import CONTROLS, DEEP, LONG, NESTED, NOT_UTF8, QUOTED, normal
 
+VALUE_READER = whole.Reader("json_path", ["$"], 3)
 FAULTS = Faults("json_path", is_stopping=True)
 
 # The document of RFC 9535, 1.5.

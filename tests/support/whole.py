@@ -1,4 +1,4 @@
-"""What programs answer that read one text: `jsonnorm`, and `json_part` with the pointer to all of it, which builds the value.
+"""What programs answer that read one text: `jsonnorm`, `json_part` with the pointer to all of it, and `json_path` with `$`, which builds the value.
 
 Most texts are those of texts.py. Many texts of one line each are in `groups`, for `json_lines`.
 """

@@ -2,7 +2,7 @@
 ghost use Rattle.std.specs.IoError.{error_kind};
 ghost use Rattle.std.specs.Prelude.{◌≡◌, Some};
 ghost use Rattle.std.specs.Str.{chars};
-ghost use Rattle.tinyjson.specs.View.{view};
+ghost use Rattle.tinyjson_document.specs.Document.{document_tree};
 ghost use Rattle.tinyjson_pointer.specs.Tokens.{tokens_of};
 ghost use Rattle.json_part.specs.Part.{part_error_message};
 ghost use Rattle.json_part.specs.Part.{IsFailedWrite, WritesFound, WritesPart};
@@ -10,8 +10,8 @@ ghost use Rattle.json_part.specs.Part.{IsFailedWrite, WritesFound, WritesPart};
 use std::alloc::Global;
 use std::fmt;
 use std::io::{self, ErrorKind, Write};
-use tinyjson::{JsonParseError, JsonValue};
-use tinyjson_lines::write_line;
+use tinyjson::JsonParseError;
+use tinyjson_document::Document;
 use tinyjson_pointer::{Pointer, PointerError};
 
 /// Why no part is written.
@@ -66,12 +66,8 @@ pub fn write_part<W: Write>(
         Err(PointerError::OutOfMemory) => return Err(PartError::OutOfMemory),
         Err(error) => return Err(PartError::BadPointer(error)),
     };
-    match JsonValue::from_str(alloc, text) {
-        Ok(value) => {
-            let answer = write_found(alloc, &pointer, &value, output);
-            value.dismantle();
-            answer
-        }
+    match Document::read(alloc, text) {
+        Ok(document) => write_found(alloc, &pointer, &document, output),
         Err(error) => {
             if error.is_out_of_memory() {
                 return Err(PartError::OutOfMemory);
@@ -84,16 +80,16 @@ pub fn write_part<W: Write>(
 fn write_found<W: Write>(
     alloc: Global,
     pointer: &Pointer,
-    value: &JsonValue,
+    document: &Document,
     output: &mut W,
 ) -> Result<(), PartError>
-    ensures { WritesFound (tokens_of pointer.now) (view value.now)
+    ensures { WritesFound (tokens_of pointer.now) (document_tree document.now)
         (W.contents output.old) (W.contents output.new) result }
 {
-    let Some(part) = pointer.find(value) else {
+    let Some(part) = pointer.find_part(document.root()) else {
         return Err(PartError::NoPart);
     };
-    match write_line(alloc, part, output) {
+    match part.write_line_to(alloc, output) {
         Ok(()) => Ok(()),
         Err(error) => Err(writing_error(error)),
     }
