@@ -621,4 +621,19 @@ def check_memory(checks):
 PAGE = Page("json_path", ["$"])
 
 
-PARTS = (PAGE.check, *shared(check_rows), check_padded, check_deep, check_faults, *shared(check_memory))
+PARTS = (
+    PAGE.check,
+    *shared(check_rows),
+    check_padded,
+    check_deep,
+    check_faults,
+    *shared(check_memory),
+    *shared(VALUE_READER.check_inputs),
+    VALUE_READER.check_padded,
+    VALUE_READER.check_sizes,
+    VALUE_READER.check_wide,
+    VALUE_READER.check_large,
+    VALUE_READER.check_nested,
+    VALUE_READER.check_deep_members,
+    VALUE_READER.check_deep_memory,
+)
