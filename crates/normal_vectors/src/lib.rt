@@ -1,6 +1,8 @@
-//! Tests of `tinyjson_normal`: the examples of its documentation, and what no clause says.
+//! Tests of `tinyjson_normal` and `tinyjson_document`: the examples of the documentation, and what no clause says.
 #![tactic(auto)]
 
+#[cfg(test)]
+mod documents;
 #[cfg(test)]
 mod examples;
 #[cfg(test)]
