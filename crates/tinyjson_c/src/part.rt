@@ -1,10 +1,10 @@
 //! The part of a text's value that a pointer names.
 ghost use Rattle.std.specs.Prelude.{◌≡◌, MatchResult, Some, encode_utf8_all};
 ghost use Rattle.std.specs.Str.{IsUtf8, chars};
-ghost use Rattle.tinyjson.specs.View.{view};
 ghost use Rattle.tinyjson.specs.Words.{Tree, compact};
 ghost use Rattle.tinyjson_c.specs.Part.{IsNoPart, IsUnread, IsWritten, Leads};
 ghost use Rattle.tinyjson_c.specs.Part.{no_part_place, no_part_status};
+ghost use Rattle.tinyjson_document.specs.Document.{document_tree};
 ghost use Rattle.tinyjson_pointer.specs.Text.{pointer_text};
 ghost use Rattle.tinyjson_pointer.specs.Tokens.{tokens_of};
 ghost use Rattle.tinyjson_pointer.specs.Walk.{part_at};
@@ -14,7 +14,7 @@ use crate::status::{BAD_POINTER, NOT_FOUND, NOT_UTF8};
 use crate::stop::{Stop, text_of};
 use std::alloc::Global;
 use std::str;
-use tinyjson::JsonValue;
+use tinyjson_document::Document;
 use tinyjson_pointer::{Pointer, PointerError};
 
 /// Why there is no part.
@@ -73,12 +73,8 @@ pub(crate) fn part(
         Ok(pointer) => pointer,
         Err(none) => return Err(none),
     };
-    match JsonValue::from_str_with_depth_limit(alloc, text, depth) {
-        Ok(value) => {
-            let answer = written(alloc, &pointer, &value);
-            value.dismantle();
-            answer
-        }
+    match Document::read_with_depth_limit(alloc, text, depth) {
+        Ok(document) => written(alloc, &pointer, &document),
         Err(error) => Err(NoPart::Text(Stop::of(error))),
     }
 }
@@ -100,11 +96,11 @@ fn read_pointer(alloc: Global, bytes: &[u8]) -> Result<Pointer, NoPart>
     }
 }
 
-/// The normal text of the part of a value.
-fn written(alloc: Global, pointer: &Pointer, value: &JsonValue) -> Result<Vec<u8>, NoPart>
-    ensures { IsWritten (part_at (view value.now) (tokens_of pointer.now)) result }
+/// The normal text of the part of a document.
+fn written(alloc: Global, pointer: &Pointer, document: &Document) -> Result<Vec<u8>, NoPart>
+    ensures { IsWritten (part_at (document_tree document.now) (tokens_of pointer.now)) result }
 {
-    let Some(part) = pointer.find(value) else {
+    let Some(part) = pointer.find_part(document.root()) else {
         return Err(NoPart::NotFound);
     };
     let mut written = Vec::new(alloc);
