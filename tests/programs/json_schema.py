@@ -4,7 +4,8 @@ import json
 import os
 
 from checks import shared
-from faults import BROKEN, FOLDER, FULL, INVALID, Faults
+from faults import BROKEN, FOLDER, FULL, NO_TEXT, Faults
+from pages import Page, misused
 from places import TOP
 from padded_schemas import padded_lines, padded_refused, padded_values
 from padding import padded_rows
@@ -721,19 +722,19 @@ BY_LINES = [
     ('{"type":"integer"}', b'"a"\n', [(1, "", "/type")], [], 1),
     # A carriage return is white space of the text, and an empty line is no text.
     ('{"type":"integer"}', b'1\r\n"a"\r\n\r2\r', [(2, "", "/type")], [], 1),
-    ('{"type":"integer"}', b'1\n\n"a"\n \n', [(3, "", "/type")], ["line 2, col 0: Unexpected EOF", "line 4, col 1: Unexpected EOF"], 3),
-    ("true", b"\n", [], ["line 1, col 0: Unexpected EOF"], 3),
+    ('{"type":"integer"}', b'1\n\n"a"\n \n', [(3, "", "/type")], ["line 2, col 0: Unexpected EOF", "line 4, col 1: Unexpected EOF"], 1),
+    ("true", b"\n", [], ["line 1, col 0: Unexpected EOF"], 1),
     # After a line that can't be checked it goes on.
-    ('{"type":"integer"}', b'[1,]\n"a"\n{\n3\n', [(2, "", "/type")], ["line 1, col 3: Invalid character: ]", "line 3, col 1: Unexpected EOF"], 3),
-    ("true", b'1\n"\xff"\n[]\n\xc3', [], ["line 2: not UTF-8", "line 4: not UTF-8"], 3),
-    ("true", b"[" * 101 + b"\n" + b"[" * 100 + b"]" * 100, [], ["line 1, col 100: Nesting is too deep at '['"], 3),
-    ('{"items":{"allOf":[{"$ref":"#"}]}}', b"[" * 68 + b"]" * 68 + b"\n" + b"[" * 67 + b"]" * 67, [], ["line 1: too many schemas are applied in one another"], 3),
+    ('{"type":"integer"}', b'[1,]\n"a"\n{\n3\n', [(2, "", "/type")], ["line 1, col 3: Invalid character: ]", "line 3, col 1: Unexpected EOF"], 1),
+    ("true", b'1\n"\xff"\n[]\n\xc3', [], ["line 2: not UTF-8", "line 4: not UTF-8"], 1),
+    ("true", b"[" * 101 + b"\n" + b"[" * 100 + b"]" * 100, [], ["line 1, col 100: Nesting is too deep at '['"], 1),
+    ('{"items":{"allOf":[{"$ref":"#"}]}}', b"[" * 68 + b"]" * 68 + b"\n" + b"[" * 67 + b"]" * 67, [], ["line 1: too many schemas are applied in one another"], 1),
     # Nothing in a value ends a line.
     ('{"additionalProperties":false}', b'{"x\\nvalid":1}\n{"\\u001b":1}', [(1, "/x\nvalid", "/additionalProperties"), (2, "/\x1b", "/additionalProperties")], [], 1),
     ('{"items":{"properties":{"a":{"minimum":0}}}}', b'[{"a":0}]\n[{},{"a":-1}]', [(2, "/1/a", "/items/properties/a/minimum")], [], 1),
     # More lines than 16 bits count.
     ('{"minimum":0}', b"0\n" * 70_000 + b"-1\n" + b"1", [(70_001, "", "/minimum")], [], 1),
-    ('{"minimum":0}', b"-1\n" * 70_000 + b"x\n", [(i + 1, "", "/minimum") for i in range(70_000)], ["line 70001, col 0: Invalid character: x"], 3),
+    ('{"minimum":0}', b"-1\n" * 70_000 + b"x\n", [(i + 1, "", "/minimum") for i in range(70_000)], ["line 70001, col 0: Invalid character: x"], 1),
 ]
 
 # What is printed of a value that is not valid, and told of a schema that can't be applied.
@@ -887,7 +888,7 @@ LONG_SCHEMAS = [
     ('{"required":[%s]}' % ",".join(f'"{i}"' for i in range(20_000)), "[]", judged(None)),
     ('{"required":[%s,"0"]}' % ",".join(f'"{i}"' for i in range(20_000)), "[]", reported(2, "json_schema", NOT_APPLIED % "/required")),
     ("[1,]", "1", reported(2, "json_schema", "the schema: Parse error at line:1, col:3: Invalid character: ]")),
-    (NOT_UTF8, "1", reported(2, "json_schema", "the schema: stream did not contain valid UTF-8")),
+    (NOT_UTF8, "1", reported(2, "json_schema", "schema:1:0: not UTF-8")),
 ]
 
 # How many rows are not padded, and why.
@@ -897,7 +898,7 @@ UNPADDED_REFUSED = {"no keyword": 4}
 TOO_DEEP = "Parse error at line:1, col:%d: Nesting is too deep at '%s'"
 DEEP_FAILURES = [
     ("{}", [], NESTED, reported(3, "json_schema", TOO_DEEP % (100, "["))),
-    ("{}", ["-l"], NESTED + b"\n1\n" + b'{"a":' * 100_000, (3, b"", told(["line 1, col 100: Nesting is too deep at '['", "line 3, col 500: Nesting is too deep at '{'"]))),
+    ("{}", ["-l"], NESTED + b"\n1\n" + b'{"a":' * 100_000, (1, b"", told(["line 1, col 100: Nesting is too deep at '['", "line 3, col 500: Nesting is too deep at '{'"]))),
     ("[" * 100_000 + "]" * 100_000, [], b"1", reported(2, "json_schema", "the schema: " + TOO_DEEP % (100, "["))),
     ('{"items":' * 100_000 + "{}" + "}" * 100_000, [], b"1", reported(2, "json_schema", "the schema: " + TOO_DEEP % (900, "{"))),
     ('{"$ref":"#%s"}' % ("/items" * 100_000), [], b"1", reported(2, "json_schema", NOT_APPLIED % "/$ref")),
@@ -908,16 +909,14 @@ DEEP_FAILURES = [
 # By lines: a value that is not valid, a line that can't be checked, and one that is valid, so many times in turn.
 TURNS = 300
 
-USAGE = reported(2, "json_schema", "usage: json_schema [-l] SCHEMA-FILE")
-
 # The arguments, the input, and the answer.
 ROWS = [
-    *(
-        (words, b"1", USAGE)
-        for words in ([], [SCHEMA, SCHEMA], [NOT_UTF8], ["-l"], [SCHEMA, "-l"], ["-L", SCHEMA], ["-l", SCHEMA, SCHEMA])
-    ),
-    (["/none"], b"1", reported(2, "json_schema", "the schema: No such file or directory (os error 2)")),
-    (["/"], b"1", reported(2, "json_schema", "the schema: Is a directory (os error 21)")),
+    *((words, b"1", misused("json_schema", "SCHEMA is missing")) for words in ([], ["-l"])),
+    ([NOT_UTF8], b"1", misused("json_schema", "an argument is not UTF-8")),
+    (["-L", SCHEMA], b"1", misused("json_schema", 'unknown option "-L"')),
+    *((words, b"1\n", (1, unit_of("", "/type", line=1), b"")) for words in ([SCHEMA, "-l"], ["--lines", SCHEMA, "-"])),
+    (["/none"], b"1", reported(2, "json_schema", "/none: No such file or directory (os error 2)")),
+    (["/"], b"1", reported(2, "json_schema", "/: Is a directory (os error 21)")),
     ([SCHEMA], b"[1,]", reported(3, "json_schema", "Parse error at line:1, col:3: Invalid character: ]")),
     # Control characters are shown by their code points.
     ([SCHEMA], b"[\x1b]", reported(3, "json_schema", "Parse error at line:1, col:1: Invalid character: U+001B")),
@@ -925,8 +924,8 @@ ROWS = [
 
 # The arguments, an input, and the statuses and words where the input is not UTF-8, can't be read, and where the output can't be written.
 STREAMS = [
-    ([SCHEMA], b"1", (3, INVALID), (4, FOLDER), (4, FULL)),
-    (["-l", SCHEMA], b"1", (3, "line 1: not UTF-8"), (4, FOLDER), (4, FULL)),
+    ([SCHEMA], b"1", (3, NO_TEXT), (4, FOLDER), (4, FULL)),
+    (["-l", SCHEMA], b"1", (1, "line 1: not UTF-8"), (4, FOLDER), (4, FULL)),
 ]
 
 # The arguments, an input, what is printed of it, and the statuses and words where a read and where a write fails.
@@ -971,7 +970,7 @@ def checked(folder, schema, words, given):
     path = os.path.join(folder, "schema")
     with open(path, "wb") as file:
         file.write(schema.encode() if isinstance(schema, str) else schema)
-    return run_small(program("json_schema"), [*words, path], given)
+    return run_small(program("json_schema"), [*words, "schema"], given, cwd=folder)
 
 
 def check_rows(checks):
@@ -989,6 +988,26 @@ def check_lines(checks):
         output = b"".join(unit_of(instance, keyword, line=line) for line, instance, keyword in reports)
         name, expected = f"json_schema: -l {schema[:60]} {given[:60]}", (status, output, told(lines))
         checks.row(name, expected, checked, checks.folder, schema, ["-l"], given, at=row)
+
+
+def check_files(checks):
+    """Each file has its own lines, and what is told of a line or a text begins with the name of its file."""
+    schema, too_many = '{"items":{"allOf":[{"$ref":"#"}]},"minimum":0}', b"too many schemas are applied in one another"
+    deep = b"[" * 68 + b"]" * 68
+    for name, text in (("schema", schema.encode()), ("a", b"1\n-1\n"), ("b", b"[1,]\n-2\n\xff\n" + deep), ("deep", deep)):
+        with open(os.path.join(checks.folder, name), "wb") as file:
+            file.write(text)
+    run = lambda words, given=b"": run_small(program("json_schema"), words, given, cwd=checks.folder)
+    below = lambda line: unit_of("", "/minimum", line=line)
+    told_of_b = b"b:1:3: Invalid character: ]\nb:3: not UTF-8\nb:4: " + too_many + b"\n"
+    answer = (1, below(2) + below(2) + below(1), told_of_b)
+    checks.row("json_schema: -l, files", answer, run, ["-l", "schema", "a", "b", "-"], b"-1")
+    answer = (4, below(2) + below(2), b"none: No such file or directory (os error 2)\n" + told_of_b)
+    checks.row("json_schema: -l, no file", answer, run, ["schema", "a", "none", "b", "--lines"])
+    answer = (3, unit_of("", "/minimum"), b"deep: " + too_many + b"\n")
+    checks.row("json_schema: a file, too many schemas", answer, run, ["schema", "deep", "-"], b"-1")
+    answer = reported(3, "json_schema", too_many.decode())
+    checks.row("json_schema: too many schemas", answer, run, ["schema"], deep)
 
 
 def check_padded(checks):
@@ -1039,7 +1058,7 @@ def check_order(checks):
     """What is printed and what is told of lines in the order of these."""
     each = (unit_of("", "/type", line=i) + told([f"line {i + 1}, col 3: Invalid character: ]"]) for i in range(1, 3 * TURNS, 3))
     given = b'1\n[1,]\n{"id":1}\n' * TURNS
-    checks.row("json_schema: -l in one file", (3, b"".join(each)), in_one_file, checks.folder, ["-l", SCHEMA], given)
+    checks.row("json_schema: -l in one file", (1, b"".join(each)), in_one_file, checks.folder, ["-l", SCHEMA], given)
 
 
 def check_faults(checks):
@@ -1052,4 +1071,6 @@ def check_memory(checks):
     FAULTS.refusing(checks, REFUSED_MEMORY)
 
 
-PARTS = (*shared(check_rows), check_lines, check_padded, check_padded_lines, check_deep, check_order, check_faults, *shared(check_memory))
+PAGE, LINES_PAGE = Page("json_schema", [SCHEMA], b"[1]"), Page("json_schema", ["-l", SCHEMA], b"[1]", is_lines=True)
+
+PARTS = (PAGE.check, LINES_PAGE.check_pipes, *shared(check_rows), check_lines, check_files, check_padded, check_padded_lines, check_deep, check_order, check_faults, *shared(check_memory))

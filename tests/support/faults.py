@@ -241,7 +241,7 @@ class Faults:
     def is_well(self, undisturbed, ended):
         """Whether a run answers what it answers undisturbed, or its status and line of out of memory since a request was refused.
 
-        What it tells of single lines, which are status 3 in `json_schema -l`, may come before.
+        What it tells of single lines, as `json_schema -l` does, may come before.
         """
         if self.is_freeing and ended.reports[KEPT] > 0:
             return False

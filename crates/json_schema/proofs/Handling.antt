@@ -6,47 +6,45 @@ use Rattle.std.specs.Io.KnownBytes.{Appends, Keeps}
 use Rattle.std.specs.Result.{IsErr}
 use Rattle.std.specs.declared.io.Error.{Error}
 use Rattle.tinyjson.proofs.Callers.{Appends_keeps, Appends_written, begins, stop, written_same}
-use Rattle.tinyjson.specs.Tree.{Tree}
 use Rattle.tinyjson.specs.Written.{Written, WrittenPart}
 use Rattle.tinyjson_lines.specs.Line.{line_of}
 use Rattle.tinyjson_schema.specs.declared.violation.Violation.{Violation}
 use Rattle.json_schema.specs.Report.{report_tree}
-use Rattle.json_schema.specs.Run.{Handles}
-use Rattle.json_schema.specs.Told.{told_line}
-use Rattle.json_schema.specs.Verdicts.{LineGives}
+use Rattle.json_schema.specs.Run.{Gives, Handles, telling_of}
+use Rattle.json_schema.specs.declared.lines.Check.{Check}
 use Rattle.json_schema.specs.declared.lines.Outcome.{Outcome}
 use Rattle.json_schema.specs.declared.lines.Outcome.TheVariants.{SomeRefused}
 use Rattle.json_schema.specs.declared.verdict.Cause.{Cause}
 use Rattle.json_schema.specs.declared.verdict.Verdict.TheVariants.{Invalid, Refused}
 
-module _ (s : Tree) (n : ℕ) (line : List ℕ) (held told : Option (List ℕ)) where
+module _ (check : Check) (n : ℕ) (line : List ℕ) (held told : Option (List ℕ)) where
   -- the exit of a `?`
   pub at_error : (holds tells : Option (List ℕ)) (r : Result Outcome Error) → IsErr r
-      → ((e : Error) → Handles s n line held holds told tells (Err e)) → Handles s n line held holds told tells r
+      → ((e : Error) → Handles check n line held holds told tells (Err e)) → Handles check n line held holds told tells r
   at_error holds tells (Ok x) i h = absurd (false≢true i)
   at_error holds tells (Err x) i h = h x
 
   pub unhandled : (holds : Option (List ℕ)) (r : Result Outcome Error) → IsErr r → Keeps held holds
-      → Handles s n line held holds told told r
+      → Handles check n line held holds told told r
   unhandled holds r i k = at_error holds told r i (λ e. inl (k, Keeps-refl told))
 
-  module _ (v : Violation) (h : LineGives s line (Invalid v)) (holds : Option (List ℕ)) where
+  module _ (v : Violation) (h : Gives check line (Invalid v)) (holds : Option (List ℕ)) where
     pub report_failed : (r : Result Outcome Error) → IsErr r → WrittenPart held holds (line_of (report_tree (Some n) v))
-        → Handles s n line held holds told told r
+        → Handles check n line held holds told told r
     report_failed r i w = at_error holds told r i (λ e. inr (Invalid v, h, w, stop begins))
 
   -- the output was flushed before
-  module _ (c : Cause) (h : LineGives s line (Refused c)) (holds tells : Option (List ℕ)) (k : Keeps held holds) where
-    pub line_told : Written told tells (told_line record { number = n; cause = c }) []
-        → Handles s n line held holds told tells (Ok SomeRefused)
+  module _ (c : Cause) (h : Gives check line (Refused c)) (holds tells : Option (List ℕ)) (k : Keeps held holds) where
+    pub line_told : Written told tells (telling_of check n (Refused c)) []
+        → Handles check n line held holds told tells (Ok SomeRefused)
     line_told t = (
       Refused c,
       h,
       refl,
       Appends_keeps held held holds [] (Appends-nil held) k,
-      Appends_written told tells (told_line record { number = n; cause = c }) t,
+      Appends_written told tells (telling_of check n (Refused c)) t,
     )
 
-    pub telling_failed : (r : Result Outcome Error) → IsErr r → WrittenPart told tells (told_line record { number = n; cause = c })
-        → Handles s n line held holds told tells r
+    pub telling_failed : (r : Result Outcome Error) → IsErr r → WrittenPart told tells (telling_of check n (Refused c))
+        → Handles check n line held holds told tells r
     telling_failed r i t = at_error holds tells r i (λ e. inr (Refused c, h, stop (written_same begins k), t))

@@ -1,9 +1,7 @@
 -- What the arguments ask for.
-use Rattle.std.specs.Prelude.{ℕ, Bool, true, false, List, [], ◌∷◌, Option, Some, None, cond, codes}
-use Rattle.std.specs.Str.{bytes_eq}
+use Rattle.std.specs.Prelude.{ℕ, Bool, List, Option, option_map}
+use Rattle.tinyjson_cli.specs.Arguments.{Given, first_operand, is_given}
 
--- whether by lines, and the name of the schema's file: `SCHEMA-FILE` or `-l SCHEMA-FILE`
-abbrev pub asks : List (List ℕ) → Option (Bool × List ℕ)
-asks (file ∷ []) = cond (bytes_eq file (codes "-l")) None (Some (false, file))
-asks (word ∷ file ∷ []) = cond (bytes_eq word (codes "-l")) (Some (true, file)) None
-asks _ = None
+-- whether by lines, with `-l`; the name of the schema's file; and the files
+abbrev pub asks : Given → Option (Bool × (List ℕ × List (List ℕ)))
+asks a = option_map (λ o. (is_given 108 a, o)) (first_operand a.operands)

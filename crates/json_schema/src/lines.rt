@@ -1,15 +1,24 @@
 //! The check of each line of an input.
 ghost use Rattle.std.specs.Prelude.{◌≡◌};
-ghost use Rattle.tinyjson_schema.specs.Reading.{tree_of};
 ghost use Rattle.json_schema.specs.Run.{Runs, Handles, both, status};
 
-use crate::refusal::{Refusal, tell};
+use crate::refusal::{Unchecked, tell_line};
 use crate::report::write_report;
 use crate::verdict::{Verdict, check_line};
 use std::alloc::Global;
 use std::io::{self, BufRead, ErrorKind, Write};
+use tinyjson_cli::Status;
 use tinyjson_lines::read_line;
 use tinyjson_schema::Schema;
+
+/// What lines are checked against, and where they are.
+#[derive(Clone, Copy)]
+pub struct Check<'a, 's> {
+    /// The schema.
+    pub schema: &'a Schema<'s>,
+    /// The name of the file with the lines, if it has one: it is told of those that can't be checked.
+    pub file: Option<&'a str>,
+}
 
 /// What became of the texts that were checked.
 #[derive(Clone, Copy)]
@@ -23,14 +32,13 @@ pub enum Outcome {
 }
 
 impl Outcome {
-    /// The status with which the program ends.
-    pub fn status(self) -> u8
+    /// The status with which the program ends: 1 where one is not valid, or has no value.
+    pub fn status(self) -> Status
         ensures { result ≡ status self }
     {
         match self {
-            Outcome::AllValid => 0,
-            Outcome::SomeInvalid => 1,
-            Outcome::SomeRefused => 3,
+            Outcome::AllValid => Status::Done,
+            Outcome::SomeInvalid | Outcome::SomeRefused => Status::No,
         }
     }
 
@@ -56,16 +64,16 @@ impl Outcome {
 ///
 /// ```
 /// let mut input = b"1\n\"a\"\n{".as_slice();
-/// check_lines(alloc, &schema, &mut input, &mut output, &mut errors)?; // of {"type":"integer"}: writes of line 2, tells of line 3
+/// check_lines(alloc, check, &mut input, &mut output, &mut errors)?; // of {"type":"integer"}: writes of line 2, tells of line 3
 /// ```
 pub fn check_lines<R: BufRead, W: Write, E: Write>(
     alloc: Global,
-    schema: &Schema<'_>,
+    check: Check<'_, '_>,
     input: &mut R,
     output: &mut W,
     errors: &mut E,
 ) -> io::Result<Outcome>
-    ensures { Runs (tree_of schema.now) (R.remaining input.old) (R.remaining input.new)
+    ensures { Runs check.entry (R.remaining input.old) (R.remaining input.new)
         (W.contents output.old) (W.contents output.new)
         (E.contents errors.old) (E.contents errors.new) result }
 {
@@ -76,7 +84,7 @@ pub fn check_lines<R: BufRead, W: Write, E: Write>(
             output.flush()?;
             return Ok(outcome);
         }
-        let of_line = handle(alloc, schema, number, line.as_slice(), output, errors)?;
+        let of_line = handle(alloc, check, number, line.as_slice(), output, errors)?;
         outcome = outcome.and(of_line);
     }
     Err(io::Error::new(ErrorKind::InvalidData, "too many lines"))
@@ -85,17 +93,17 @@ pub fn check_lines<R: BufRead, W: Write, E: Write>(
 /// Checks one line, and writes or tells of it, after what was written before it.
 fn handle<W: Write, E: Write>(
     alloc: Global,
-    schema: &Schema<'_>,
+    check: Check<'_, '_>,
     number: u64,
     line: &[u8],
     output: &mut W,
     errors: &mut E,
 ) -> io::Result<Outcome>
-    ensures { Handles (tree_of schema.now) number line.now
+    ensures { Handles check.entry number line.now
         (W.contents output.old) (W.contents output.new)
         (E.contents errors.old) (E.contents errors.new) result }
 {
-    match check_line(alloc, schema, line)? {
+    match check_line(alloc, check.schema, line)? {
         Verdict::Valid => Ok(Outcome::AllValid),
         Verdict::Invalid(violation) => {
             write_report(alloc, Some(number), &violation, output)?;
@@ -103,7 +111,12 @@ fn handle<W: Write, E: Write>(
         }
         Verdict::Refused(cause) => {
             output.flush()?;
-            tell(alloc, errors, Refusal { number, cause })?;
+            let line = Unchecked {
+                file: check.file,
+                number,
+                cause,
+            };
+            tell_line(alloc, errors, line)?;
             Ok(Outcome::SomeRefused)
         }
     }

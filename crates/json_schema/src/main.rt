@@ -1,13 +1,4 @@
-//! Checks a JSON text against a JSON Schema (2020-12).
-//!
-//! The argument names the file of the schema, and the text comes from standard input. The status is 0 for a valid
-//! value, and nothing is printed; 1 for another, of which one line of JSON is printed: the place in the schema
-//! and the place in the value that does not meet it; 2 for other arguments, or a schema that is no JSON text, is
-//! deeper than the limit, can't be read or can't be applied; 3 for no JSON text, or one deeper than the limit;
-//! and 4 where memory, a read or a write failed.
-//!
-//! After `-l` each line of standard input is a text, and the reports have its number. Names in the schema that are no
-//! keywords are told on standard error, and lines that can't be checked.
+//! Checks JSON texts against a JSON Schema (2020-12). Its help page has the arguments and the statuses.
 #![tactic(auto)]
 
 mod failure;
@@ -15,126 +6,182 @@ mod lines;
 mod options;
 mod refusal;
 mod report;
-mod shown;
 mod unknown;
 mod verdict;
 
-use failure::{Failure, input_error, schema_file_error, schema_text_error};
-use lines::{Outcome, check_lines};
-use options::{Request, asked};
+use failure::{SchemaFailure, schema_failure, schema_text_failure, text_failure};
+use lines::{Check, check_lines};
+use options::{LINES, Request, requested};
 use report::write_report;
 use std::alloc::Global;
-use std::env::{self, Env};
-use std::fs::{self, Files};
-use std::io::{self, BufReader, BufWriter, ErrorKind, Write};
+use std::io::{self, BufRead, Write};
 use std::process::ExitCode;
 use tinyjson::JsonValue;
+use tinyjson_cli::{
+    Answer, AnswerLines, Failure, HELP, Misuse, Program, Status, VERSION, answer_files,
+    answer_lines, argument_words, arguments_of, misused, read_named, report, writing_error,
+};
 use tinyjson_schema::{Schema, SchemaError, unknown_words};
 use tinyjson_schema_bundle::bundled;
 use unknown::tell_words;
 use verdict::{DEPTH_LIMIT, Verdict, check_text};
 
+const PROGRAM: Program<'static> = Program {
+    name: "json_schema",
+    options: &[LINES, HELP, VERSION],
+    help: "\
+Usage: json_schema [-l] SCHEMA [FILE..]
+
+Checks JSON texts against a JSON Schema (2020-12). SCHEMA is the name of the
+schema's file. Of a value that is not valid one line of JSON is printed: the
+place in the schema, and the place in the value that does not meet it.
+
+The texts are those of the files, or standard input where none is named; '-' is
+standard input, too. Options may come anywhere; after '--' all are operands.
+Names in the schema that are no keywords are told.
+
+Options:
+  -l, --lines    check each line; what is printed and told has its number
+  -h, --help     print this page
+  -V, --version  print the version
+
+Exit status:
+  0  each value is valid
+  1  a value is not valid; with -l also: a line is no JSON text
+  2  the arguments are not understood, or SCHEMA can't be read or applied
+  3  an input is no JSON text, not UTF-8, or nested too deep
+  4  memory ran out, or a read or a write failed
+
+Examples:
+  $ echo '{\"items\": {\"type\": \"integer\"}}' > schema.json
+  $ echo '[1, 2.0]' | json_schema schema.json
+  $ printf '[1]\\n[\"a\"]\\n' | json_schema -l schema.json | grep -c '\"line\":2'
+  1
+",
+};
+
 fn main(rt: HostRuntime) -> ExitCode {
-    match answer(&rt) {
-        Ok(outcome) => ExitCode::from(outcome.status()),
-        Err(failure) => {
-            let _ = eprintln!(rt; "json_schema: {failure}");
-            ExitCode::from(failure.status())
-        }
+    let (Ok(status) | Err(status)) = run(&rt);
+    ExitCode::from(status.code())
+}
+
+fn run(rt: &HostRuntime) -> Result<Status, Status> {
+    let words = argument_words(rt, PROGRAM)?;
+    let arguments = arguments_of(rt, PROGRAM, words.as_slice())?;
+    let Some(request) = requested(&arguments) else {
+        return Err(misused(rt, PROGRAM, Misuse::Missing("SCHEMA")));
+    };
+    match check_inputs(rt, &request) {
+        Ok(status) => Ok(status),
+        Err(failure) => Err(report(rt, PROGRAM, None, &failure)),
     }
 }
 
-/// Reads the schema, and answers what was asked for.
-fn answer(rt: &HostRuntime) -> Result<Outcome, Failure> {
-    let alloc = rt.alloc();
-    let words = arguments(rt)?;
-    let Some(Request { by_lines, file }) = asked(words.as_slice()) else {
-        return Err(Failure::Arguments);
-    };
-    let text = file_text(rt, file)?;
-    let tree = JsonValue::from_str_with_depth_limit(alloc, text.as_str(), DEPTH_LIMIT).map_err(
-        schema_text_error,
-    )?;
-    let schema = bundled(&tree, alloc);
+/// Reads the schema, and checks what was asked for.
+fn check_inputs(rt: &HostRuntime, request: &Request<'_, '_>) -> Result<Status, Failure> {
+    let tree = schema_tree(rt, request.schema)?;
+    let schema = bundled(&tree, rt.alloc());
     tree.dismantle();
     let schema = schema?;
-    let outcome = answer_by(rt, &schema, by_lines);
+    let checked = check_by(rt, &schema, request);
     schema.dismantle();
-    outcome
+    checked
 }
 
-/// The text of a file.
-// Neither this is inlined nor the reading of standard input, the check of it or that of lines, so that a check has
-// the buffers of no other one below it on the stack.
+/// The value of the schema's file.
+// Neither this is inlined nor the check of texts or of lines, so that a check has the buffers of no other one below it
+// on the stack.
 #[inline(never)]
-fn file_text(rt: &HostRuntime, file: &str) -> Result<String, Failure> {
-    fs::read_to_string(rt, file).map_err(schema_file_error)
+fn schema_tree(rt: &HostRuntime, file: &str) -> Result<JsonValue, Failure> {
+    let alloc = rt.alloc();
+    let text = read_named(rt, file)?;
+    match JsonValue::from_str_with_depth_limit(alloc, text.as_str(), DEPTH_LIMIT) {
+        Ok(tree) => Ok(tree),
+        Err(error) => Err(schema_text_failure(alloc, error)),
+    }
 }
 
-/// Tells of the unknown words of the schema, and checks what was asked for.
-fn answer_by(rt: &HostRuntime, tree: &JsonValue, by_lines: bool) -> Result<Outcome, Failure> {
+/// Tells of the unknown words of the schema, and checks each input.
+fn check_by(
+    rt: &HostRuntime,
+    tree: &JsonValue,
+    request: &Request<'_, '_>,
+) -> Result<Status, Failure> {
     let alloc = rt.alloc();
     let schema = read_schema(alloc, tree)?;
-    tell_words(alloc, &mut rt.stderr(), &unknown_words(tree, alloc)?).map_err(Failure::Stream)?;
-    if by_lines {
-        by_lines_of(rt, &schema)
-    } else {
-        of_whole(rt, &schema)
+    if let Err(error) = tell_words(alloc, &mut rt.stderr(), &unknown_words(tree, alloc)?) {
+        return Err(writing_error(error));
     }
+    let mut asked = Asked {
+        alloc,
+        schema: &schema,
+    };
+    if request.by_lines {
+        return Ok(by_lines(rt, request.files, &mut asked));
+    }
+    Ok(by_texts(rt, request.files, &asked))
 }
 
-fn arguments(rt: &(impl Env + AllocGlobal)) -> Result<Vec<String>, Failure> {
-    match env::args(rt) {
-        Ok(words) => Ok(words.skip(1).collect::<Vec<String>>(rt.alloc())?),
-        Err(error) if error.kind() == ErrorKind::OutOfMemory => Err(Failure::OutOfMemory),
-        Err(_) => Err(Failure::Arguments),
-    }
+#[inline(never)]
+fn by_lines(rt: &HostRuntime, files: &[&str], asked: &mut Asked<'_, '_>) -> Status {
+    answer_lines(rt, PROGRAM, files, asked)
+}
+
+#[inline(never)]
+fn by_texts(rt: &HostRuntime, files: &[&str], asked: &Asked<'_, '_>) -> Status {
+    answer_files(rt, PROGRAM, files, asked)
 }
 
 fn read_schema(alloc: Global, tree: &JsonValue) -> Result<Schema<'_>, Failure> {
-    match Schema::read(tree, alloc) {
-        Ok(schema) => Ok(schema),
-        Err(SchemaError::Refused(place)) => Err(Failure::Refused(place.to_string(alloc)?)),
+    let failure = match Schema::read(tree, alloc) {
+        Ok(schema) => return Ok(schema),
+        Err(SchemaError::Refused(place)) => SchemaFailure::Refused(place.to_string(alloc)?),
         Err(SchemaError::PatternLimit(place)) => {
-            Err(Failure::PatternLimit(place.to_string(alloc)?))
+            SchemaFailure::PatternLimit(place.to_string(alloc)?)
         }
-        Err(SchemaError::OutOfMemory) => Err(Failure::OutOfMemory),
+        Err(SchemaError::OutOfMemory) => return Err(Failure::OutOfMemory),
+    };
+    Err(schema_failure(alloc, &failure))
+}
+
+/// A schema that each text is checked against.
+#[derive(Drop)]
+struct Asked<'a, 's> {
+    alloc: Global,
+    schema: &'a Schema<'s>,
+}
+
+impl Answer for Asked<'_, '_> {
+    fn answer<W: Write>(
+        &self,
+        alloc: Global,
+        text: &str,
+        output: &mut W,
+    ) -> Result<Status, Failure> {
+        match check_text(alloc, self.schema, text)? {
+            Verdict::Valid => Ok(Status::Done),
+            Verdict::Refused(cause) => Err(text_failure(alloc, cause)),
+            Verdict::Invalid(violation) => match write_report(alloc, None, &violation, output) {
+                Ok(()) => Ok(Status::No),
+                Err(error) => Err(writing_error(error)),
+            },
+        }
     }
 }
 
-/// The text of standard input.
-#[inline(never)]
-fn input_text(rt: &HostRuntime) -> Result<String, Failure> {
-    io::read_to_string(rt.alloc(), rt.reader()).map_err(input_error)
-}
-
-/// Checks the text of standard input; what it does not meet is printed.
-#[inline(never)]
-fn of_whole(rt: &HostRuntime, schema: &Schema<'_>) -> Result<Outcome, Failure> {
-    let alloc = rt.alloc();
-    let text = input_text(rt)?;
-    match check_text(alloc, schema, text.as_str())? {
-        Verdict::Valid => Ok(Outcome::AllValid),
-        Verdict::Refused(cause) => Err(Failure::Text(cause)),
-        Verdict::Invalid(violation) => {
-            let mut output = BufWriter::new(alloc, rt.stdout()).map_err(Failure::Stream)?;
-            let answer = write_report(alloc, None, &violation, &mut output);
-            let answer = answer.and_then(|()| output.flush());
-            // Dropped, the gathered bytes would be written, also after a write that failed.
-            let (_output, _gathered) = output.into_parts();
-            answer.map_err(Failure::Stream)?;
-            Ok(Outcome::SomeInvalid)
-        }
+impl AnswerLines for Asked<'_, '_> {
+    fn answer<R: BufRead, W: Write, E: Write>(
+        &mut self,
+        file: Option<&str>,
+        input: &mut R,
+        output: &mut W,
+        errors: &mut E,
+    ) -> io::Result<(bool, Status)> {
+        let check = Check {
+            schema: self.schema,
+            file,
+        };
+        let outcome = check_lines(self.alloc, check, input, output, errors)?;
+        Ok((true, outcome.status()))
     }
-}
-
-/// Checks each line of standard input. After a failure nothing more is written, though some bytes may be gathered.
-#[inline(never)]
-fn by_lines_of(rt: &HostRuntime, schema: &Schema<'_>) -> Result<Outcome, Failure> {
-    let alloc = rt.alloc();
-    let mut input = BufReader::new(alloc, rt.reader()).map_err(Failure::Stream)?;
-    let mut output = BufWriter::new(alloc, rt.stdout()).map_err(Failure::Stream)?;
-    let answer = check_lines(alloc, schema, &mut input, &mut output, &mut rt.stderr());
-    let (_output, _gathered) = output.into_parts();
-    answer.map_err(Failure::Stream)
 }

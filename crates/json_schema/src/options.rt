@@ -1,30 +1,38 @@
 //! What the arguments ask for.
-ghost use Rattle.std.specs.Prelude.{◌≡◌, option_map, map, string_bytes};
+ghost use Rattle.std.specs.Prelude.{◌≡◌, option_map, map};
+ghost use Rattle.tinyjson_cli.specs.Arguments.{given_of};
 ghost use Rattle.json_schema.specs.Options.{asks};
 
+use tinyjson_cli::{Arguments, Known};
+
+/// `-l` and `--lines`.
+pub const LINES: Known<'static> = Known {
+    letter: b'l',
+    name: "lines",
+    takes_number: false,
+};
+
 /// A check against the schema of a file.
-#[derive(Clone, Copy)]
-pub struct Request<'a> {
-    /// Whether each line of the input is a text.
+#[derive(Drop)]
+pub struct Request<'w, 'a> {
+    /// Whether each line of an input is a text.
     pub by_lines: bool,
     /// The name of the schema's file.
-    pub file: &'a str,
+    pub schema: &'w str,
+    /// The files that are checked.
+    pub files: &'a [&'w str],
 }
 
-/// What is asked for by the arguments after the program's name: `SCHEMA-FILE` or `-l SCHEMA-FILE`.
-pub fn asked(words: &[String]) -> Option<Request<'_>>
-    ensures { option_map (λ r. (r.by_lines, r.file.now)) result
-        ≡ asks (map string_bytes words.now) }
+/// What is asked for: `[-l] SCHEMA [FILE..]`.
+pub fn requested<'w, 'a>(arguments: &'a Arguments<'w>) -> Option<Request<'w, 'a>>
+    ensures { option_map (λ r. (r.by_lines, (r.schema.now, map (λ f. f.now) r.files.now))) result
+        ≡ asks (given_of arguments.now) }
 {
-    match words {
-        [file] if file.as_str() != "-l" => Some(Request {
-            by_lines: false,
-            file: file.as_str(),
-        }),
-        [option, file] if option.as_str() == "-l" => Some(Request {
-            by_lines: true,
-            file: file.as_str(),
-        }),
-        _ => None,
-    }
+    let by_lines = arguments.has(b'l');
+    let (schema, files) = arguments.first()?;
+    Some(Request {
+        by_lines,
+        schema,
+        files,
+    })
 }

@@ -1,50 +1,74 @@
 //! What is told of a line that can't be checked.
-ghost use Rattle.std.specs.Prelude.{Some};
+ghost use Rattle.std.specs.Prelude.{◌≡◌, IfOk, option_map, string_bytes};
 ghost use Rattle.tinyjson.specs.Written.{WritesPrefix};
-ghost use Rattle.json_schema.specs.Told.{refusal_message, told_line};
+ghost use Rattle.json_schema.specs.Told.{told_line, told_depth};
 
 use crate::verdict::Cause;
-use std::alloc::Global;
-use std::fmt;
+use std::alloc::{AllocError, Global};
 use std::io::{self, Write};
-use tinyjson_lines::write_all;
+use tinyjson_cli::{RefusedLine, Shown, tell};
+use tinyjson_lines::{self as lines, Refusal, write_all};
 
 /// A line that can't be checked.
 #[derive(Clone, Copy)]
-pub struct Refusal {
+pub struct Unchecked<'a> {
+    /// The name of the file with the line, if it has one.
+    pub file: Option<&'a str>,
     /// Which line of the input it is, from 1.
     pub number: u64,
     /// Why it can't be checked.
     pub cause: Cause,
 }
 
-/// `line 3, col 4: ` and the message of the parser's kind; `line 3: not UTF-8`; or that it takes too many schemas.
-impl fmt::Display for Refusal {
-    ghost output = { λ r. Some (refusal_message r) };
-
-    fn fmt<W: fmt::Write>(&self, f: &mut fmt::Formatter<W>) -> fmt::Result {
-        let Refusal { number, cause } = *self;
-        match cause {
-            Cause::NotUtf8 => write!(f, "line {number}: not UTF-8"),
-            Cause::NotJson(error) => {
-                let (column, kind) = (error.column(), error.kind());
-                write!(f, "line {number}, col {column}: {kind}")
-            }
-            Cause::TooDeep => {
-                write!(
-                    f,
-                    "line {number}: too many schemas are applied in one another"
-                )
-            }
-        }
-    }
+/// Writes one line about a line that can't be checked.
+pub fn tell_line<E: Write>(alloc: Global, errors: &mut E, line: Unchecked<'_>) -> io::Result<()>
+    ensures { WritesPrefix (E.contents errors.old) (E.contents errors.new)
+        (told_line (option_map (λ f. f.now) line.entry.file) line.entry.number line.entry.cause)
+        result }
+{
+    let Unchecked {
+        file,
+        number,
+        cause,
+    } = line;
+    let cause = match cause {
+        Cause::NotUtf8 => lines::Cause::NotUtf8,
+        Cause::NotJson(error) => lines::Cause::NotJson(error),
+        Cause::TooDeep => return tell_depth(alloc, errors, file, number),
+    };
+    let refused = RefusedLine {
+        program: "json_schema",
+        file,
+        refusal: Refusal { number, cause },
+    };
+    tell(alloc, errors, &refused)
 }
 
-/// Writes one line of a line that can't be checked.
-pub fn tell<E: Write>(alloc: Global, errors: &mut E, refusal: Refusal) -> io::Result<()>
+/// Writes one line about a line whose value takes too many schemas.
+fn tell_depth<E: Write>(
+    alloc: Global,
+    errors: &mut E,
+    file: Option<&str>,
+    number: u64,
+) -> io::Result<()>
     ensures { WritesPrefix (E.contents errors.old) (E.contents errors.new)
-        (told_line refusal) result }
+        (told_depth (option_map (λ f. f.now) file.entry) number) result }
 {
-    let words = format!(in alloc; "json_schema: {refusal}\n")?;
+    let words = depth_words(alloc, file, number)?;
     write_all(errors, words.as_bytes())
+}
+
+fn depth_words(alloc: Global, file: Option<&str>, number: u64) -> Result<String, AllocError>
+    ensures { IfOk result (λ words. string_bytes words
+        ≡ told_depth (option_map (λ f. f.now) file.entry) number) }
+{
+    match file {
+        Some(name) => format!(in alloc;
+            "{}:{number}: too many schemas are applied in one another\n",
+            Shown(name)
+        ),
+        None => format!(in alloc;
+            "json_schema: line {number}: too many schemas are applied in one another\n"
+        ),
+    }
 }

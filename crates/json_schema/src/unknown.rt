@@ -5,10 +5,10 @@ ghost use Rattle.tinyjson.specs.View.{text};
 ghost use Rattle.tinyjson.specs.Written.{WritesPrefix};
 ghost use Rattle.json_schema.specs.Told.{told_word, told_words};
 
-use crate::shown::Shown;
 use std::alloc::Global;
 use std::collections::BTreeSet;
 use std::io::{self, Write};
+use tinyjson_cli::Shown;
 use tinyjson_lines::write_all;
 
 /// Writes a line for each of the words, which says that it is no keyword.
