@@ -38,18 +38,18 @@ place in the schema, and the place in the value that does not meet it.
 
 The texts are those of the files, or standard input where none is named; '-' is
 standard input, too. Options may come anywhere; after '--' all are operands.
-Names in the schema that are no keywords are told.
+A message names each key of the schema that is no keyword.
 
 Options:
-  -l, --lines    check each line; what is printed and told has its number
+  -l, --lines    check each line; reports and messages have its number
   -h, --help     print this page
   -V, --version  print the version
 
 Exit status:
   0  each value is valid
-  1  a value is not valid; with -l also: a line is no JSON text
+  1  a value is not valid; with -l also: a line can't be checked
   2  the arguments are not understood, or SCHEMA can't be read or applied
-  3  an input is no JSON text, not UTF-8, or nested too deep
+  3  without -l: an input is no JSON text, not UTF-8, or nested too deep
   4  memory ran out, or a read or a write failed
 
 Examples:
