@@ -29,7 +29,7 @@ static void *granted_realloc(void *place, size_t size) {
 #undef realloc
 
 /* The sizes of a buffer that are all tried; of longer answers only those near 0 and near what is needed. */
-enum { ALL_SIZES = 300, GUARD = 16, GUARD_BYTE = 0xa5, THREADS = 4, FIELDS = 10, PART_FIELDS = 5 };
+enum { ALL_SIZES = 300, GUARD = 16, GUARD_BYTE = 0xa5, THREADS = 4, FIELDS = 10, PAIR_FIELDS = 12 };
 
 struct bytes {
     uint8_t *at;
@@ -48,6 +48,19 @@ struct counts {
     const struct row *rows;
     size_t length;
     long passed, failed;
+};
+
+typedef uint32_t writes_of_two(const uint8_t *, size_t, const uint8_t *, size_t, size_t, uint8_t *, size_t,
+                               struct tinyjson_place *);
+
+/* A call with two texts, and what is expected of it: what it writes, its status and the place. */
+struct pair {
+    const char *name;
+    writes_of_two *call;
+    struct bytes one, other, written;
+    size_t depth;
+    uint32_t status;
+    struct tinyjson_place place;
 };
 
 typedef uint32_t writes(const uint8_t *, size_t, size_t, uint8_t *, size_t, struct tinyjson_place *);
@@ -114,23 +127,48 @@ static bool writes_all_sizes(writes *call, const struct row *row, struct bytes e
     return true;
 }
 
-/* The status of a part, its normal text, and how much of the pointer is UTF-8. */
-static bool has_part(struct bytes text, struct bytes pointer, uint32_t expected, struct bytes part, size_t valid) {
-    struct tinyjson_place other = {.length = valid, .text = expected == TINYJSON_NOT_FOUND ? 0 : 1};
-    for (size_t room = 0; room <= part.length + 1; room++) {
-        bool is_found = expected == TINYJSON_OK, has_room = is_found && room >= part.length;
+static uint32_t call_pair(const struct pair *pair, uint8_t *buffer, size_t room, struct tinyjson_place *place) {
+    return pair->call(pair->one.at, pair->one.length, pair->other.at, pair->other.length, pair->depth, buffer, room, place);
+}
+
+static bool answers_pair(const struct pair *pair) {
+    bool is_written = pair->status == TINYJSON_OK;
+    for (size_t room = 0; room <= pair->written.length + 1; room++) {
+        if (!is_tried(room, pair->written.length)) {
+            continue;
+        }
+        bool has_room = is_written && room >= pair->written.length;
         struct tinyjson_place place = {.kind = 99};
         uint8_t *buffer = guarded(room);
-        uint32_t status = tinyjson_part(text.at, text.length, pointer.at, pointer.length, 9, buffer, room, &place);
-        bool is_right = status == (is_found && !has_room ? (uint32_t)TINYJSON_TOO_SMALL : expected)
-            && is_same_place(place, is_found ? of_length(part.length) : other)
-            && is_filled(buffer, room, part, has_room);
+        uint32_t status = call_pair(pair, buffer, room, &place);
+        bool is_right = status == (is_written && !has_room ? (uint32_t)TINYJSON_TOO_SMALL : pair->status)
+            && is_same_place(place, pair->place) && is_filled(buffer, room, pair->written, has_room);
         free(buffer);
         if (!is_right) {
             return false;
         }
     }
     return true;
+}
+
+/* With each allocation refused in turn the answer of the pair is the same, or that memory ran out. */
+static bool survives_pair(const struct pair *pair) {
+    uint8_t *buffer = guarded(pair->written.length);
+    bool is_right = true, was_refused = true;
+    for (long number = 0; was_refused; number++) {
+        struct tinyjson_place place;
+        granted = number;
+        uint32_t status = call_pair(pair, buffer, pair->written.length, &place);
+        was_refused = granted < 0;
+        granted = -1;
+        if (status == TINYJSON_OUT_OF_MEMORY) {
+            is_right &= was_refused && place.kind == TINYJSON_NO_MEMORY && place.line == 0;
+        } else {
+            is_right &= status == pair->status && is_same_place(place, pair->place);
+        }
+    }
+    free(buffer);
+    return is_right;
 }
 
 static bool stops(writes *call, const struct row *row) {
@@ -327,15 +365,38 @@ static void split(char *line, char **fields, int length) {
     }
 }
 
-/* A line: a text, a pointer, the status, the part and a length. */
-static void check_part(struct counts *counts, char *line) {
-    char *fields[PART_FIELDS];
-    split(line, fields, PART_FIELDS);
-    struct bytes text = of_hex(fields[0]), pointer = of_hex(fields[1]), part = of_hex(fields[3]);
-    struct row row = {.text = pointer};
-    uint32_t status = (uint32_t)strtoul(fields[2], NULL, 10);
-    count(counts, has_part(text, pointer, status, part, strtoul(fields[4], NULL, 10)), "part", &row);
-    free(text.at), free(pointer.at), free(part.at);
+static struct tinyjson_place place_of(char **fields) {
+    return (struct tinyjson_place){.kind = (uint32_t)strtoul(fields[0], NULL, 10),
+                                   .found = (uint32_t)strtoul(fields[1], NULL, 10),
+                                   .line = strtoul(fields[2], NULL, 10),
+                                   .column = strtoul(fields[3], NULL, 10),
+                                   .length = strtoul(fields[4], NULL, 10)};
+}
+
+static uint32_t status_of(const char *name) {
+    static const char *const names[] = {"OK", "REFUSED", "NOT_UTF8", "OUT_OF_MEMORY", "TOO_SMALL", "NO_ERROR", "NOT_FOUND",
+                                        "BAD_POINTER"};
+    uint32_t status = 0;
+    while (strcmp(names[status], name) != 0) {
+        status++;
+    }
+    return status;
+}
+
+/* A line: a call, its two texts, the limit, the status, what is written, and the place. */
+static void check_pair(struct counts *counts, char *line) {
+    char *fields[PAIR_FIELDS];
+    split(line, fields, PAIR_FIELDS);
+    struct pair pair = {fields[0], strcmp(fields[0], "part") == 0 ? tinyjson_part : tinyjson_merge, of_hex(fields[1]),
+                        of_hex(fields[2]), of_hex(fields[5]), strtoul(fields[3], NULL, 10), status_of(fields[4]),
+                        place_of(fields + 6)};
+    pair.place.text = strtoul(fields[11], NULL, 10);
+    struct row row = {.text = pair.other};
+    count(counts, answers_pair(&pair), pair.name, &row);
+    if (pair.one.length + pair.other.length <= ALL_SIZES) {
+        count(counts, survives_pair(&pair), "refused memory", &row);
+    }
+    free(pair.one.at), free(pair.other.at), free(pair.written.at);
 }
 
 /* The row of a line: its text, the limit, the normal text, the indented text, and the place with the message. */
@@ -344,17 +405,13 @@ static struct row row_of(char *line) {
     split(line, fields, FIELDS);
     struct row row = {of_hex(fields[0]), of_hex(fields[2]), of_hex(fields[3]), of_hex(fields[9]),
                       strtoul(fields[1], NULL, 10), {0}};
-    row.place = (struct tinyjson_place){.kind = (uint32_t)strtoul(fields[4], NULL, 10),
-                                        .found = (uint32_t)strtoul(fields[5], NULL, 10),
-                                        .line = strtoul(fields[6], NULL, 10),
-                                        .column = strtoul(fields[7], NULL, 10),
-                                        .length = strtoul(fields[8], NULL, 10)};
+    row.place = place_of(fields + 4);
     return row;
 }
 
 int main(int argc, char **argv) {
-    FILE *file = argc == 3 ? fopen(argv[1], "r") : NULL, *parts = argc == 3 ? fopen(argv[2], "r") : NULL;
-    if (file == NULL || parts == NULL) {
+    FILE *file = argc == 3 ? fopen(argv[1], "r") : NULL, *pairs = argc == 3 ? fopen(argv[2], "r") : NULL;
+    if (file == NULL || pairs == NULL) {
         return 2;
     }
     static struct row rows[4096];
@@ -364,11 +421,11 @@ int main(int argc, char **argv) {
         rows[length++] = row_of(line);
     }
     struct counts counts[THREADS + 1] = {{rows, length, 0, 0}};
-    while (getline(&line, &size, parts) > 0) {
-        check_part(&counts[0], line);
+    while (getline(&line, &size, pairs) > 0) {
+        check_pair(&counts[0], line);
     }
     free(line);
-    fclose(file), fclose(parts);
+    fclose(file), fclose(pairs);
     check_rows(&counts[0]);
     for (size_t i = 0; i < length; i++) {
         count(&counts[0], survives(tinyjson_normal, &rows[i]), "refused memory", &rows[i]);

@@ -1,4 +1,4 @@
-/* tinyjson for C: JSON texts (RFC 8259) are checked, normalized, indented and compared.
+/* tinyjson for C: JSON texts (RFC 8259) are checked, normalized, indented, compared and merged.
  *
  * A text is `length` bytes in UTF-8, in which at most `depth` containers are open at once. A call returns a
  * status, and answers through its pointers. It keeps nothing, and shares nothing with other calls.
@@ -69,7 +69,7 @@ struct tinyjson_place {
     size_t line;    /* from 1 on */
     size_t column;  /* how many characters were consumed after the last line feed */
     size_t length;  /* how many bytes the answer has, or precede what is not UTF-8 */
-    size_t text;    /* which text of the call, from 0 on: the second one of tinyjson_equal, a pointer, a line */
+    size_t text;    /* which text of the call, from 0 on: the second of two, a pointer, a line */
 };
 
 /* Whether the text has a value: OK, or why not. */
@@ -98,6 +98,11 @@ uint32_t tinyjson_normal_lines(const uint8_t *text, size_t length, size_t depth,
 /* The normal text of the part that a JSON pointer (RFC 6901) names, into the buffer. */
 uint32_t tinyjson_part(const uint8_t *text, size_t length, const uint8_t *pointer, size_t pointer_length, size_t depth,
                        uint8_t *buffer, size_t room, struct tinyjson_place *place);
+
+/* The normal text of a target with a merge patch (RFC 7396) applied, into the buffer. The patch may be no deeper than
+ * 1,000 containers, whatever the limit: the call takes stack as it is deep. The target is read first. */
+uint32_t tinyjson_merge(const uint8_t *target, size_t length, const uint8_t *patch, size_t patch_length, size_t depth,
+                        uint8_t *buffer, size_t room, struct tinyjson_place *place);
 
 /* The message of the error at a place, into the buffer, and its length. */
 uint32_t tinyjson_message(const struct tinyjson_place *place, uint8_t *buffer, size_t room, size_t *length);

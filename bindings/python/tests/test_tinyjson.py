@@ -106,24 +106,30 @@ class Lines(unittest.TestCase):
         self.assertEqual(tinyjson.normal_lines(b""), b"")
 
 
-class Parts(unittest.TestCase):
-    def test_each_part(self):
-        for text, pointer, status, part, _ in lines("parts.txt", "5b315d\t2f30\t0\t31\t0"):
-            text, pointer, part = map(bytes.fromhex, (text, pointer, part))
-            with self.subTest(pointer=pointer):
-                if status == "2":
-                    with self.assertRaises(tinyjson.NotUtf8) as raised:
-                        tinyjson.part(text, pointer)
-                    self.assertEqual(raised.exception.text, 1)
-                elif status == "7":
-                    self.assertRaises(tinyjson.BadPointer, tinyjson.part, text, pointer.decode())
-                else:
-                    found = None if status == "6" else part
-                    self.assertEqual(tinyjson.part(text, pointer.decode()), found)
-                    self.assertEqual(tinyjson.part(text.decode(), pointer.decode()), found and found.decode())
+# What a call with two texts raises, by its status, and the numbers of the place that the exception has.
+RAISED = {
+    "REFUSED": (tinyjson.Refused, lambda it, place: (it.kind, it.line, it.column, it.text) == (place[0], *place[2:4], place[5])),
+    "NOT_UTF8": (tinyjson.NotUtf8, lambda it, place: (it.valid_up_to, it.text) == (place[4], place[5])),
+    "BAD_POINTER": (tinyjson.BadPointer, lambda it, place: True),
+}
 
-    def test_a_refused_text(self):
-        self.assertRaises(tinyjson.Refused, tinyjson.part, "[1,]", "")
+
+class Pairs(unittest.TestCase):
+    def answers(self, call, one, other, depth, written):
+        self.assertEqual(call(one, other, depth), written)
+        self.assertEqual(call(one.decode(), other.decode(), depth), written and written.decode())
+
+    def test_each_pair(self):
+        for name, one, other, depth, status, written, *place in lines("pairs.txt", "part\t5b315d\t2f30\t9\tOK\t31"):
+            call, one, other, written = getattr(tinyjson, name), *map(bytes.fromhex, (one, other, written))
+            with self.subTest(call=name, one=one, other=other):
+                if status in RAISED:
+                    error, is_right = RAISED[status]
+                    with self.assertRaises(error) as raised:
+                        call(one, other, int(depth))
+                    self.assertTrue(is_right(raised.exception, [*map(int, place)]))
+                else:
+                    self.answers(call, one, other, int(depth), None if status == "NOT_FOUND" else written)
 
 
 class Arguments(unittest.TestCase):

@@ -1,4 +1,4 @@
-"""JSON texts (RFC 8259), checked, normalized, indented and compared by proved code.
+"""JSON texts (RFC 8259), checked, normalized, indented, compared and merged by proved code.
 
 >>> import tinyjson
 >>> tinyjson.normal('{"b": [1.50, true], "a": 2e3}')
@@ -15,7 +15,7 @@ import pathlib
 from typing import Any, Callable, Optional, Union, overload
 
 __all__ = ["DEPTH", "BadPointer", "Error", "Kind", "NotUtf8", "Refused", "Value"]
-__all__ += ["check", "equal", "indented", "is_normal", "normal", "normal_lines", "part"]
+__all__ += ["check", "equal", "indented", "is_normal", "merge", "normal", "normal_lines", "part"]
 
 Text = Union[str, bytes]
 
@@ -60,7 +60,8 @@ class Value(enum.IntEnum):
 
 
 class Error(ValueError):
-    """A text has no value. `text` is its number, from 0 on: the second one of `equal`, the pointer of `part`, or a line."""
+    """A text has no value. `text` is its number, from 0 on: 1 is the second one of `equal`, the patch of `merge` or the
+    pointer of `part`; of `normal_lines` it is that of a line."""
 
     def __init__(self, message: str, text: int) -> None:
         super().__init__(message)
@@ -127,6 +128,7 @@ _indented = _call("tinyjson_indented", _bytes, _size, _size, _bytes, _size, _pla
 _is_normal = _call("tinyjson_is_normal", _bytes, _size, ctypes.POINTER(ctypes.c_bool))
 _equal = _call("tinyjson_equal", _bytes, _size, _bytes, _size, _size, ctypes.POINTER(ctypes.c_bool), _place)
 _part = _call("tinyjson_part", _bytes, _size, _bytes, _size, _size, _bytes, _size, _place)
+_merge = _call("tinyjson_merge", _bytes, _size, _bytes, _size, _size, _bytes, _size, _place)
 _words = _call("tinyjson_message", _place, _bytes, _size, ctypes.POINTER(_size))
 
 
@@ -236,6 +238,19 @@ def part(text: Text, pointer: str, depth: int = DEPTH) -> Optional[Text]:
     '1.5'
     """
     return _like(text, _written(_part, depth, text, pointer))
+
+
+@overload
+def merge(target: str, patch: Text, depth: int = ...) -> str: ...
+@overload
+def merge(target: bytes, patch: Text, depth: int = ...) -> bytes: ...
+def merge(target: Text, patch: Text, depth: int = DEPTH) -> Text:
+    """The normal text of a target with a merge patch (RFC 7396) applied. The patch may be no deeper than 1,000 containers.
+
+    >>> merge('{"a": 1, "b": {}}', '{"a": null, "b": {"c": 2.0}}')
+    '{"b":{"c":2}}'
+    """
+    return _like(target, _written(_merge, depth, target, patch))
 
 
 def is_normal(text: Text) -> bool:

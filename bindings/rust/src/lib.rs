@@ -1,4 +1,4 @@
-//! JSON texts (RFC 8259), checked, normalized, indented and compared by proved code.
+//! JSON texts (RFC 8259), checked, normalized, indented, compared and merged by proved code.
 //!
 //! ```
 //! let text = r#"{"b": [1.50, true], "a": 2e3}"#;
@@ -73,8 +73,8 @@ pub enum Error {
         line: usize,
         /// How many characters were consumed after the last line feed.
         column: usize,
-        /// Which text of the call this is, from 0 on: the second one of [`equal`], the pointer of [`part`], or a line
-        /// of [`normal_lines`].
+        /// Which text of the call this is, from 0 on: the second one of [`equal`], the patch of [`merge`], the
+        /// pointer of [`part`], or a line of [`normal_lines`].
         text: usize,
     },
     /// The bytes are not UTF-8 after `valid_up_to` of them.
@@ -195,7 +195,29 @@ pub fn equal(
 /// ```
 pub fn part(text: impl AsRef<[u8]>, pointer: &str, depth: usize) -> Result<Option<String>, Error> {
     let (text, pointer) = (text.as_ref(), pointer.as_bytes());
-    written(text.len(), |buffer| sys::part(text, pointer, depth, buffer))
+    written(text.len(), |buffer| {
+        sys::write_of_two(sys::tinyjson_part, text, pointer, depth, buffer)
+    })
+}
+
+/// The normal text of a target with a merge patch (RFC 7396) applied. The patch may be no deeper than 1,000 containers,
+/// whatever the limit, and the call takes stack as it is deep.
+///
+/// ```
+/// let text = tinyjson_proved::merge(r#"{"a": 1, "b": {}}"#, r#"{"a": null, "b": {"c": 2.0}}"#, 9)?;
+/// assert_eq!(text, r#"{"b":{"c":2}}"#);
+/// # Ok::<(), tinyjson_proved::Error>(())
+/// ```
+pub fn merge(
+    target: impl AsRef<[u8]>,
+    patch: impl AsRef<[u8]>,
+    depth: usize,
+) -> Result<String, Error> {
+    let (target, patch) = (target.as_ref(), patch.as_ref());
+    let text = written(target.len() + patch.len(), |buffer| {
+        sys::write_of_two(sys::tinyjson_merge, target, patch, depth, buffer)
+    })?;
+    Ok(text.unwrap_or_default())
 }
 
 /// What a call writes, into a buffer that grows to what the call asks for, or nothing if there is no such part.

@@ -30,6 +30,18 @@ pub(crate) struct Place {
 pub(crate) type Writes =
     unsafe extern "C" fn(*const u8, usize, usize, *mut u8, usize, *mut Place) -> Status;
 
+/// A call that writes into a buffer, and reads two texts.
+pub(crate) type WritesOfTwo = unsafe extern "C" fn(
+    *const u8,
+    usize,
+    *const u8,
+    usize,
+    usize,
+    *mut u8,
+    usize,
+    *mut Place,
+) -> Status;
+
 extern "C" {
     fn tinyjson_check(text: *const u8, length: usize, depth: usize, place: *mut Place) -> Status;
     pub(crate) fn tinyjson_normal(
@@ -66,11 +78,21 @@ extern "C" {
         equal: *mut bool,
         place: *mut Place,
     ) -> Status;
-    fn tinyjson_part(
+    pub(crate) fn tinyjson_part(
         text: *const u8,
         length: usize,
         pointer: *const u8,
         pointer_length: usize,
+        depth: usize,
+        buffer: *mut u8,
+        room: usize,
+        place: *mut Place,
+    ) -> Status;
+    pub(crate) fn tinyjson_merge(
+        target: *const u8,
+        length: usize,
+        patch: *const u8,
+        patch_length: usize,
         depth: usize,
         buffer: *mut u8,
         room: usize,
@@ -123,19 +145,20 @@ pub(crate) fn equal(first: &[u8], second: &[u8], depth: usize) -> (Status, bool,
     (status, equal, place)
 }
 
-pub(crate) fn part(
-    text: &[u8],
-    pointer: &[u8],
+pub(crate) fn write_of_two(
+    call: WritesOfTwo,
+    first: &[u8],
+    second: &[u8],
     depth: usize,
     buffer: &mut [u8],
 ) -> (Status, Place) {
     let mut place = Place::default();
-    let (front, length) = (pointer.as_ptr(), pointer.len());
+    let (front, length) = (second.as_ptr(), second.len());
     let (room, target) = (buffer.len(), buffer.as_mut_ptr());
     let status = unsafe {
-        tinyjson_part(
-            text.as_ptr(),
-            text.len(),
+        call(
+            first.as_ptr(),
+            first.len(),
             front,
             length,
             depth,

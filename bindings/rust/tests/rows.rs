@@ -1,7 +1,9 @@
 //! The rows that `tools/bindings` writes, by the calls of this crate.
 use std::thread;
 
-use tinyjson_proved::{check, equal, indented, is_normal, normal, normal_lines, part, Error, Kind};
+use tinyjson_proved::{
+    check, equal, indented, is_normal, merge, normal, normal_lines, part, Error, Kind,
+};
 
 /// A line of the file: a text, its limit, and what is expected of it.
 struct Row {
@@ -156,21 +158,37 @@ fn reads_lines() {
     }
 }
 
+/// The error of a text, as that of the call's text of this number.
+fn error_of(text: &[u8], depth: usize, number: usize) -> Error {
+    let mut error = check(text, depth).unwrap_err();
+    let (Error::Refused { text, .. } | Error::NotUtf8 { text, .. }) = &mut error else {
+        panic!("memory ran out");
+    };
+    *text = number;
+    error
+}
+
 #[test]
-fn finds_each_part() {
-    for line in file("parts.txt", "5b315d\t2f30\t0\t31\t0\n").lines() {
+fn answers_each_pair() {
+    let few = "part\t5b315d\t2f30\t9\tOK\t31\t0\t0\t0\t0\t1\t0\n";
+    for line in file("pairs.txt", few).lines() {
         let fields: Vec<&str> = line.split('\t').collect();
-        let Ok(pointer) = String::from_utf8(bytes(fields[1])) else {
-            continue;
+        let (one, other) = (bytes(fields[1]), bytes(fields[2]));
+        let depth = fields[3].parse().unwrap();
+        let expected = match (fields[4], fields[11]) {
+            ("OK", _) => Ok(Some(text(fields[5]))),
+            ("NOT_FOUND", _) => Ok(None),
+            ("BAD_POINTER", _) => Err(Error::BadPointer),
+            (_, "0") => Err(error_of(&one, depth, 0)),
+            _ => Err(error_of(&other, depth.min(1000), 1)),
         };
-        let expected = match fields[2] {
-            "0" => Ok(Some(text(fields[3]))),
-            "6" => Ok(None),
-            _ => Err(Error::BadPointer),
+        let answer = match (fields[0], std::str::from_utf8(&other)) {
+            ("part", Ok(pointer)) => part(&one, pointer, depth),
+            ("part", Err(_)) => continue,
+            (_, _) => merge(&one, &other, depth).map(Some),
         };
-        assert_eq!(part(bytes(fields[0]), &pointer, 9), expected);
+        assert_eq!(answer, expected);
     }
-    assert_eq!(part("[1,]", "", 9), Err(check("[1,]", 9).unwrap_err()));
 }
 
 #[test]

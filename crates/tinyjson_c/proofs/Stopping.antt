@@ -1,11 +1,14 @@
 -- What a call answers that stops.
-use Rattle.std.proofs.Common.{◌≡◌, ℕ, List, ◌++◌, Option, ◌⊎◌, inl, inr, sym, ap, ◌∙◌, subst, refl}
+use Rattle.std.proofs.Common.{◌≡◌, ℕ, List, ◌++◌, Option, Some, ◌⊎◌, inl, inr, sym, ap, ◌∙◌, subst, refl}
 use Rattle.tinyjson.specs.Error.{error_kind, error_position}
 use Rattle.std.specs.Str.{IsUtf8, chars}
 use Rattle.tinyjson.specs.declared.parser.error.JsonParseError.{JsonParseError}
+use Rattle.tinyjson_c.specs.Merge.{IsNoMerge, no_merge_place, no_merge_status, patch_depth}
 use Rattle.tinyjson_c.specs.Part.{IsNoPart, IsNoText, no_part_place, no_part_status}
 use Rattle.tinyjson_c.specs.Place.{length_place}
-use Rattle.tinyjson_c.specs.Stop.{IsStopped, StopOf, Stops, stop_place, stop_status}
+use Rattle.tinyjson_c.specs.Stop.{IsAcceptedText, IsStopped, StopOf, Stops, stop_place, stop_status}
+use Rattle.tinyjson_c.specs.declared.merge.NoMerge.{NoMerge}
+use Rattle.tinyjson_c.specs.declared.merge.NoMerge.TheVariants as merge
 use Rattle.tinyjson_c.specs.declared.part.NoPart.{NoPart}
 use Rattle.tinyjson_c.specs.declared.part.NoPart.TheVariants as none
 use Rattle.tinyjson_c.specs.declared.place.TinyjsonPlace.{TinyjsonPlace}
@@ -74,3 +77,10 @@ no_part_stops limit text pointer (none.Text s) status p h i j found bad = inl (s
 no_part_stops limit text pointer (none.NotUtf8 n) status p h i j found bad = inr (i, h.0, j ∙ ap (length_place 1) h.1)
 no_part_stops limit text pointer none.BadPointer status p h i j found bad = absurd (bad i)
 no_part_stops limit text pointer none.NotFound status p h i j found bad = absurd (found i)
+
+-- a merge stops at the target, or else at the patch
+pub no_merge_stops : (depth : ℕ) (target patch : List ℕ) (n : NoMerge) (status : ℕ) (p : TinyjsonPlace) → IsNoMerge depth target patch n
+    → status ≡ no_merge_status n → p ≡ no_merge_place n
+    → Stops (Some depth) target 0 status p ⊎ (IsAcceptedText (Some depth) target × Stops (Some (patch_depth depth)) patch 1 status p)
+no_merge_stops depth target patch (merge.Target s) status p h i j = inl (stops (Some depth) target s 0 status p h i j)
+no_merge_stops depth target patch (merge.Patch s) status p h i j = inr (h.0, stops (Some (patch_depth depth)) patch s 1 status p h.1 i j)

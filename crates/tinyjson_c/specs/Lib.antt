@@ -10,3 +10,5 @@ pub mod Message
 pub mod Part
 -- Texts of which each is a line.
 pub mod Lines
+-- The tree of a text with that of a patch merged into it.
+pub mod Merge

@@ -10,6 +10,7 @@ ghost use Rattle.tinyjson.specs.Error.{JsonParseErrorKind};
 ghost use Rattle.tinyjson.specs.Words.{Tree, compact, indented};
 ghost use Rattle.tinyjson_c.specs.Buffer.{Fills, HasWritten, LacksRoom};
 ghost use Rattle.tinyjson_c.specs.Lines.{AreLines, StopsAtLine, lines_text};
+ghost use Rattle.tinyjson_c.specs.Merge.{Merges, patch_depth};
 ghost use Rattle.tinyjson_c.specs.Message.{error_words};
 ghost use Rattle.tinyjson_c.specs.Part.{IsBadPointer, IsNoText, Leads};
 ghost use Rattle.tinyjson_c.specs.Place.{IsError, length_place};
@@ -19,12 +20,14 @@ ghost use Rattle.tinyjson_normal.specs.Normal.{IsNormal};
 
 mod buffer;
 mod lines;
+mod merge;
 mod message;
 mod part;
 mod place;
 mod status;
 mod stop;
 mod text;
+mod value;
 
 use buffer::{fill, put};
 use message::{Message, kind_at};
@@ -207,6 +210,34 @@ pub extern "C" fn tinyjson_part(
     ensures left { result ≢ OK → buffer.new ≡ buffer.old }
 {
     match part::part(alloc, text, pointer, depth) {
+        Ok(written) => put(&written, buffer, place),
+        Err(none) => none.put(place),
+    }
+}
+
+/// Writes the normal text of a target with a merge patch (RFC 7396) applied to the front of a buffer, if it has room
+/// there. At most `depth` containers of the target, and at most 1,000 of the patch, may be open at once. The target is
+/// read first, and the place says which text has no value.
+#[unsafe(no_mangle)]
+pub extern "C" fn tinyjson_merge(
+    alloc: Global,
+    target: &[u8],
+    patch: &[u8],
+    depth: usize,
+    buffer: &mut [u8],
+    place: &mut TinyjsonPlace,
+) -> u32
+    ensures written { result ≡ OK → (m : Tree) × Merges depth target.now patch.now m
+        × HasWritten (encode_utf8_all (compact m)) buffer.old buffer.new place.new }
+    ensures too_small { result ≡ TOO_SMALL → (m : Tree) × Merges depth target.now patch.now m
+        × LacksRoom (encode_utf8_all (compact m)) buffer.old place.new }
+    ensures stopped { result ≢ OK → result ≢ TOO_SMALL
+        → Stops (Some depth) target.now 0 result place.new
+        ⊎ (IsAcceptedText (Some depth) target.now
+        × Stops (Some (patch_depth depth)) patch.now 1 result place.new) }
+    ensures left { result ≢ OK → buffer.new ≡ buffer.old }
+{
+    match merge::merged(alloc, target, patch, depth) {
         Ok(written) => put(&written, buffer, place),
         Err(none) => none.put(place),
     }

@@ -1,0 +1,35 @@
+//! Values that are changed: read from texts, and written as normal texts.
+ghost use Rattle.std.specs.Prelude.{◌≡◌, IfOk, MatchResult, Some, encode_utf8_all};
+ghost use Rattle.tinyjson.specs.View.{view};
+ghost use Rattle.tinyjson.specs.Words.{compact};
+ghost use Rattle.tinyjson_c.specs.Stop.{IsStopped, IsTextOf};
+
+use crate::stop::{Stop, text_of};
+use std::alloc::{AllocError, Global};
+use tinyjson::JsonValue;
+
+/// The value of a text in which at most `depth` containers are open at once.
+pub(crate) fn read(alloc: Global, bytes: &[u8], depth: usize) -> Result<JsonValue, Stop>
+    ensures { MatchResult result (λ v. IsTextOf (Some depth) bytes.now (view v))
+        (IsStopped (Some depth) bytes.now) }
+{
+    let text = match text_of(bytes) {
+        Ok(text) => text,
+        Err(stop) => return Err(stop),
+    };
+    match JsonValue::from_str_with_depth_limit(alloc, text, depth) {
+        Ok(value) => Ok(value),
+        Err(error) => Err(Stop::of(error)),
+    }
+}
+
+/// The normal text of a value.
+pub(crate) fn written(alloc: Global, value: &JsonValue) -> Result<Vec<u8>, AllocError>
+    ensures { IfOk result (λ v. v.items ≡ encode_utf8_all (compact (view value.now))) }
+{
+    let mut written = Vec::new(alloc);
+    match value.write_to(alloc, &mut written) {
+        Ok(()) => Ok(written),
+        Err(_) => Err(AllocError),
+    }
+}
