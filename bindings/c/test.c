@@ -128,7 +128,8 @@ static bool writes_all_sizes(writes *call, const struct row *row, struct bytes e
 }
 
 static uint32_t call_pair(const struct pair *pair, uint8_t *buffer, size_t room, struct tinyjson_place *place) {
-    return pair->call(pair->one.at, pair->one.length, pair->other.at, pair->other.length, pair->depth, buffer, room, place);
+    struct bytes one = pair->one, other = pair->other;
+    return pair->call(one.at, one.length, other.at, other.length, pair->depth, buffer, room, place);
 }
 
 static bool answers_pair(const struct pair *pair) {
@@ -374,8 +375,8 @@ static struct tinyjson_place place_of(char **fields) {
 }
 
 static uint32_t status_of(const char *name) {
-    static const char *const names[] = {"OK", "REFUSED", "NOT_UTF8", "OUT_OF_MEMORY", "TOO_SMALL", "NO_ERROR", "NOT_FOUND",
-                                        "BAD_POINTER"};
+    static const char *const names[] = {"OK", "REFUSED", "NOT_UTF8", "OUT_OF_MEMORY", "TOO_SMALL", "NO_ERROR",
+                                        "NOT_FOUND", "BAD_POINTER", "BAD_PATCH", "FAILED"};
     uint32_t status = 0;
     while (strcmp(names[status], name) != 0) {
         status++;
@@ -383,13 +384,16 @@ static uint32_t status_of(const char *name) {
     return status;
 }
 
+static writes_of_two *call_of(const char *name) {
+    return strcmp(name, "part") == 0 ? tinyjson_part : strcmp(name, "merge") == 0 ? tinyjson_merge : tinyjson_patch;
+}
+
 /* A line: a call, its two texts, the limit, the status, what is written, and the place. */
 static void check_pair(struct counts *counts, char *line) {
     char *fields[PAIR_FIELDS];
     split(line, fields, PAIR_FIELDS);
-    struct pair pair = {fields[0], strcmp(fields[0], "part") == 0 ? tinyjson_part : tinyjson_merge, of_hex(fields[1]),
-                        of_hex(fields[2]), of_hex(fields[5]), strtoul(fields[3], NULL, 10), status_of(fields[4]),
-                        place_of(fields + 6)};
+    struct pair pair = {fields[0], call_of(fields[0]), of_hex(fields[1]), of_hex(fields[2]), of_hex(fields[5]),
+                        strtoul(fields[3], NULL, 10), status_of(fields[4]), place_of(fields + 6)};
     pair.place.text = strtoul(fields[11], NULL, 10);
     struct row row = {.text = pair.other};
     count(counts, answers_pair(&pair), pair.name, &row);

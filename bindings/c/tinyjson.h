@@ -1,4 +1,4 @@
-/* tinyjson for C: JSON texts (RFC 8259) are checked, normalized, indented, compared and merged.
+/* tinyjson for C: JSON texts (RFC 8259) are checked, normalized, indented, compared and patched.
  *
  * A text is `length` bytes in UTF-8, in which at most `depth` containers are open at once. A call returns a
  * status, and answers through its pointers. It keeps nothing, and shares nothing with other calls.
@@ -26,7 +26,9 @@ enum tinyjson_status {
     TINYJSON_TOO_SMALL = 4,     /* the buffer has no room, and is left alone: the place has the length needed */
     TINYJSON_NO_ERROR = 5,      /* no error has this place */
     TINYJSON_NOT_FOUND = 6,     /* the pointer names no part */
-    TINYJSON_BAD_POINTER = 7    /* a pointer is empty, or begins with '/' and has '~' only in "~0" and "~1" */
+    TINYJSON_BAD_POINTER = 7,   /* a pointer is empty, or begins with '/' and has '~' only in "~0" and "~1" */
+    TINYJSON_BAD_PATCH = 8,     /* the patch is no array of operations: the place has the number of the fault */
+    TINYJSON_FAILED = 9         /* an operation can't be applied: the place has its number */
 };
 
 /* Why a text is refused. Those with a character name it in `found`. */
@@ -68,7 +70,7 @@ struct tinyjson_place {
     uint32_t found; /* a code point, or a tinyjson_value */
     size_t line;    /* from 1 on */
     size_t column;  /* how many characters were consumed after the last line feed */
-    size_t length;  /* how many bytes the answer has, or precede what is not UTF-8 */
+    size_t length;  /* how many bytes the answer has, or precede what is not UTF-8; or an operation, from 0 on */
     size_t text;    /* which text of the call, from 0 on: the second of two, a pointer, a line */
 };
 
@@ -102,6 +104,12 @@ uint32_t tinyjson_part(const uint8_t *text, size_t length, const uint8_t *pointe
 /* The normal text of a target with a merge patch (RFC 7396) applied, into the buffer. The patch may be no deeper than
  * 1,000 containers, whatever the limit: the call takes stack as it is deep. The target is read first. */
 uint32_t tinyjson_merge(const uint8_t *target, size_t length, const uint8_t *patch, size_t patch_length, size_t depth,
+                        uint8_t *buffer, size_t room, struct tinyjson_place *place);
+
+/* The normal text of a text with a patch (RFC 6902) applied, all of its operations or none, into the buffer. The patch
+ * may be no deeper than 1,000 containers, and a pointer in it have no more tokens, whatever the limit. The text is read
+ * first. The number of a fault is that of the first item that is no operation, and 0 where the patch is no array. */
+uint32_t tinyjson_patch(const uint8_t *text, size_t length, const uint8_t *patch, size_t patch_length, size_t depth,
                         uint8_t *buffer, size_t room, struct tinyjson_place *place);
 
 /* The message of the error at a place, into the buffer, and its length. */

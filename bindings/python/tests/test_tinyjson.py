@@ -106,11 +106,13 @@ class Lines(unittest.TestCase):
         self.assertEqual(tinyjson.normal_lines(b""), b"")
 
 
-# What a call with two texts raises, by its status, and the numbers of the place that the exception has.
+# What a call with two texts raises, by its status, and the numbers of the place that are attributes of the exception.
 RAISED = {
-    "REFUSED": (tinyjson.Refused, lambda it, place: (it.kind, it.line, it.column, it.text) == (place[0], *place[2:4], place[5])),
-    "NOT_UTF8": (tinyjson.NotUtf8, lambda it, place: (it.valid_up_to, it.text) == (place[4], place[5])),
-    "BAD_POINTER": (tinyjson.BadPointer, lambda it, place: True),
+    "REFUSED": (tinyjson.Refused, {"kind": 0, "line": 2, "column": 3, "text": 5}),
+    "NOT_UTF8": (tinyjson.NotUtf8, {"valid_up_to": 4, "text": 5}),
+    "BAD_POINTER": (tinyjson.BadPointer, {}),
+    "BAD_PATCH": (tinyjson.BadPatch, {"operation": 4}),
+    "FAILED": (tinyjson.Failed, {"operation": 4}),
 }
 
 
@@ -124,10 +126,11 @@ class Pairs(unittest.TestCase):
             call, one, other, written = getattr(tinyjson, name), *map(bytes.fromhex, (one, other, written))
             with self.subTest(call=name, one=one, other=other):
                 if status in RAISED:
-                    error, is_right = RAISED[status]
+                    error, attributes = RAISED[status]
                     with self.assertRaises(error) as raised:
                         call(one, other, int(depth))
-                    self.assertTrue(is_right(raised.exception, [*map(int, place)]))
+                    for attribute, at in attributes.items():
+                        self.assertEqual(getattr(raised.exception, attribute), int(place[at]))
                 else:
                     self.answers(call, one, other, int(depth), None if status == "NOT_FOUND" else written)
 

@@ -1,4 +1,4 @@
-"""JSON texts (RFC 8259), checked, normalized, indented, compared and merged by proved code.
+"""JSON texts (RFC 8259), checked, normalized, indented, compared and patched by proved code.
 
 >>> import tinyjson
 >>> tinyjson.normal('{"b": [1.50, true], "a": 2e3}')
@@ -14,15 +14,16 @@ import os
 import pathlib
 from typing import Any, Callable, Optional, Union, overload
 
-__all__ = ["DEPTH", "BadPointer", "Error", "Kind", "NotUtf8", "Refused", "Value"]
-__all__ += ["check", "equal", "indented", "is_normal", "merge", "normal", "normal_lines", "part"]
+__all__ = ["DEPTH", "BadPatch", "BadPointer", "Error", "Failed", "Kind", "NotUtf8", "Refused", "Value"]
+__all__ += ["check", "equal", "indented", "is_normal", "merge", "normal", "normal_lines", "part", "patch"]
 
 Text = Union[str, bytes]
 
 #: The limit on depth that calls have by default.
 DEPTH = 1000
 
-_OK, _REFUSED, _NOT_UTF8, _OUT_OF_MEMORY, _TOO_SMALL, _NO_ERROR, _NOT_FOUND, _BAD_POINTER = range(8)
+_OK, _REFUSED, _NOT_UTF8, _OUT_OF_MEMORY, _TOO_SMALL, _NO_ERROR, _NOT_FOUND = range(7)
+_BAD_POINTER, _BAD_PATCH, _FAILED = range(7, 10)
 
 
 class Kind(enum.IntEnum):
@@ -60,8 +61,8 @@ class Value(enum.IntEnum):
 
 
 class Error(ValueError):
-    """A text has no value. `text` is its number, from 0 on: 1 is the second one of `equal`, the patch of `merge` or the
-    pointer of `part`; of `normal_lines` it is that of a line."""
+    """A text has no value. `text` is its number, from 0 on: 1 is the second one of `equal`, the patch of `merge` and
+    `patch` or the pointer of `part`; of `normal_lines` it is that of a line."""
 
     def __init__(self, message: str, text: int) -> None:
         super().__init__(message)
@@ -89,6 +90,22 @@ class NotUtf8(Error):
 
 class BadPointer(ValueError):
     """The pointer of `part` is no JSON pointer."""
+
+
+class BadPatch(ValueError):
+    """The item of this number, from 0 on, is the first that is no operation. It is 0 where the patch is no array."""
+
+    def __init__(self, operation: int) -> None:
+        super().__init__(f"not a JSON patch: no operation {operation}")
+        self.operation = operation
+
+
+class Failed(ValueError):
+    """The operation of this number, from 0 on, can't be applied."""
+
+    def __init__(self, operation: int) -> None:
+        super().__init__(f"operation {operation} can't be applied")
+        self.operation = operation
 
 
 class _Place(ctypes.Structure):
@@ -129,6 +146,7 @@ _is_normal = _call("tinyjson_is_normal", _bytes, _size, ctypes.POINTER(ctypes.c_
 _equal = _call("tinyjson_equal", _bytes, _size, _bytes, _size, _size, ctypes.POINTER(ctypes.c_bool), _place)
 _part = _call("tinyjson_part", _bytes, _size, _bytes, _size, _size, _bytes, _size, _place)
 _merge = _call("tinyjson_merge", _bytes, _size, _bytes, _size, _size, _bytes, _size, _place)
+_patch = _call("tinyjson_patch", _bytes, _size, _bytes, _size, _size, _bytes, _size, _place)
 _words = _call("tinyjson_message", _place, _bytes, _size, ctypes.POINTER(_size))
 
 
@@ -169,6 +187,10 @@ def _raise(status: int, place: _Place) -> None:
         raise NotUtf8(place.length, place.text)
     if status == _BAD_POINTER:
         raise BadPointer("not a JSON pointer")
+    if status == _BAD_PATCH:
+        raise BadPatch(place.length)
+    if status == _FAILED:
+        raise Failed(place.length)
     if status != _OK:
         raise MemoryError("tinyjson")
 
@@ -245,12 +267,29 @@ def merge(target: str, patch: Text, depth: int = ...) -> str: ...
 @overload
 def merge(target: bytes, patch: Text, depth: int = ...) -> bytes: ...
 def merge(target: Text, patch: Text, depth: int = DEPTH) -> Text:
-    """The normal text of a target with a merge patch (RFC 7396) applied. The patch may be no deeper than 1,000 containers.
+    """The normal text of a target with a merge patch (RFC 7396) applied.
+
+    The patch may be no deeper than 1,000 containers.
 
     >>> merge('{"a": 1, "b": {}}', '{"a": null, "b": {"c": 2.0}}')
     '{"b":{"c":2}}'
     """
     return _like(target, _written(_merge, depth, target, patch))
+
+
+@overload
+def patch(text: str, operations: Text, depth: int = ...) -> str: ...
+@overload
+def patch(text: bytes, operations: Text, depth: int = ...) -> bytes: ...
+def patch(text: Text, operations: Text, depth: int = DEPTH) -> Text:
+    """The normal text of a text with a patch (RFC 6902) applied, all of its operations or none.
+
+    The patch may be no deeper than 1,000 containers, and a pointer in it have no more tokens.
+
+    >>> patch('{"a": 1, "b": 2.0}', '[{"op": "remove", "path": "/a"}]')
+    '{"b":2}'
+    """
+    return _like(text, _written(_patch, depth, text, operations))
 
 
 def is_normal(text: Text) -> bool:

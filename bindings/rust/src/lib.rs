@@ -1,4 +1,4 @@
-//! JSON texts (RFC 8259), checked, normalized, indented, compared and merged by proved code.
+//! JSON texts (RFC 8259), checked, normalized, indented, compared and patched by proved code.
 //!
 //! ```
 //! let text = r#"{"b": [1.50, true], "a": 2e3}"#;
@@ -73,14 +73,19 @@ pub enum Error {
         line: usize,
         /// How many characters were consumed after the last line feed.
         column: usize,
-        /// Which text of the call this is, from 0 on: the second one of [`equal`], the patch of [`merge`], the
-        /// pointer of [`part`], or a line of [`normal_lines`].
+        /// Which text of the call this is, from 0 on: the second one of [`equal`], the patch of [`merge`] and
+        /// [`patch`], the pointer of [`part`], or a line of [`normal_lines`].
         text: usize,
     },
     /// The bytes are not UTF-8 after `valid_up_to` of them.
     NotUtf8 { valid_up_to: usize, text: usize },
     /// The pointer of [`part`] is no JSON pointer.
     BadPointer,
+    /// The item of this number, from 0 on, is the first of the patch that is no operation. It is 0 where the patch is
+    /// no array.
+    BadPatch { operation: usize },
+    /// The operation of this number, from 0 on, can't be applied.
+    Failed { operation: usize },
     /// Memory ran out. The text may have a value or not.
     OutOfMemory,
 }
@@ -105,6 +110,10 @@ impl fmt::Display for Error {
             }
             Error::NotUtf8 { valid_up_to, .. } => write!(f, "Not UTF-8 after {valid_up_to} bytes"),
             Error::BadPointer => f.write_str("Not a JSON pointer"),
+            Error::BadPatch { operation } => {
+                write!(f, "Not a JSON patch: no operation {operation}")
+            }
+            Error::Failed { operation } => write!(f, "Operation {operation} can't be applied"),
             Error::OutOfMemory => f.write_str("Out of memory"),
         }
     }
@@ -213,9 +222,42 @@ pub fn merge(
     patch: impl AsRef<[u8]>,
     depth: usize,
 ) -> Result<String, Error> {
-    let (target, patch) = (target.as_ref(), patch.as_ref());
-    let text = written(target.len() + patch.len(), |buffer| {
-        sys::write_of_two(sys::tinyjson_merge, target, patch, depth, buffer)
+    changed(sys::tinyjson_merge, target.as_ref(), patch.as_ref(), depth)
+}
+
+/// The normal text of a text with a patch (RFC 6902) applied, all of its operations or none. The patch may be no deeper
+/// than 1,000 containers, and a pointer in it have no more tokens, whatever the limit.
+///
+/// ```
+/// use tinyjson_proved::{patch, Error};
+///
+/// let operations = r#"[{"op": "remove", "path": "/a"}]"#;
+/// assert_eq!(patch(r#"{"a": 1, "b": 2.0}"#, operations, 9)?, r#"{"b":2}"#);
+/// assert_eq!(patch("{}", operations, 9), Err(Error::Failed { operation: 0 }));
+/// # Ok::<(), tinyjson_proved::Error>(())
+/// ```
+pub fn patch(
+    text: impl AsRef<[u8]>,
+    operations: impl AsRef<[u8]>,
+    depth: usize,
+) -> Result<String, Error> {
+    changed(
+        sys::tinyjson_patch,
+        text.as_ref(),
+        operations.as_ref(),
+        depth,
+    )
+}
+
+/// What a call writes that has an answer for each two texts with which it does not fail.
+fn changed(
+    call: sys::WritesOfTwo,
+    text: &[u8],
+    patch: &[u8],
+    depth: usize,
+) -> Result<String, Error> {
+    let text = written(text.len() + patch.len(), |buffer| {
+        sys::write_of_two(call, text, patch, depth, buffer)
     })?;
     Ok(text.unwrap_or_default())
 }
@@ -270,6 +312,12 @@ fn answer(status: Status, place: &Place) -> Result<(), Error> {
             text,
         }),
         Status::BAD_POINTER => Err(Error::BadPointer),
+        Status::BAD_PATCH => Err(Error::BadPatch {
+            operation: place.length,
+        }),
+        Status::FAILED => Err(Error::Failed {
+            operation: place.length,
+        }),
         Status::REFUSED => match kind(place.kind, place.found) {
             Some(kind) => Err(Error::Refused {
                 kind,

@@ -12,6 +12,8 @@ impl Status {
     pub(crate) const TOO_SMALL: Status = Status(4);
     pub(crate) const NOT_FOUND: Status = Status(6);
     pub(crate) const BAD_POINTER: Status = Status(7);
+    pub(crate) const BAD_PATCH: Status = Status(8);
+    pub(crate) const FAILED: Status = Status(9);
 }
 
 /// What a call answers besides its status.
@@ -90,6 +92,16 @@ extern "C" {
     ) -> Status;
     pub(crate) fn tinyjson_merge(
         target: *const u8,
+        length: usize,
+        patch: *const u8,
+        patch_length: usize,
+        depth: usize,
+        buffer: *mut u8,
+        room: usize,
+        place: *mut Place,
+    ) -> Status;
+    pub(crate) fn tinyjson_patch(
+        text: *const u8,
         length: usize,
         patch: *const u8,
         patch_length: usize,

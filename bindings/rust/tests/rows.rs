@@ -2,7 +2,7 @@
 use std::thread;
 
 use tinyjson_proved::{
-    check, equal, indented, is_normal, merge, normal, normal_lines, part, Error, Kind,
+    check, equal, indented, is_normal, merge, normal, normal_lines, part, patch, Error, Kind,
 };
 
 /// A line of the file: a text, its limit, and what is expected of it.
@@ -175,17 +175,21 @@ fn answers_each_pair() {
         let fields: Vec<&str> = line.split('\t').collect();
         let (one, other) = (bytes(fields[1]), bytes(fields[2]));
         let depth = fields[3].parse().unwrap();
+        let operation = fields[10].parse().unwrap();
         let expected = match (fields[4], fields[11]) {
             ("OK", _) => Ok(Some(text(fields[5]))),
             ("NOT_FOUND", _) => Ok(None),
             ("BAD_POINTER", _) => Err(Error::BadPointer),
+            ("BAD_PATCH", _) => Err(Error::BadPatch { operation }),
+            ("FAILED", _) => Err(Error::Failed { operation }),
             (_, "0") => Err(error_of(&one, depth, 0)),
             _ => Err(error_of(&other, depth.min(1000), 1)),
         };
         let answer = match (fields[0], std::str::from_utf8(&other)) {
             ("part", Ok(pointer)) => part(&one, pointer, depth),
             ("part", Err(_)) => continue,
-            (_, _) => merge(&one, &other, depth).map(Some),
+            ("patch", _) => patch(&one, &other, depth).map(Some),
+            _ => merge(&one, &other, depth).map(Some),
         };
         assert_eq!(answer, expected);
     }

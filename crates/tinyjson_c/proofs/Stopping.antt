@@ -5,14 +5,17 @@ use Rattle.std.specs.Str.{IsUtf8, chars}
 use Rattle.tinyjson.specs.declared.parser.error.JsonParseError.{JsonParseError}
 use Rattle.tinyjson_c.specs.Merge.{IsNoMerge, no_merge_place, no_merge_status, patch_depth}
 use Rattle.tinyjson_c.specs.Part.{IsNoPart, IsNoText, no_part_place, no_part_status}
+use Rattle.tinyjson_c.specs.Patch.{IsUnpatched, unpatched_place, unpatched_status}
 use Rattle.tinyjson_c.specs.Place.{length_place}
 use Rattle.tinyjson_c.specs.Stop.{IsAcceptedText, IsStopped, StopOf, Stops, stop_place, stop_status}
 use Rattle.tinyjson_c.specs.declared.merge.NoMerge.{NoMerge}
 use Rattle.tinyjson_c.specs.declared.merge.NoMerge.TheVariants as merge
 use Rattle.tinyjson_c.specs.declared.part.NoPart.{NoPart}
 use Rattle.tinyjson_c.specs.declared.part.NoPart.TheVariants as none
+use Rattle.tinyjson_c.specs.declared.patch.Unpatched.{Unpatched}
+use Rattle.tinyjson_c.specs.declared.patch.Unpatched.TheVariants as un
 use Rattle.tinyjson_c.specs.declared.place.TinyjsonPlace.{TinyjsonPlace}
-use Rattle.tinyjson_c.specs.declared.status.TheConstants.{BAD_POINTER, NOT_FOUND}
+use Rattle.tinyjson_c.specs.declared.status.TheConstants.{BAD_PATCH, BAD_POINTER, FAILED, NOT_FOUND}
 use Rattle.tinyjson_c.specs.declared.stop.Stop.{Stop}
 use Rattle.tinyjson_c.specs.declared.stop.Stop.TheVariants as stop
 use Rattle.tinyjson_grammar.specs.Grammar.{IsAccepted}
@@ -84,3 +87,13 @@ pub no_merge_stops : (depth : ℕ) (target patch : List ℕ) (n : NoMerge) (stat
     → Stops (Some depth) target 0 status p ⊎ (IsAcceptedText (Some depth) target × Stops (Some (patch_depth depth)) patch 1 status p)
 no_merge_stops depth target patch (merge.Target s) status p h i j = inl (stops (Some depth) target s 0 status p h i j)
 no_merge_stops depth target patch (merge.Patch s) status p h i j = inr (h.0, stops (Some (patch_depth depth)) patch s 1 status p h.1 i j)
+
+-- the same of a call that patches, but that there is no patch, or that an operation fails
+pub unpatched_stops : (depth : ℕ) (text patch : List ℕ) (n : Unpatched) (status : ℕ) (p : TinyjsonPlace) → IsUnpatched depth text patch n
+    → status ≡ unpatched_status n → p ≡ unpatched_place n → ¬ (status ≡ FAILED) → ¬ (status ≡ BAD_PATCH)
+    → Stops (Some depth) text 0 status p ⊎ (IsAcceptedText (Some depth) text × Stops (Some (patch_depth depth)) patch 1 status p)
+unpatched_stops depth text patch (un.Text s) status p h i j failed bad = inl (stops (Some depth) text s 0 status p h i j)
+unpatched_stops depth text patch (un.Patch s) status p h i j failed bad =
+    inr (h.0, stops (Some (patch_depth depth)) patch s 1 status p h.1 i j)
+unpatched_stops depth text patch (un.BadPatch n) status p h i j failed bad = absurd (bad i)
+unpatched_stops depth text patch (un.Failed n) status p h i j failed bad = absurd (failed i)

@@ -12,3 +12,5 @@ pub mod Part
 pub mod Lines
 -- The tree of a text with that of a patch merged into it.
 pub mod Merge
+-- The tree of a text after the operations of a patch.
+pub mod Patch

@@ -3,8 +3,8 @@
 #![tactic(auto)]
 
 ghost use Rattle.std.specs.Char.{IsScalar};
-ghost use Rattle.std.specs.Prelude.{◌≡◌, ◌≢◌, ◌<◌, ◌⊎◌, ◌↔◌, IsTrue, List, None, Some, codes};
-ghost use Rattle.std.specs.Prelude.{encode_utf8_all, length};
+ghost use Rattle.std.specs.Prelude.{◌≡◌, ◌≢◌, ◌<◌, ◌⊎◌, ◌↔◌, ℕ, IsTrue, List, None, Some, codes};
+ghost use Rattle.std.specs.Prelude.{Ok, encode_utf8_all, length};
 ghost use Rattle.std.specs.Str.{IsUtf8, chars};
 ghost use Rattle.tinyjson.specs.Error.{JsonParseErrorKind};
 ghost use Rattle.tinyjson.specs.Words.{Tree, compact, indented};
@@ -13,6 +13,7 @@ ghost use Rattle.tinyjson_c.specs.Lines.{AreLines, StopsAtLine, lines_text};
 ghost use Rattle.tinyjson_c.specs.Merge.{Merges, patch_depth};
 ghost use Rattle.tinyjson_c.specs.Message.{error_words};
 ghost use Rattle.tinyjson_c.specs.Part.{IsBadPointer, IsNoText, Leads};
+ghost use Rattle.tinyjson_c.specs.Patch.{Fails, IsBadPatch, Patches};
 ghost use Rattle.tinyjson_c.specs.Place.{IsError, length_place};
 ghost use Rattle.tinyjson_c.specs.Stop.{IsAcceptedText, IsTextOf, Stops};
 ghost use Rattle.tinyjson_grammar.specs.Refusal.{MayGrow};
@@ -23,6 +24,7 @@ mod lines;
 mod merge;
 mod message;
 mod part;
+mod patch;
 mod place;
 mod status;
 mod stop;
@@ -33,7 +35,8 @@ use buffer::{fill, put};
 use message::{Message, kind_at};
 pub use place::TinyjsonPlace;
 pub use status::{
-    BAD_POINTER, NO_ERROR, NOT_FOUND, NOT_UTF8, OK, OUT_OF_MEMORY, REFUSED, TOO_SMALL,
+    BAD_PATCH, BAD_POINTER, FAILED, NO_ERROR, NOT_FOUND, NOT_UTF8, OK, OUT_OF_MEMORY, REFUSED,
+    TOO_SMALL,
 };
 use std::alloc::Global;
 use stop::text_of;
@@ -238,6 +241,39 @@ pub extern "C" fn tinyjson_merge(
     ensures left { result ≢ OK → buffer.new ≡ buffer.old }
 {
     match merge::merged(alloc, target, patch, depth) {
+        Ok(written) => put(&written, buffer, place),
+        Err(none) => none.put(place),
+    }
+}
+
+/// Writes the normal text of a text with a patch (RFC 6902) applied to the front of a buffer, if it has room there. At most
+/// `depth` containers of the text, and at most 1,000 of the patch, may be open at once. The text is read first, and the
+/// place says which of them is at fault. Where the patch is no list of operations, or one of them can't be applied, the
+/// length is the number of the first such item, from 0 on.
+#[unsafe(no_mangle)]
+pub extern "C" fn tinyjson_patch(
+    alloc: Global,
+    text: &[u8],
+    patch: &[u8],
+    depth: usize,
+    buffer: &mut [u8],
+    place: &mut TinyjsonPlace,
+) -> u32
+    ensures written { result ≡ OK → (u : Tree) × Patches depth text.now patch.now (Ok u)
+        × HasWritten (encode_utf8_all (compact u)) buffer.old buffer.new place.new }
+    ensures too_small { result ≡ TOO_SMALL → (u : Tree) × Patches depth text.now patch.now (Ok u)
+        × LacksRoom (encode_utf8_all (compact u)) buffer.old place.new }
+    ensures failed { result ≡ FAILED → (n : ℕ) × Fails depth text.now patch.now n
+        × (place.new ≡ length_place 1 n) }
+    ensures bad_patch { result ≡ BAD_PATCH → (n : ℕ) × IsBadPatch depth text.now patch.now n
+        × (place.new ≡ length_place 1 n) }
+    ensures stopped { result ≢ OK → result ≢ TOO_SMALL → result ≢ FAILED → result ≢ BAD_PATCH
+        → Stops (Some depth) text.now 0 result place.new
+        ⊎ (IsAcceptedText (Some depth) text.now
+        × Stops (Some (patch_depth depth)) patch.now 1 result place.new) }
+    ensures left { result ≢ OK → buffer.new ≡ buffer.old }
+{
+    match patch::patched(alloc, text, patch, depth) {
         Ok(written) => put(&written, buffer, place),
         Err(none) => none.put(place),
     }

@@ -16,3 +16,7 @@ pub const NO_ERROR: u32 = 5;
 pub const NOT_FOUND: u32 = 6;
 /// The text of the pointer is that of no pointer.
 pub const BAD_POINTER: u32 = 7;
+/// The patch is no list of operations.
+pub const BAD_PATCH: u32 = 8;
+/// An operation of the patch can't be applied.
+pub const FAILED: u32 = 9;
