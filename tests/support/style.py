@@ -7,7 +7,7 @@ word. The pages are read in one form: a list of paragraphs, with an item of a li
 import re
 
 # The words of all pages together, but of the changelog, and those of a sentence.
-ALL_WORDS = 39_000
+ALL_WORDS = 28_000
 MEAN, LONGEST = 20, 40
 
 # What is said in plainer words: `nested`, `scalar`, `without building a value`, `accepts`, `returns`, `is in`.
