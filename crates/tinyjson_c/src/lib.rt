@@ -218,7 +218,7 @@ pub extern "C" fn tinyjson_part(
     }
 }
 
-/// Writes the normal text of a target with a merge patch (RFC 7396) applied to the front of a buffer, if it has room
+/// Writes the normal text of a target, with a merge patch (RFC 7396) applied, to the front of a buffer, if it has room
 /// there. At most `depth` containers of the target, and at most 1,000 of the patch, may be open at once. The target is
 /// read first, and the place says which text has no value.
 #[unsafe(no_mangle)]
@@ -246,8 +246,8 @@ pub extern "C" fn tinyjson_merge(
     }
 }
 
-/// Writes the normal text of a text with a patch (RFC 6902) applied to the front of a buffer, if it has room there. At most
-/// `depth` containers of the text, and at most 1,000 of the patch, may be open at once. The text is read first, and the
+/// Writes the normal text of a text, with a patch (RFC 6902) applied, to the front of a buffer, if it has room there. At
+/// most `depth` containers of the text, and at most 1,000 of the patch, may be open at once. The text is read first, and the
 /// place says which of them is at fault. Where the patch is no list of operations, or one of them can't be applied, the
 /// length is the number of the first such item, from 0 on.
 #[unsafe(no_mangle)]
