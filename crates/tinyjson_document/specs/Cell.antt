@@ -1,4 +1,4 @@
--- Which tree a node stands for, by recursion on the tree. For private contracts.
+-- Which tree a cell stands for, by recursion on the tree. For private contracts.
 use Rattle.std.specs.Prelude.{◌≡◌, ℕ, ◌+◌, List, [], ◌∷◌, ◌++◌, length, ⊤}
 use Rattle.std.specs.Str.{IsUtf8, chars}
 use Rattle.tinyjson_number.specs.Decimal.{Decimal}
@@ -11,7 +11,7 @@ use Rattle.tinyjson_document.specs.declared.store.Cell.TheVariants as node
 use Rattle.tinyjson_document.specs.declared.store.Member.{Member}
 use Rattle.tinyjson_document.specs.declared.store.Store.{Store}
 
--- the elements from the one place to the other
+-- the elements in the range
 pub record IsRun {A : Type 0} (xs : List A) (s : Span) (ys : List A) : Type 0 where
   pub front : List A
   pub back : List A
@@ -23,14 +23,14 @@ pub record IsRun {A : Type 0} (xs : List A) (s : Span) (ys : List A) : Type 0 wh
 abbrev pub IsBytes : List ℕ → List ℕ → Type 0
 IsBytes cs bytes = IsUtf8 bytes × (cs ≡ chars bytes)
 
--- the characters that stand there in UTF-8
+-- the range has these characters in UTF-8
 pub record IsText (s : Store) (cs : List ℕ) (p : Span) : Type 0 where
   pub bytes : List ℕ
   pub run : IsRun s.texts.items p bytes
   pub utf8 : IsUtf8 bytes
   pub characters : cs ≡ chars bytes
 
--- the number that stands there
+-- the number at the index
 pub record IsNumberAt (s : Store) (d : Decimal) (n : ℕ) : Type 0 where
   pub front : List Canonical
   pub here : Canonical
@@ -60,7 +60,7 @@ abbrev mutual
   AreMembers s (member k t ms) [] = ⊥
   AreMembers s (member k t ms) (e ∷ es) = IsText s k e.key × Is s t e.value × AreMembers s ms es
 
--- more stands after the list
+-- the second list begins with the first one
 abbrev pub Extends : {A : Type 0} → List A → List A → Type 0
 Extends {A} xs ys = (more : List A) × (ys ≡ xs ++ more)
 

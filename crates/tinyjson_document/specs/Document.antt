@@ -1,4 +1,4 @@
--- What contracts see of a document, of a place in it, and of what is left of a container: trees.
+-- What contracts see of a document, of a value in it, and of what is left of a container: trees.
 use Rattle.std.specs.Prelude.{◌≡◌, ℕ, List, Option, Some, None}
 use Rattle.std.specs.Borrow.{Bor}
 use Rattle.std.specs.Str.{chars}
@@ -8,7 +8,7 @@ use Rattle.tinyjson_document.specs.declared.node.Node.{Node}
 use Rattle.tinyjson_document.specs.declared.iterators.Items.{Items as ItemsLeft}
 use Rattle.tinyjson_document.specs.declared.iterators.Members.{Members as MembersLeft}
 
--- the tree of the text that was read
+-- the tree of the text that was parsed
 abbrev pub document_tree : Document → Tree
 document_tree d = d.known.tree
 
@@ -19,7 +19,7 @@ HasTree d t = document_tree d ≡ t
 abbrev pub tree : Node → Tree
 tree n = n.known.tree
 
--- the items that an iterator has left
+-- the items that are left
 abbrev pub items_left : ItemsLeft → Items
 items_left s = s.known.items
 
@@ -28,7 +28,7 @@ abbrev pub GivesItem : ItemsLeft → Option Node → ItemsLeft → Type 0
 GivesItem s None t = (items_left s ≡ no_items) × (items_left t ≡ no_items)
 GivesItem s (Some n) t = items_left s ≡ item (tree n) (items_left t)
 
--- the members that an iterator has left
+-- the members that are left
 abbrev pub members_left : MembersLeft → Members
 members_left s = s.known.members
 

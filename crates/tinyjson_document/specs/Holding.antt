@@ -1,4 +1,4 @@
--- For which open containers an arena stands, and for which tree, once all are closed.
+-- Which open containers an arena has, and which tree it has once all are closed.
 use Rattle.std.specs.Prelude.{◌≡◌, ℕ, List, [], ◌∷◌, ◌++◌, length, ⊤}
 use Rattle.tinyjson_grammar.specs.Tree.{Tree, items_of, Members, no_members, put}
 use Rattle.tinyjson.specs.Events.{Open, in_array, at_key, at_value}
@@ -13,12 +13,12 @@ use Rattle.tinyjson_document.specs.declared.arena.Arena.{Arena}
 abbrev pub Entry : Type 0
 Entry = List ℕ × Tree
 
--- each value put at its key in turn: of equal keys the last stays
+-- each value put at its key in turn: of equal keys the last one is kept
 abbrev pub put_all : Members → List Entry → Members
 put_all ms [] = ms
 put_all ms (e ∷ es) = put_all (put e.0 e.1 ms) es
 
--- keys and values that wait, in the order of the text, where R says what a value stands for at its key
+-- the pending keys and values are these entries, in the order of the text; R relates a key, its tree and its cell
 abbrev pub AreEntriesBy : Store → (List ℕ → Tree → Cell → Type 0) → List Entry → List Span → List Cell → Type 0
 AreEntriesBy s R [] [] [] = ⊤
 AreEntriesBy s R [] [] (v ∷ vs) = ⊥
@@ -36,7 +36,7 @@ pub record Gathers (s : Store) (ms : Members) (ks : List Span) (vs : List Cell) 
   pub members : ms ≡ put_all no_members entries
   pub waiting : AreEntries s entries ks vs
 
--- those of an object whose last key has no value yet
+-- the members of an object, and its last key, which has no value yet
 pub record Awaits (s : Store) (ms : Members) (k : List ℕ) (ks : List Span) (vs : List Cell) : Type 0 where
   pub before : List Span
   pub key : Span
@@ -50,13 +50,13 @@ IsOpen s (in_array ts) ks vs = (ks ≡ []) × Are s (items_of ts) vs
 IsOpen s (at_key ms) ks vs = Gathers s ms ks vs
 IsOpen s (at_value ms k) ks vs = Awaits s ms k ks vs
 
--- what waits: the places where the open containers begin, keys and values
+-- what is pending: the places where the open containers begin, the keys and the values
 pub record Waiting : Type 0 where
   pub places : List Place
   pub keys : List Span
   pub values : List Cell
 
--- the last of what waits belongs to the innermost container
+-- the last of what is pending belongs to the innermost container
 pub record Splits (all outer : Waiting) (ks : List Span) (vs : List Cell) : Type 0 where
   pub place : Place
   pub places : all.places ≡ outer.places ++ (place ∷ [])
@@ -73,10 +73,10 @@ HoldsIn s w (o ∷ os) =
 abbrev pub waiting_in : Arena → Waiting
 waiting_in a = record { places = a.open.items; keys = a.keys.items; values = a.values.items }
 
--- the arena stands for these open containers, the innermost first
+-- the arena has these open containers, the innermost first
 abbrev pub Holds : Arena → List Open → Type 0
 Holds a os = HoldsIn a.store (waiting_in a) os
 
--- the arena stands for the tree: no container is open
+-- the arena has this tree, and no container is open
 abbrev pub IsTree : Arena → Tree → Type 0
 IsTree a t = (n : Cell) × (a.values.items ≡ n ∷ []) × Is a.store t n

@@ -1,4 +1,4 @@
--- The tree that a cell stands for: there is one at the most.
+-- The tree that a cell stands for: there is at most one.
 use Rattle.std.specs.Prelude.{◌≡◌, ℕ, ◌+◌, List, [], ◌∷◌, ◌++◌, length, take, drop}
 use Rattle.std.proofs.Common.{Bool, true, false, true≢false, refl, sym, ◌∙◌, ap, subst, arith}
 use Rattle.std.proofs.lemmas.List.{take_at, drop_at}
@@ -34,7 +34,7 @@ pub record KnownItems (s : Store) (ns : List Cell) : Type 0 where
   pub are : ∥ Are s items ns ∥₁
   pub sound : ∥ IsTree (array items) ∥₁
 
--- and the members for those of an object
+-- the entries stand for the members of an object
 pub record KnownMembers (s : Store) (es : List Member) : Type 0 where
   pub members : Members
   pub are : ∥ AreMembers s members es ∥₁

@@ -1,10 +1,10 @@
 -- What public contracts say of documents, and the parts of a tree.
 pub mod Document
 pub mod Parts
--- Which tree a cell stands for, and that there is one at the most.
+-- Which tree a cell stands for, and that there is at most one.
 pub mod Cell
 pub mod Known
--- For which open containers an arena stands.
+-- Which open containers an arena has.
 pub mod Holding
 -- The order of members.
 pub mod Order

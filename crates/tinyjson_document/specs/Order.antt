@@ -1,4 +1,4 @@
--- Members in the order of their keys, of equal keys the last. For private contracts.
+-- Members in the order of their keys; of equal keys only the last. For private contracts.
 use Rattle.std.specs.Prelude.{⊤, ℕ, Bool, true, false, ◌&&◌, cond, min, Option, Some, None, List, [], ◌∷◌, length}
 use Rattle.std.specs.List.{slice_range}
 use Rattle.std.specs.List.Sorted.{IsPermutation, IsSortedBy, IsStableBy}
@@ -12,7 +12,7 @@ use Rattle.tinyjson_document.specs.declared.store.Store.{Store}
 use Rattle.tinyjson_document.specs.Cell.{IsText}
 use Rattle.tinyjson_grammar.specs.Tree.{Tree, Members, no_members, member}
 
--- what stands from the one place to the other, as far as there is any
+-- the elements in the range, as far as there are any
 abbrev pub part : {A : Type 0} → List A → Span → List A
 part xs p = slice_range xs (min p.from (min p.to (length xs))) (min p.to (length xs))
 
@@ -20,7 +20,7 @@ part xs p = slice_range xs (min p.from (min p.to (length xs))) (min p.to (length
 abbrev pub key_in : List ℕ → Member → List ℕ
 key_in xs m = part xs m.key
 
--- the key of the one member is below that of the other
+-- the key of the first member is less than that of the second
 abbrev pub key_lt : List ℕ → Member → Member → Bool
 key_lt xs m n = is_lt (slice_cmp nat_cmp (key_in xs m) (key_in xs n))
 
@@ -30,38 +30,38 @@ paired [] vs = []
 paired (k ∷ ks) [] = []
 paired (k ∷ ks) (v ∷ vs) = record { key = k; value = v } ∷ paired ks vs
 
--- the first of the members has that key
+-- the first of the members has the same key
 abbrev pub comes_again : List ℕ → Member → List Member → Bool
 comes_again xs m [] = false
 comes_again xs m (n ∷ ns) = bytes_eq (key_in xs m) (key_in xs n)
 
--- of neighbours with one key the last
+-- of neighbours with equal keys only the last
 abbrev pub lasts : List ℕ → List Member → List Member
 lasts xs [] = []
 lasts xs (m ∷ ms) = cond (comes_again xs m ms) (lasts xs ms) (m ∷ lasts xs ms)
 
--- the first of the members has a key above that one
+-- the first of the members has a greater key
 abbrev pub is_below_next : List ℕ → Member → List Member → Bool
 is_below_next xs m [] = true
 is_below_next xs m (n ∷ ns) = key_lt xs m n
 
--- each key is below the next one
+-- each key is less than the next one
 abbrev pub rise : List ℕ → List Member → Bool
 rise xs [] = true
 rise xs (m ∷ ms) = is_below_next xs m ms && rise xs ms
 
--- the first of the members with a key of these bytes
+-- the first of the members whose key has these bytes
 abbrev pub member_with : List ℕ → List ℕ → List Member → Option Member
 member_with xs bs [] = None
 member_with xs bs (m ∷ ms) = cond (bytes_eq bs (key_in xs m)) (Some m) (member_with xs bs ms)
 
--- the members in the order of their keys, those of equal keys in their own
+-- the members, stably sorted by their keys
 pub record IsOrdered (xs : List ℕ) (ms ns : List Member) : Type 0 where
   pub permuted : IsPermutation ms ns
   pub sorted : IsSortedBy (key_lt xs) ns
   pub stable : IsStableBy (key_lt xs) ms ns
 
--- the members of an object, where R says what a value stands for at its key
+-- these are the members of an object; R relates a key, its tree and its cell
 abbrev pub AreMembersBy : Store → (List ℕ → Tree → Cell → Type 0) → Members → List Member → Type 0
 AreMembersBy s R no_members [] = ⊤
 AreMembersBy s R no_members (e ∷ es) = ⊥

@@ -1,4 +1,4 @@
--- The parts of a tree that a place in a document gives.
+-- What a node returns of its tree.
 use Rattle.std.specs.Prelude.{ℕ, suc, Bool, List, Option, Some, None}
 use Rattle.tinyjson.specs.Index.{item_count}
 use Rattle.tinyjson_number.specs.Decimal.{Decimal}
@@ -29,7 +29,7 @@ abbrev pub member_count : Members → ℕ
 member_count no_members = 0
 member_count (member k t ms) = suc (member_count ms)
 
--- how many items or members a tree has
+-- the number of items or members of a tree
 abbrev pub size : Tree → ℕ
 size (array ts) = item_count ts
 size (object ms) = member_count ms

@@ -1,4 +1,4 @@
--- What a walk has still to write, and how many steps that takes. For private contracts.
+-- What a walk has left to write, and how many steps that takes. For private contracts.
 use Rattle.std.specs.Prelude.{◌≡◌, ℕ, zero, suc, ◌+◌, ◌-◌, nat_eq, Bool, false, not, ◌&&◌, cond, codes, List, [], ◌∷◌, ◌++◌, Option, Result}
 use Rattle.std.specs.Prelude.{MatchResult}
 use Rattle.std.specs.Prelude.{length, reverse, encode_utf8_all}
@@ -18,7 +18,7 @@ use Rattle.tinyjson_document.specs.declared.walk.Rest.{Rest}
 use Rattle.tinyjson_document.specs.declared.walk.Rest.TheVariants as rest
 use Rattle.tinyjson_document.specs.declared.walk.Walk.{Walk}
 
--- the text of a tree, but of a container its opening bracket alone
+-- the text of a scalar, or the opening bracket of a container
 abbrev pub head : Tree → List ℕ
 head null = codes "null"
 head (boolean b) = cond b (codes "true") (codes "false")
@@ -47,13 +47,13 @@ module _ (w : Option (List ℕ)) where
   AreLeft s [] xs = xs ≡ []
   AreLeft s (r ∷ rs) xs = (own : List ℕ) × (outer : List ℕ) × (xs ≡ own ++ outer) × IsRest (length rs) s r own × AreLeft s rs outer
 
-  -- of the text all is sent but what is left
+  -- all of the text is written but what is left
   pub record Advanced (s : Store) (old new : Output) (xs : List ℕ) (rs : List Rest) : Type 0 where
     pub left : List ℕ
     pub are_left : AreLeft s rs left
     pub sent : Sent old new (encode_utf8_all xs) (encode_utf8_all left)
 
-  -- on `Ok` that, and on `Err` a prefix of it is written
+  -- `Ok`: that; `Err`: a prefix of it is written
   abbrev pub AdvancesFrom : {T E : Type 0} → Store → Output → Output → List ℕ → List Rest → Result T E → Type 0
   AdvancesFrom s old new xs rs result =
       MatchResult result (λ _. Advanced s old new xs rs) (λ _. SentPart old new (encode_utf8_all xs))
@@ -63,7 +63,7 @@ Advances contents p q old new xs result =
     AdvancesFrom (indent_of old.indent) old.store.now (contents p, buffered old.buffer) (contents q, buffered new.buffer) xs
     (reverse new.stack.items) result
 
--- The same of what is left of the innermost container, which is not on the stack.
+-- `Advances`, with what is left of the innermost container, which is not on the stack
 abbrev pub Passes : {W E : Type 0} → (W → Option (List ℕ)) → W → W → Walk → Walk → List ℕ → Result Rest E → Type 0
 Passes contents p q old new xs result =
     let before : Output = (contents p, buffered old.buffer) in
@@ -71,7 +71,7 @@ Passes contents p q old new xs result =
     MatchResult result (λ r. Advanced (indent_of old.indent) old.store.now before after xs (r ∷ reverse old.stack.items))
     (λ _. SentPart before after (encode_utf8_all xs))
 
--- the steps that a value takes in which no more than that many containers are nested
+-- the steps for a value in which at most this many containers are nested
 abbrev pub cost : Store → ℕ → Cell → ℕ
 cost s zero n = 1
 cost s (suc f) node.Null = 1

@@ -1,4 +1,4 @@
-//! Short texts, appended by vectors.
+//! Appending short texts to a vector.
 ghost use Rattle.std.specs.Prelude.{◌≡◌, ◌++◌, ◌∷◌, [], IfOk, OnOk, encode_utf8_all};
 ghost use Rattle.std.specs.Bool.{MatchBool};
 ghost use Rattle.tinyjson_grammar.specs.Characters.{quotation_mark};
@@ -8,10 +8,10 @@ use std::alloc::AllocError;
 use tinyjson_bytes::copy;
 use tinyjson_number::JsonNumber;
 
-/// So many bytes are appended first, of which those that are meant stay.
+/// How many bytes are appended at once. The vector is then cut to the length that is meant.
 pub const ROOM: usize = 32;
 
-/// So many bytes have room between quotes, with a byte behind them.
+/// The longest text that fits into [`ROOM`] with its quotes and the byte after them.
 const SHORT: usize = ROOM - 3;
 
 /// Appends the bytes.
@@ -29,7 +29,7 @@ pub fn append(text: &mut Vec<u8>, bytes: &[u8]) -> Result<(), AllocError>
     Ok(())
 }
 
-/// Appends the bytes between quotes, and a byte behind them.
+/// Appends the bytes in quotes, and one byte after them.
 #[inline(always)]
 pub fn append_quoted(text: &mut Vec<u8>, bytes: &[u8], behind: u8) -> Result<(), AllocError>
     ensures { OnOk result (text.new.items ≡ ((text.old.items ++ quotation_mark ∷ [])

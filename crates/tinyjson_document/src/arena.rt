@@ -1,4 +1,4 @@
-//! The arena, and the events that it is built by.
+//! The arena, and the events that build it.
 ghost use Rattle.std.specs.Prelude.{◌++◌, [], encode_utf8_all};
 ghost use Rattle.tinyjson.specs.Events.{literal_tree};
 ghost use Rattle.tinyjson.specs.Indent.{indent_of};
@@ -16,14 +16,14 @@ use std::alloc::{AllocError, Global};
 use std::io::{self, ErrorKind, Write};
 use tinyjson::{Events, JsonNumber};
 
-/// Where the keys and the values of an open container begin among those that wait.
+/// Where the pending keys and values of an open container begin.
 #[derive(Clone, Copy)]
 pub(crate) struct Place {
     pub(crate) keys: usize,
     pub(crate) values: usize,
 }
 
-/// A value that is built by the events of a text: values and keys wait until their container is closed.
+/// A tree that is built from a text's events. Keys and values are pending until their container is closed.
 #[derive(Drop)]
 pub struct Arena {
     pub(crate) store: Store,
@@ -32,12 +32,12 @@ pub struct Arena {
     pub(crate) values: Vec<Cell>,
     /// The members of the object that is being closed.
     sorted: Vec<Member>,
-    /// The most containers that were open at once.
+    /// The greatest number of containers that were open at once.
     pub(crate) deepest: usize,
 }
 
 impl Arena {
-    /// An arena in which no container is open and no value stands.
+    /// An empty arena: it has no value, and no container is open.
     pub fn new(alloc: Global) -> Self
         ensures { Holds result [] }
     {
@@ -51,7 +51,7 @@ impl Arena {
         }
     }
 
-    /// Writes the text of the tree, compact or indented by a text, in UTF-8, and the bytes behind it.
+    /// Writes the tree's text in UTF-8, compact or with this indent, and the given bytes after it.
     pub fn write_to<'a, W: Write>(
         &'a self,
         alloc: Global,
@@ -109,7 +109,7 @@ impl Events for Arena {
         Ok(())
     }
 
-    /// The members are sorted by their keys. Of equal keys the last stays.
+    /// The members are sorted by their keys. Of equal keys the last one is kept.
     fn close_object(&mut self) -> Result<(), AllocError> {
         let Some(place) = self.open.pop() else {
             return Err(AllocError);

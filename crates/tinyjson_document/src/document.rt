@@ -1,4 +1,4 @@
-//! The document: a text that was read.
+//! The document: a text that was parsed.
 ghost use Rattle.tinyjson_document.specs.Known.{Known, Known_prop};
 
 use crate::arena::Arena;
@@ -7,8 +7,8 @@ use crate::store::{Cell, Store};
 use std::alloc::Global;
 use tinyjson::{JsonParseError, read_events, read_events_with_depth_limit};
 
-/// A JSON text that was read once, kept to be looked into: its values stand in vectors, the members of an object
-/// in the order of their keys.
+/// A JSON text that was parsed once, to be read in place. It is immutable, and it is kept in a few vectors. The
+/// members of an object are in the order of their keys.
 ///
 /// ```
 /// let document = Document::read(alloc, r#"{"name": "n", "tags": ["a", "b"]}"#)?;
@@ -19,7 +19,7 @@ use tinyjson::{JsonParseError, read_events, read_events_with_depth_limit};
 pub struct Document {
     pub(crate) store: Store,
     root: Cell,
-    /// The most containers that are nested.
+    /// The depth: how many containers are nested at most.
     pub(crate) deepest: usize,
     ghost known: { Known store root } by { Known_prop store root },
 }
@@ -33,8 +33,8 @@ impl Document {
     ghost use Rattle.tinyjson_document.specs.Document.{document_tree, HasTree, tree};
     ghost use Rattle.tinyjson_document.specs.Holding.{IsTree};
 
-    /// Reads a text, as `JsonValue::from_str` does: a tree exactly where that gives a value, and else its error,
-    /// unless memory runs out.
+    /// Parses a text as `JsonValue::from_str` does: into the tree of the same value, or with the same error. Only
+    /// memory may run out for one of the two alone.
     ///
     /// ```
     /// let result = Document::read(alloc, "01");
@@ -49,8 +49,7 @@ impl Document {
         }
     }
 
-    /// Reads a text in which at most `limit` containers are open at once, as
-    /// `JsonValue::from_str_with_depth_limit` does.
+    /// Parses a text with at most `limit` nested containers, as `JsonValue::from_str_with_depth_limit` does.
     ///
     /// ```
     /// assert!(rt; Document::read_with_depth_limit(alloc, "[[1]]", 2).is_ok());
@@ -70,7 +69,7 @@ impl Document {
         }
     }
 
-    /// The value of the text.
+    /// The root: the value of the whole text.
     ///
     /// ```
     /// let document = Document::read(alloc, "[1]")?;
@@ -85,7 +84,7 @@ impl Document {
         }
     }
 
-    /// What was read into an arena.
+    /// The document of what an arena has built.
     fn of_arena(arena: Arena) -> Document
         requires { (t : Tree) × IsTree arena t × sound.IsTree t }
         ensures { (t : Tree) → IsTree arena t → HasTree result t }

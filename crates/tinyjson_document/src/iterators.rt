@@ -1,4 +1,4 @@
-//! The items of an array and the members of an object, one after the other.
+//! Iterators over the items of an array and over the members of an object.
 ghost use Rattle.tinyjson_document.specs.Known.{KnownItems, KnownItems_prop};
 ghost use Rattle.tinyjson_document.specs.Known.{KnownMembers, KnownMembers_prop};
 
@@ -6,7 +6,7 @@ use crate::document::Document;
 use crate::node::Node;
 use crate::store::{Cell, Member, text_at};
 
-/// The items of an array that are left.
+/// Iterates over the items of an array. Contracts see the items that are left.
 #[derive(Clone, Copy, Drop)]
 pub struct Items<'d> {
     pub(crate) document: &'d Document,
@@ -36,7 +36,8 @@ impl<'d> Iterator for Items<'d> {
     }
 }
 
-/// The members of an object that are left.
+/// Iterates over the members of an object, in the order of their keys' bytes. Contracts see the members that are
+/// left.
 #[derive(Clone, Copy, Drop)]
 pub struct Members<'d> {
     pub(crate) document: &'d Document,

@@ -1,5 +1,5 @@
-//! A JSON text that is read once and looked into: a document keeps the tree in vectors, with no map, and a node is
-//! a place in it.
+//! JSON documents to be read: a text is parsed once into a tree in a few vectors, with no map for each object. A
+//! node is a value in it, and is copied like an index.
 #![tactic(auto)]
 
 #[doc(hidden)]

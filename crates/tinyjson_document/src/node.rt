@@ -7,9 +7,9 @@ use crate::sorting::find;
 use crate::store::{Cell, Span, part, text_at};
 use tinyjson::{JsonKind, JsonNumber};
 
-/// A value in a document: a place, which is copied as it is.
+/// A value in a document. It is a reference and an index, so it is copied freely.
 ///
-/// Contracts see it as its `tree`, the part of the document's tree that it stands for.
+/// Contracts see it as its `tree`: the part of the document's tree that it stands for.
 ///
 /// ```
 /// let document = Document::read(alloc, r#"{"b": [1.50], "a": null}"#)?;
@@ -35,7 +35,7 @@ impl<'d> Node<'d> {
     ghost use Rattle.tinyjson_document.specs.Parts.{boolean_in, number_in, string_in, size};
     ghost use Rattle.tinyjson_document.specs.Parts.{items_in, members_in};
 
-    /// Which kind of value it is.
+    /// The kind of the value.
     ///
     /// ```
     /// assert!(rt; document.root().kind() == JsonKind::Object);
@@ -60,7 +60,7 @@ impl<'d> Node<'d> {
         matches!(self.cell, Cell::Null)
     }
 
-    /// Whether it is a truth value.
+    /// Whether it is a boolean.
     pub fn is_bool(&self) -> bool
         ensures { result ≡ is_boolean (tree self.now) }
     {
@@ -95,7 +95,7 @@ impl<'d> Node<'d> {
         matches!(self.cell, Cell::Object(_))
     }
 
-    /// Its truth value, or `None` where it is of another kind.
+    /// The boolean, or `None` if the value is of another kind.
     pub fn boolean(&self) -> Option<bool>
         ensures { result ≡ boolean_in (tree self.now) }
     {
@@ -105,7 +105,7 @@ impl<'d> Node<'d> {
         }
     }
 
-    /// Its number, exact, or `None` where it is of another kind.
+    /// The number, exact, or `None` if the value is of another kind.
     pub fn number(&self) -> Option<&'d JsonNumber>
         ensures { option_map (λ n. n.now.decimal) result ≡ number_in (tree self.now) }
     {
@@ -115,7 +115,7 @@ impl<'d> Node<'d> {
         }
     }
 
-    /// Its characters, or `None` where it is no string.
+    /// The characters of the string, or `None` if the value is of another kind.
     pub fn string(&self) -> Option<&'d str>
         ensures { option_map (λ s. chars s.now) result ≡ string_in (tree self.now) }
     {
@@ -125,7 +125,7 @@ impl<'d> Node<'d> {
         }
     }
 
-    /// How many items or members it has: of a scalar none.
+    /// The number of items or members; 0 for a scalar.
     pub fn len(&self) -> usize
         ensures { result ≡ size (tree self.now) }
     {
@@ -136,7 +136,7 @@ impl<'d> Node<'d> {
         }
     }
 
-    /// The item at the index, from 0 on, or `None` where there is none or it is no array.
+    /// The item at the index, from 0 on. `None` if there is none, or if the value is no array.
     pub fn item(&self, index: usize) -> Option<Node<'d>>
         ensures { option_map tree result ≡ tree_at (tree self.now) index }
     {
@@ -150,8 +150,8 @@ impl<'d> Node<'d> {
         })
     }
 
-    /// The member at the key, of equal keys the last one of the text, or `None` where there is none or it is no
-    /// object. It is found by bisection.
+    /// The member with the key: of equal keys in the text, the last one. `None` if there is none, or if the value
+    /// is no object. It is found by binary search.
     pub fn member(&self, key: &str) -> Option<Node<'d>>
         ensures { option_map tree result ≡ tree_at_key (tree self.now) (chars key.now) }
     {
@@ -166,7 +166,7 @@ impl<'d> Node<'d> {
         })
     }
 
-    /// Its items, in their order: of what is no array none.
+    /// The items, in order; none if the value is no array.
     pub fn items(&self) -> Items<'d>
         ensures { items_left result ≡ items_in (tree self.now) }
     {
@@ -180,7 +180,7 @@ impl<'d> Node<'d> {
         }
     }
 
-    /// Its members with their keys, in the order of the keys' bytes: of what is no object none.
+    /// The members with their keys, in the order of the keys' bytes; none if the value is no object.
     pub fn members(&self) -> Members<'d>
         ensures { members_left result ≡ members_in (tree self.now) }
     {

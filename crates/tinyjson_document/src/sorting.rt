@@ -27,7 +27,7 @@ pub(crate) fn pair(
     Ok(())
 }
 
-/// Sorts the members by the bytes of their keys. Those of equal keys stay in their order.
+/// Sorts the members by the bytes of their keys. The sort is stable.
 pub fn sort(texts: &[u8], members: &mut Vec<Member>) -> Result<(), AllocError>
     ensures permutation { IsPermutation members.old.items members.new.items }
     ensures sorted { OnOk result (IsSortedBy (key_lt texts.now) members.new.items) }
@@ -37,7 +37,7 @@ pub fn sort(texts: &[u8], members: &mut Vec<Member>) -> Result<(), AllocError>
     Ok(())
 }
 
-/// Whether each key is below the next one.
+/// Whether each key is less than the next one.
 pub fn rise(texts: &[u8], members: &[Member]) -> bool
     ensures { result ≡ rise texts.now members.now }
 {
@@ -51,7 +51,7 @@ pub fn rise(texts: &[u8], members: &[Member]) -> bool
     true
 }
 
-/// Whether the key of a member is below that of the first of the others.
+/// Whether the member's key is less than that of the first of the others.
 fn is_below_next(texts: &[u8], member: Member, others: &[Member]) -> bool
     ensures { result ≡ is_below_next texts.now member others.now }
 {
@@ -61,7 +61,7 @@ fn is_below_next(texts: &[u8], member: Member, others: &[Member]) -> bool
     }
 }
 
-/// Pushes the sorted members, of those with one key the last.
+/// Appends the sorted members; of those with equal keys, only the last.
 pub fn push_lasts(
     texts: &[u8],
     members: &mut Vec<Member>,
@@ -77,7 +77,7 @@ pub fn push_lasts(
     Ok(())
 }
 
-/// Pushes a member, unless its key comes again.
+/// Appends a member, unless the first of the others has the same key.
 fn push_last(
     texts: &[u8],
     members: &mut Vec<Member>,
@@ -93,7 +93,7 @@ fn push_last(
     Ok(())
 }
 
-/// Whether the first of the others has the key of this member.
+/// Whether the first of the others has the same key.
 fn comes_again(texts: &[u8], member: Member, others: &[Member]) -> bool
     ensures { result ≡ comes_again texts.now member others.now }
 {
@@ -103,7 +103,7 @@ fn comes_again(texts: &[u8], member: Member, others: &[Member]) -> bool
     }
 }
 
-/// The member with the key, where the keys rise.
+/// Finds the member with the key by binary search. Each key has to be less than the next one.
 pub fn find<'a>(texts: &[u8], members: &'a [Member], key: &[u8]) -> Option<&'a Member>
     ensures { rise texts.now members.now ≡ true →
         option_map (λ m. m.now) result ≡ member_with texts.now key.now members.now }

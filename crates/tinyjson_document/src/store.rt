@@ -1,4 +1,4 @@
-//! Nodes, and what they stand on: vectors that only grow.
+//! The cells of a document, and the vectors that hold their parts. The vectors only grow.
 ghost use Rattle.std.specs.Prelude.{◌≡◌, ℕ, [], List, IfOk, OnOk, Some, drop, option_map, take};
 ghost use Rattle.std.specs.Str.{chars};
 ghost use Rattle.tinyjson_document.specs.Cell.{IsBytes, IsRun, IsText, IsNumberAt, Grows};
@@ -11,14 +11,14 @@ use std::alloc::{AllocError, Global};
 use std::{mem, str};
 use tinyjson_number::JsonNumber;
 
-/// The places of a vector from `from` up to `to`.
+/// A range of indices: from `from` up to `to`, without `to`.
 #[derive(Clone, Copy)]
 pub struct Span {
     pub from: usize,
     pub to: usize,
 }
 
-/// What stands at these places, as far as there is any.
+/// The elements in the range, as far as there are any.
 pub fn part<T>(all: &[T], span: Span) -> &[T]
     ensures { result.now ≡ part all.now span }
 {
@@ -27,7 +27,7 @@ pub fn part<T>(all: &[T], span: Span) -> &[T]
     &all[from..to]
 }
 
-/// The characters that stand there, if it is UTF-8.
+/// The text in the range, if its bytes are UTF-8.
 pub fn text_at(texts: &[u8], span: Span) -> Option<&str>
     ensures { (cs : List ℕ) → IsBytes cs (part texts.now span) →
         option_map (λ s. chars s.now) result ≡ Some cs }
@@ -38,7 +38,7 @@ pub fn text_at(texts: &[u8], span: Span) -> Option<&str>
     }
 }
 
-/// A value. Its text, its number, its items or its members stand in the store.
+/// A value. Its text, its number, its items or its members are in the store.
 #[derive(Clone, Copy)]
 pub enum Cell {
     Null,
@@ -49,14 +49,14 @@ pub enum Cell {
     Object(Span),
 }
 
-/// A member of an object. Its key is a run of the texts.
+/// A member of an object. Its key is a range of the texts.
 #[derive(Clone, Copy)]
 pub struct Member {
     pub key: Span,
     pub value: Cell,
 }
 
-/// What nodes stand on. A node stays what it is while the vectors grow.
+/// The vectors that hold the parts of all values. A cell keeps its meaning while they grow.
 #[derive(Drop)]
 pub struct Store {
     /// The characters of strings and keys, in UTF-8.
@@ -112,8 +112,8 @@ impl Store {
         })
     }
 
-    /// Moves the items of an array here, which are the last of the values that wait. The first items of all are
-    /// not copied.
+    /// Moves the last of the pending values here, as the items of an array. The very first items are moved without
+    /// a copy.
     pub fn take_items(&mut self, values: &mut Vec<Cell>, from: usize) -> Result<Span, AllocError>
         ensures items { IfOk result (λ span.
             IsRun self.new.items.items span (drop from values.old.items)) }
@@ -131,7 +131,7 @@ impl Store {
         Ok(span)
     }
 
-    /// Makes all values that wait the items, where there are none.
+    /// Takes all pending values as items, where there are none yet.
     fn swap_items(&mut self, values: &mut Vec<Cell>) -> Span
         requires none { self.old.items.items ≡ [] }
         ensures items { IsRun self.new.items.items result values.old.items }
@@ -145,7 +145,7 @@ impl Store {
         }
     }
 
-    /// Appends the members of an object in the order of their keys, of those with one key the last.
+    /// Appends the members of an object in the order of their keys; of those with equal keys, only the last.
     pub fn add_object(&mut self, members: &mut Vec<Member>) -> Result<Span, AllocError>
         ensures members { IfOk result (λ span. (ns : List Member)
             × IsOrdered self.old.texts.items members.old.items ns
@@ -159,7 +159,7 @@ impl Store {
         self.add_members(members)
     }
 
-    /// Appends the members of an object, whose keys rise.
+    /// Appends the members of an object, of which each key is less than the next one.
     fn add_rising(&mut self, members: &[Member]) -> Result<Span, AllocError>
         ensures members { IfOk result (λ span.
             IsRun self.new.members.items span members.now) }
@@ -173,7 +173,7 @@ impl Store {
         })
     }
 
-    /// Appends the members of an object, which are sorted: of those with one key the last.
+    /// Appends the sorted members of an object; of those with equal keys, only the last.
     pub fn add_members(&mut self, sorted: &[Member]) -> Result<Span, AllocError>
         ensures members { IfOk result (λ span. IsRun self.new.members.items span
             (lasts self.old.texts.items sorted.now)) }

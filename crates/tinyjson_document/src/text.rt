@@ -19,12 +19,12 @@ impl<'d> Node<'d> {
     ghost use Rattle.tinyjson.specs.View.{view};
     ghost use Rattle.tinyjson_document.specs.Document.{tree};
 
-    /// Writes its compact text, in UTF-8, and flushes nothing: the bytes that `JsonValue::write_to` of the value
-    /// writes.
+    /// Writes the compact text in UTF-8: the bytes that `JsonValue::write_to` writes for its value. It does not
+    /// flush.
     ///
-    /// It ends with the first error: the writer's own, an interruption too; one of kind `WriteZero` where the
-    /// writer takes nothing; or one of kind `OutOfMemory` where there is no memory for the open containers. Then
-    /// a prefix of the text is written.
+    /// It stops at the first error: the writer's own, also an interruption; one of kind `WriteZero` if the writer
+    /// accepts no byte; or one of kind `OutOfMemory` if there is no memory for the open containers. Then a prefix
+    /// of the text is written.
     pub fn write_to<W: Write>(&self, alloc: Global, out: &mut W) -> io::Result<()>
         ensures { WritesText (W.contents out.old) (W.contents out.new)
             (compact (tree self.now)) result }
@@ -32,8 +32,8 @@ impl<'d> Node<'d> {
         self.write(alloc, None, b"", out)
     }
 
-    /// Writes its text indented with two spaces, in UTF-8, and flushes nothing: the bytes that
-    /// `JsonValue::format_to` of the value writes. The errors are those of [`Node::write_to`].
+    /// Writes the text indented with two spaces, in UTF-8: the bytes that `JsonValue::format_to` writes for its
+    /// value. It does not flush. The errors are those of [`Node::write_to`].
     pub fn format_to<W: Write>(&self, alloc: Global, out: &mut W) -> io::Result<()>
         ensures { WritesText (W.contents out.old) (W.contents out.new)
             (indented (tree self.now) (codes "  ") 0) result }
@@ -58,14 +58,14 @@ impl<'d> Node<'d> {
         self.write(alloc, Some(INDENT), b"\n", out)
     }
 
-    /// Its compact text: what `stringify` of the value returns.
+    /// The compact text: what `JsonValue::stringify` returns for its value.
     pub fn to_string(&self, alloc: Global) -> JsonGenerateResult
         ensures { IfOk result (λ s. chars (string_bytes s) ≡ compact (tree self.now)) }
     {
         self.written(alloc, None)
     }
 
-    /// Its text indented with two spaces: what `format` of the value returns.
+    /// The text indented with two spaces: what `JsonValue::format` returns for its value.
     pub fn format(&self, alloc: Global) -> JsonGenerateResult
         ensures { IfOk result (λ s. chars (string_bytes s)
             ≡ indented (tree self.now) (codes "  ") 0) }
@@ -73,9 +73,9 @@ impl<'d> Node<'d> {
         self.written(alloc, Some(INDENT))
     }
 
-    /// Its value, which is read from its compact text.
+    /// Its value, which is parsed from the compact text.
     ///
-    /// The error says that memory ran out.
+    /// The only error is out of memory.
     pub fn to_value(&self, alloc: Global) -> Result<JsonValue, AllocError>
         ensures { IfOk result (λ v. view v ≡ tree self.now) }
     {
@@ -88,7 +88,7 @@ impl<'d> Node<'d> {
         }
     }
 
-    /// Writes its text, compact or indented by a text, and the bytes behind it.
+    /// Writes the text, compact or with this indent, and the given bytes after it.
     fn write<W: Write>(
         &self,
         alloc: Global,
@@ -108,7 +108,7 @@ impl<'d> Node<'d> {
         root.write_to(alloc, indent, behind, out)
     }
 
-    /// Its text, compact or indented by a text.
+    /// The text, compact or with this indent.
     fn written(&self, alloc: Global, indent: Option<&str>) -> JsonGenerateResult
         requires { IfSome (indent_of indent) (λ i. IsTrue (all_scalars i)) }
         ensures { IfOk result (λ s.

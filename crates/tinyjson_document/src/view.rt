@@ -1,4 +1,4 @@
-//! What is looked into, whatever keeps the tree.
+//! One trait for reading a tree, whatever type holds it.
 ghost use Rattle.std.specs.Prelude.{◌≡◌, Option, option_map};
 ghost use Rattle.std.specs.Str.{chars};
 ghost use Rattle.tinyjson.specs.Index.{tree_at, tree_at_key};
@@ -9,8 +9,8 @@ ghost use Rattle.tinyjson_document.specs.Parts.{boolean_in, number_in, string_in
 use crate::node::Node;
 use tinyjson::{JsonKind, JsonNumber, JsonValue};
 
-/// A tree that is looked into: a value in a document, or a `&JsonValue`. What is written for it, as a search or
-/// a check, serves both, and is proved once.
+/// A tree to be read: a value in a document, or a `&JsonValue`. A search or a check that is written for this trait
+/// works on both, and is proved once.
 ///
 /// Contracts see it as its `tree`.
 ///
@@ -25,31 +25,31 @@ use tinyjson::{JsonKind, JsonNumber, JsonValue};
 pub trait JsonView<'t>: Copy {
     ghost tree: { Self → Tree };
 
-    /// Which kind of value it is.
+    /// The kind of the value.
     fn kind(&self) -> JsonKind
         ensures { result ≡ kind_of (tree self.now) };
 
-    /// Its truth value, or `None` where it is of another kind.
+    /// The boolean, or `None` if the value is of another kind.
     fn boolean(&self) -> Option<bool>
         ensures { result ≡ boolean_in (tree self.now) };
 
-    /// Its number, exact, or `None` where it is of another kind.
+    /// The number, exact, or `None` if the value is of another kind.
     fn number(&self) -> Option<&'t JsonNumber>
         ensures { option_map (λ n. n.now.decimal) result ≡ number_in (tree self.now) };
 
-    /// Its characters, or `None` where it is no string.
+    /// The characters of the string, or `None` if the value is of another kind.
     fn string(&self) -> Option<&'t str>
         ensures { option_map (λ s. chars s.now) result ≡ string_in (tree self.now) };
 
-    /// How many items or members it has: of a scalar none.
+    /// The number of items or members; 0 for a scalar.
     fn len(&self) -> usize
         ensures { result ≡ size (tree self.now) };
 
-    /// The item at the index, from 0 on, or `None` where there is none or it is no array.
+    /// The item at the index, from 0 on. `None` if there is none, or if the value is no array.
     fn item(&self, index: usize) -> Option<Self>
         ensures { option_map tree result ≡ tree_at (tree self.now) index };
 
-    /// The member at the key, or `None` where there is none or it is no object.
+    /// The member with the key. `None` if there is none, or if the value is no object.
     fn member(&self, key: &str) -> Option<Self>
         ensures { option_map tree result ≡ tree_at_key (tree self.now) (chars key.now) };
 }

@@ -1,4 +1,4 @@
-//! The text of a tree in an arena, written without recursion: what is left of the open containers is on a stack.
+//! Writes the text of a tree in an arena, without recursion: what is left of the open containers is on a stack.
 ghost use Rattle.std.specs.Prelude.{◌≡◌, ◌≤◌, ◌<◌, ◌+◌, ◌-◌, ◌++◌, ◌∷◌, [], ℕ, List, suc, length};
 ghost use Rattle.std.specs.Prelude.{reverse, false, IfOk, OnOk, MatchOption, IfSome, Option, cond};
 ghost use Rattle.std.specs.Str.{encode_utf8_all};
@@ -24,15 +24,16 @@ use tinyjson_output::{
     write_newline, write_number,
 };
 
-/// What an open container has still to write before its closing bracket. `first` says that nothing of it is
-/// written yet.
+/// What is left to write of an open container, before its closing bracket. `first` is true while nothing of it is
+/// written.
 #[derive(Clone, Copy, Drop)]
 pub(crate) enum Rest<'a> {
     Items { rest: &'a [Cell], first: bool },
     Members { rest: &'a [Member], first: bool },
 }
 
-/// A walk over a tree, compact or indented by a text, the innermost container last, with room for so many.
+/// A walk that writes a tree, compact or with an indent. Its stack has room for `most` containers, the innermost
+/// one last.
 #[derive(Drop)]
 pub(crate) struct Walk<'a> {
     pub(crate) store: &'a Store,
@@ -42,7 +43,7 @@ pub(crate) struct Walk<'a> {
     pub(crate) stack: Vec<Rest<'a>>,
 }
 
-/// A value in a store, in which no more than so many containers are nested.
+/// A value in a store, in which at most `most` containers are nested.
 #[derive(Clone, Copy)]
 pub(crate) struct Root<'a> {
     pub(crate) store: &'a Store,
@@ -51,8 +52,8 @@ pub(crate) struct Root<'a> {
 }
 
 impl<'a> Root<'a> {
-    /// Writes the text of the tree, compact or indented by a text, in UTF-8, and the bytes behind it, by way of a
-    /// buffer that is written out at the end.
+    /// Writes the tree's text in UTF-8, compact or with this indent, and the given bytes after it. It flushes its
+    /// own buffer at the end.
     pub(crate) fn write_to<W: Write>(
         &self,
         alloc: Global,
@@ -167,7 +168,8 @@ impl<'a> Walk<'a> {
         }
     }
 
-    /// Writes the items or members up to the first whose value holds others, and returns what is left.
+    /// Writes the items or members up to the first whose value is a container that is not empty, and returns what
+    /// is left.
     fn pass<W: Write>(&mut self, out: &mut W, rest: Rest<'a>) -> io::Result<Rest<'a>>
         ensures sent { (xs : List ℕ) → AreLeft (indent_of self.old.indent) self.old.store.now
             (rest.entry ∷ reverse self.old.stack.items) xs
@@ -322,7 +324,7 @@ fn holds_others(node: Cell) -> bool
     }
 }
 
-/// Writes a value that holds no others.
+/// Writes a scalar, or an empty container.
 fn write_leaf<W: Write>(
     out: &mut W,
     buffer: &mut Buffer,
@@ -386,7 +388,7 @@ fn empty_text(node: Cell) -> Option<&'static [u8]>
     }
 }
 
-/// Writes a value that holds no others, or an opening bracket.
+/// Writes a scalar, an empty container, or an opening bracket.
 fn write_head<W: Write>(
     out: &mut W,
     buffer: &mut Buffer,
@@ -434,7 +436,7 @@ fn write_text<W: Write>(out: &mut W, buffer: &mut Buffer, bytes: &[u8]) -> io::R
     }
 }
 
-/// Writes the key of a member, and what stands between it and the value.
+/// Writes the key of a member, and the separator between it and the value.
 fn write_key<W: Write>(
     out: &mut W,
     buffer: &mut Buffer,
