@@ -1,4 +1,4 @@
--- What filters compare (RFC 9535, 2.3.5.2.2), and what their functions yield (2.4): a value, or nothing.
+-- What filters compare (RFC 9535, 2.3.5.2.2), and what their functions return (2.4): a value, or nothing.
 use Rattle.std.specs.Prelude.{ℕ, suc, pos, Bool, true, false, ◌||◌, not}
 use Rattle.std.specs.Prelude.{List, [], ◌∷◌, length, Option, Some, None, option_and_then, option_map}
 use Rattle.std.specs.Ordering.{is_lt}
@@ -24,13 +24,13 @@ use Rattle.tinyjson_path_query.specs.declared.query.SingularSegment.TheVariants.
 
 -- ---- comparisons
 
--- nothing equals nothing, and no value
+-- nothing equals nothing; nothing equals no value
 abbrev pub is_same : Option Tree → Option Tree → Bool
 is_same None None = true
 is_same (Some t) (Some u) = tree_eq t u
 is_same _ _ = false
 
--- numbers are ordered as exact decimals, and strings by their bytes in UTF-8, which is the order by their characters
+-- numbers are ordered as exact decimals; strings by their bytes in UTF-8, which is the order by characters
 abbrev pub is_tree_less : Tree → Tree → Bool
 is_tree_less (number d) (number e) = is_less d e
 is_tree_less (string k) (string l) = is_lt (key_cmp k l)
@@ -82,7 +82,7 @@ abbrev pub member_count : Members → ℕ
 member_count no_members = 0
 member_count (member k t ms) = suc (member_count ms)
 
--- the characters of a string, the items of an array, or the members of an object
+-- the number of characters of a string, of items of an array, or of members of an object
 abbrev pub size_of : Tree → Option ℕ
 size_of (string cs) = Some (length cs)
 size_of (array ts) = Some (item_count ts)
@@ -97,7 +97,7 @@ length_of o = option_map whole (option_and_then size_of o)
 abbrev pub count_of : List Part → Option Tree
 count_of ps = Some (whole (length ps))
 
--- `value` (2.4.8): that of the only node
+-- `value` (2.4.8): that of the only node; nothing for none or for several
 abbrev pub value_of : List Part → Option Tree
 value_of (p ∷ []) = Some p.tree
 value_of _ = None

@@ -1,4 +1,4 @@
--- what public contracts say
+-- for public contracts
 pub mod Nodes
 pub mod Slices
 pub mod Selecting
@@ -8,7 +8,8 @@ pub mod Queries
 pub mod Strings
 pub mod Paths
 pub mod Limits
--- what they say of a query's text, by the names of the crate `tinyjson_path_query`, so that callers name one crate
+-- also for public contracts: the words for a query's text, from `tinyjson_path_query`, so that callers name one
+-- crate
 pub use Rattle.tinyjson_path_query.specs.Forms
 pub use Rattle.tinyjson_path_query.specs.Grammar
 pub use Rattle.tinyjson_path_query.specs.Message
@@ -16,5 +17,5 @@ pub use Rattle.tinyjson_path_query.specs.Reading
 pub use Rattle.tinyjson_path_query.specs.declared.error.ParseError
 pub use Rattle.tinyjson_path_query.specs.declared.error.ParseErrorKind
 pub use Rattle.tinyjson_path_query.specs.declared.query.Query
--- what private contracts alone say
+-- for private contracts
 pub mod Seen

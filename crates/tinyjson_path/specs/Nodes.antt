@@ -1,4 +1,4 @@
--- Nodes: parts of a tree with their normalized paths (RFC 9535, 2.7), children and descendants in order.
+-- Nodes: parts of a tree with their normalized paths (RFC 9535, 2.7); children and descendants in order.
 use Rattle.std.specs.Prelude.{ℕ, ◌+◌, List, [], ◌∷◌, ◌++◌, map}
 use Rattle.tinyjson.specs.Tree.{Tree, null, boolean, number, string, array, object, Items, no_items, item, Members, no_members, member}
 use Rattle.tinyjson.specs.View.{view, text}
@@ -53,7 +53,7 @@ abbrev mutual
   visited_members path no_members = []
   visited_members path (member k t ms) = visited (path ++ at_key k ∷ []) t ++ visited_members path ms
 
--- ---- what the code's nodes are seen as
+-- ---- the view of the code's nodes
 
 abbrev pub path_step : Location-F (List Step) → List Step
 path_step Location-F.Root = []

@@ -7,20 +7,21 @@ use Rattle.tinyjson_path_query.specs.declared.query.PatternFunction.{PatternFunc
 use Rattle.tinyjson_path_query.specs.declared.query.PatternFunction.TheVariants.{Match, Search}
 use Rattle.tinyjson.specs.Tree.{Tree, string}
 
--- the first text is a regular expression of RFC 9485 that matches the whole of the second, or a part of it
+-- the first text is a regular expression of RFC 9485; it matches the whole of the second text (`match`), or a part
+-- of it (`search`)
 abbrev pub Holds : PatternFunction → List ℕ → List ℕ → Type 0
 Holds Match ps cs = PatternMatches ps cs
 Holds Search ps cs = PatternSearches ps cs
 
--- an answer to whether it does
+-- decides whether that is so
 abbrev pub Judge : Type 0
 Judge = PatternFunction → (pattern text : List ℕ) → Bool
 
--- each answer is right
+-- each decision is right
 abbrev pub IsRight : Judge → Type 0
 IsRight judge = (f : PatternFunction) (ps cs : List ℕ) → IsTrue (judge f ps cs) ↔ Holds f ps cs
 
--- of two strings: the text, and the pattern behind it; of other values it does not hold
+-- of two strings, the value and the pattern; false for other values
 abbrev pub holds_of_trees : Judge → PatternFunction → Tree → Tree → Bool
 holds_of_trees judge f (string cs) (string ps) = judge f ps cs
 holds_of_trees judge f _ _ = false
@@ -29,13 +30,13 @@ abbrev pub pattern_holds : Judge → PatternFunction → Option Tree → Option 
 pattern_holds judge f (Some t) (Some u) = holds_of_trees judge f t u
 pattern_holds judge f _ _ = false
 
--- ---- the answer of the code, which is right (`judged_right`, proofs/Callers)
+-- ---- the code's decision, which is right (`judged_right`, proofs/Callers)
 
 abbrev pub judged : Judge
 judged Match = pattern_matches
 judged Search = pattern_searches
 
--- what a regular expression that was read answers, or what there is none of; only private contracts use this word
+-- the result of a regular expression that was parsed; false if there is none; for private contracts
 abbrev pub answer_of : Option IRegexp → PatternFunction → List ℕ → Bool
 answer_of None f cs = false
 answer_of (Some x) Match cs = matches (form_in x) cs

@@ -1,4 +1,4 @@
--- The parts that a query selects (RFC 9535, 2.1 to 2.5). What a query says is a function of what its parts say.
+-- The parts that a query selects (RFC 9535, 2.1 to 2.5), defined part by part of the query.
 use Rattle.std.specs.Prelude.{Bool, true, false, ◌||◌, ◌&&◌, not, List, [], ◌∷◌, map, cond, Option, Some}
 use Rattle.tinyjson.specs.Tree.{Tree}
 use Rattle.tinyjson.specs.View.{text}
@@ -14,15 +14,15 @@ use Rattle.tinyjson_path_query.specs.declared.query.FunctionExpression.{Function
 use Rattle.tinyjson_path_query.specs.declared.query.Segment.{Segment, fold-Segment, Segment-F}
 use Rattle.tinyjson_path_query.specs.declared.query.Selector.{Selector, fold-Selector, Selector-F}
 
--- what a segment and a selector select from a part, in a value with this root
+-- the parts that a segment or a selector selects from a part, in a value with this root
 abbrev pub Selects : Type 0
 Selects = Tree → Part → List Part
 
--- what a query in a filter selects, in a value with this root, from the node that is tested
+-- the parts that a query in a filter selects, from the root and the node that is tested
 abbrev pub Finds : Type 0
 Finds = Tree → Tree → List Part
 
--- what is compared there: a value, or nothing
+-- the value of what is compared there, or nothing
 abbrev pub Yields : Type 0
 Yields = Tree → Tree → Option Tree
 
@@ -39,7 +39,7 @@ abbrev pub one_by_one : Tree → List Selects → List Part → List Part
 one_by_one root [] ps = ps
 one_by_one root (s ∷ ss) ps = one_by_one root ss (from_each (s root) ps)
 
--- those parts of which the test holds
+-- the parts of which the test holds
 abbrev pub kept : (Tree → Bool) → List Part → List Part
 kept f [] = []
 kept f (p ∷ ps) = cond (f p.tree) (p ∷ kept f ps) (kept f ps)
@@ -93,11 +93,11 @@ segment_parts_by judge =
     fold-Segment Yields Holds Yields Selects Selects Finds comparable_step (expression_step judge) function_step segment_step selector_step
     filter_query_step
 
--- the parts that a query selects in a tree, in order, where this answers for patterns
+-- the parts that a query selects in a tree, in order; `judge` decides `match` and `search`
 abbrev pub query_parts : Judge → Query → Tree → List Part
 query_parts judge q t = one_by_one t (map (segment_parts_by judge) q.segments.items) (root_part t ∷ [])
 
--- ---- the same with the answer of the code, and what each part of a query says; only private contracts use these words
+-- ---- the same with the code's decision, for each part of a query; for private contracts
 
 abbrev pub segment_parts : Segment → Selects
 segment_parts = segment_parts_by judged
@@ -125,6 +125,6 @@ filter_parts =
 abbrev pub selected_by : List Selector → Selects
 selected_by ss = union (map selector_parts ss)
 
--- what segments select, one after the other, from a tree in a value with this root
+-- the parts that segments select, one after the other, from a tree in a value with this root
 abbrev pub found_by : List Segment → Tree → Tree → List Part
 found_by ss root t = one_by_one root (map segment_parts ss) (root_part t ∷ [])

@@ -1,4 +1,4 @@
--- What the private types of the code are seen as.
+-- The view of the code's private types.
 use Rattle.std.specs.Prelude.{suc, ℤ, pos, negsuc, Option, Some, None, option_map}
 use Rattle.std.specs.Borrow.{Bor}
 use Rattle.std.specs.Box.{box_value}
@@ -13,7 +13,7 @@ use Rattle.tinyjson_path.specs.declared.path.Step.TheVariants.{Name, Index}
 use Rattle.tinyjson_path.specs.declared.slice.Steps.{Steps}
 use Rattle.tinyjson_path.specs.declared.slice.Steps.TheVariants.{Up, Down}
 
--- the direction and the size of a slice's steps, which are up by one where nothing is said
+-- the direction and the size of a slice's steps; up by one if there is no step
 abbrev pub steps_of : Option ℤ → Steps
 steps_of None = Up 1
 steps_of (Some (pos n)) = Up n

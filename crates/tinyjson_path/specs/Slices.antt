@@ -1,17 +1,17 @@
--- Which indices an index and a slice select (RFC 9535, 2.3.3 and 2.3.4), in an array of so many items.
+-- Which indices an index and a slice select in an array of a given length (RFC 9535, 2.3.3 and 2.3.4).
 use Rattle.std.specs.Prelude.{ℕ, suc, ◌-◌, ◌%◌, ◌==◌, ◌&&◌, nat_le, nat_lt, min, ℤ, pos, negsuc, Bool, Option, Some, None, cond}
 
--- an index below zero is counted from the end
+-- an index below zero counts from the end
 abbrev pub place_of : ℤ → ℕ → Option ℕ
 place_of (pos n) len = Some n
 place_of (negsuc n) len = cond (nat_lt n len) (Some (len - suc n)) None
 
--- the bound, counted from the end if it is below zero, and no less than 0 and no more than the length
+-- the bound, counted from the end if it is below zero, clamped to 0 and the length
 abbrev pub clamped : ℤ → ℕ → ℕ
 clamped (pos n) len = min n len
 clamped (negsuc n) len = len - suc n
 
--- one more than the bound, which is no less than -1 and no more than the last index
+-- one more than the bound, which is clamped to -1 and the last index
 abbrev pub clamped_after : ℤ → ℕ → ℕ
 clamped_after (pos n) len = min (suc n) len
 clamped_after (negsuc n) len = len - n

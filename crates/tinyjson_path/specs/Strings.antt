@@ -1,4 +1,4 @@
--- The strings of a value and of a query, and what an error says of them that is not out of memory.
+-- The strings of a value and of a query: those from which an error of a regular expression can come.
 use Rattle.std.specs.Prelude.{◌≡◌, ℕ, List, [], ◌∷◌, ◌++◌, map, Option, Some, None, Err, flat_map, Any}
 use Rattle.i_regexp.specs.Regexps.{ReadsRegexp}
 use Rattle.i_regexp.specs.declared.error.IRegexpError.{IRegexpError}
@@ -28,7 +28,7 @@ Texts = List (List ℕ)
 abbrev pub joined : List Texts → Texts
 joined tss = flat_map (λ ts. ts) tss
 
--- ---- of a value: its strings, and no keys
+-- ---- of a value: its strings, without keys
 
 abbrev mutual
   pub strings_in : Tree → Texts
@@ -96,18 +96,18 @@ abbrev pub kind_of : PatternLimit → IRegexpErrorKind
 kind_of TooDeep = kind.TooDeep
 kind_of TooLarge = kind.TooLarge
 
--- The text goes beyond the limit: so says what reads it as a regular expression of RFC 9485.
+-- The text exceeds the limit, when it is parsed as a regular expression of RFC 9485.
 pub record Exceeds (l : PatternLimit) (cs : List ℕ) : Type 0 where
   pub error : IRegexpError
   pub refused : ReadsRegexp cs (Err error)
   pub kind : error.kind ≡ kind_of l
 
--- One of the texts goes beyond the limit that is the error.
+-- The error is out of memory, or one of the texts exceeds its limit.
 abbrev pub IsFrom : Texts → FindError → Type 0
 IsFrom ts (Pattern l) = Any (Exceeds l) ts
 IsFrom ts OutOfMemory = Unit {0}
 
--- ---- what each part of a query says; only private contracts use these words
+-- ---- for each part of a query; for private contracts
 
 abbrev pub selector_strings : Selector → Texts
 selector_strings =
@@ -142,6 +142,6 @@ strings_at (Some t) = strings_in t
 abbrev pub strings_of : List Part → Texts
 strings_of ps = flat_map (λ p. strings_in p.tree) ps
 
--- of a part of the query, of the root, and of what is looked at below it
+-- of a part of the query, of the root, and of the nodes below which it selects
 abbrev pub IsFromAny : Texts → Tree → Texts → FindError → Type 0
 IsFromAny query root here = IsFrom (query ++ (strings_in root ++ here))

@@ -1,4 +1,4 @@
-//! The children of a node that a name, an index or a slice selects, and all of them.
+//! The children of a node: those that a name, an index or a slice selects, and all of them.
 ghost use Rattle.std.specs.Prelude.{◌≡◌, ◌++◌, reverse, OnOk, IfOk};
 ghost use Rattle.std.specs.Prelude.{option_map, MatchOption, None, Some};
 ghost use Rattle.std.specs.Str.{chars};
@@ -58,7 +58,7 @@ fn push_members<'v>(
     Ok(())
 }
 
-/// Puts a member of the node behind the nodes.
+/// Appends a member of the node.
 fn push_member<'v>(
     alloc: Global,
     node: &Node<'v>,
@@ -87,7 +87,7 @@ fn push_items<'v>(
     Ok(())
 }
 
-/// Puts an item of the node behind the nodes.
+/// Appends an item of the node.
 fn push_item<'v>(
     alloc: Global,
     node: &Node<'v>,

@@ -7,15 +7,15 @@ use std::alloc::{AllocError, Global};
 use std::rc::Rc;
 use tinyjson::JsonValue;
 
-/// The place of a node in the queried value: its normalized path (RFC 9535, 2.7). A location shares that of
-/// its parent.
+/// The place of a node in the queried value, as its normalized path (RFC 9535, 2.7). It shares the path of its
+/// parent.
 pub enum Location<'v> {
     Root,
     Member(Rc<Location<'v>>, &'v String),
     Item(Rc<Location<'v>>, usize),
 }
 
-/// A loop also frees the locations above that no node shares.
+/// Frees in a loop, so that a long path takes no stack. Steps that other nodes share stay.
 impl Drop for Location<'_> {
     fn drop(mut self) {
         loop {
@@ -32,7 +32,7 @@ impl Drop for Location<'_> {
     }
 }
 
-/// A node (RFC 9535, 1.1): a part of the queried value, and its location there.
+/// A node (RFC 9535, 1.1): a part of the queried value, and its location.
 #[derive(Drop)]
 pub struct Node<'v> {
     pub location: Rc<Location<'v>>,

@@ -14,7 +14,7 @@ use tinyjson::{JsonNumber, JsonValue, sorted_members};
 use tinyjson_compare::is_less;
 use tinyjson_path_query::{ComparisonOperator, Literal, Origin, SingularQuery, SingularSegment};
 
-/// A value that is compared: one of the input's, or one of the filter's own.
+/// A value that is compared: a part of the input, or a value of the filter's own.
 pub(crate) enum Operand<'v> {
     Part(&'v JsonValue),
     // In a box, for the stack that a filter in a filter takes.
@@ -32,7 +32,7 @@ pub(crate) fn value_of<'a>(operand: &'a Option<Operand>) -> Option<&'a JsonValue
     }
 }
 
-/// Frees what is the filter's own.
+/// Frees a value of the filter's own.
 // Inlined, this and `compare` would take half as much again of the stack at each level of a filter.
 #[inline(never)]
 pub(crate) fn release(operand: Option<Operand>) {
@@ -45,7 +45,7 @@ pub(crate) fn release(operand: Option<Operand>) {
     }
 }
 
-/// Whether the two compare so; both are given up.
+/// Whether the comparison holds of the two. Both are consumed.
 #[inline(never)]
 pub(crate) fn compare(
     operator: ComparisonOperator,
@@ -174,7 +174,7 @@ fn one_child<'v>(segment: &SingularSegment, value: &'v JsonValue) -> Option<&'v 
     }
 }
 
-/// `length` (RFC 9535, 2.4.4) of what is given up.
+/// `length` (RFC 9535, 2.4.4) of the operand, which is consumed.
 pub(crate) fn length<'v>(
     alloc: Global,
     argument: Option<Operand>,
@@ -193,7 +193,7 @@ pub(crate) fn length<'v>(
     }
 }
 
-/// The characters of a string, the items of an array or the members of an object.
+/// The number of characters of a string, of items of an array, or of members of an object.
 fn size(alloc: Global, value: &JsonValue) -> Result<Option<usize>, AllocError>
     ensures { IfOk result (λ n. n ≡ size_of (view value.now)) }
 {

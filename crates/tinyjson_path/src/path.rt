@@ -17,7 +17,7 @@ pub(crate) enum Step<'v> {
     Index(usize),
 }
 
-/// The text of the normalized path, as `$['a'][0]`. The only error is out of memory.
+/// The text of the normalized path, as `$['a'][0]` (RFC 9535, 2.7). The only error is out of memory.
 pub fn path_text(alloc: Global, location: &Location) -> Result<String, AllocError>
     ensures { IfOk result (λ s. text s ≡ path_text (path_view location.now)) }
 {

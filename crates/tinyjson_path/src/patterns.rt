@@ -17,12 +17,12 @@ use std::fmt;
 use tinyjson::JsonValue;
 use tinyjson_path_query::PatternFunction;
 
-/// The limit that a regular expression exceeds.
+/// Which limit a regular expression exceeds.
 #[derive(Clone, Copy)]
 pub enum PatternLimit {
-    /// More than 200 groups are open at once.
+    /// More than 200 groups are nested.
     TooDeep,
-    /// It has more than 10,000 characters, classes, groups and bars, with repetitions written out.
+    /// It has more than 10,000 characters, classes, groups and bars, when each repetition is written out.
     TooLarge,
 }
 
@@ -62,7 +62,7 @@ impl<T: Drop> From<AllocFailed<T>> for FindError {
     }
 }
 
-/// A text that was read as a regular expression.
+/// A text, and the regular expression that was parsed from it.
 #[derive(Drop)]
 struct Pattern {
     pattern: String,
@@ -72,7 +72,7 @@ struct Pattern {
         → judged f (text pattern) cs ≡ answer_of regexp f cs },
 }
 
-/// The regular expression that the text is, if it is one.
+/// The regular expression that the text is, or `None` if it is none.
 fn regexp_of(alloc: Global, pattern: &str) -> Result<Option<IRegexp>, FindError>
     ensures ok { IfOk result (λ o. (f : PatternFunction) (cs : List ℕ)
         → judged f (chars pattern.now) cs ≡ answer_of o f cs) }
@@ -113,7 +113,7 @@ impl Pattern {
     }
 }
 
-/// The patterns of a query that were read so far, in the order of their bytes.
+/// The patterns of a query that were parsed so far, in the order of their bytes.
 #[derive(Drop)]
 pub(crate) struct Patterns {
     alloc: Global,
@@ -128,8 +128,8 @@ impl Patterns {
         }
     }
 
-    /// Whether the function holds of the value and the pattern, which is kept if it stands in the query.
-    /// Both are given up.
+    /// Whether the function holds of the value and the pattern. A pattern that is a literal of the query is kept.
+    /// Both operands are consumed.
     // Inlined, it would double what each level of a filter takes of the stack.
     #[inline(never)]
     pub(crate) fn test(
@@ -172,7 +172,7 @@ impl Patterns {
         }
     }
 
-    /// A pattern that is kept is read if it was not before.
+    /// Parses a pattern that is to be kept, unless it was parsed before.
     #[inline(never)]
     fn of_strings(
         &mut self,

@@ -21,13 +21,12 @@ use std::alloc::{AllocError, Global};
 use tinyjson::JsonValue;
 use tinyjson_path_query::{Comparable, Expression, FunctionExpression, Query, Segment, Selector};
 
-/// The nodes that the query selects in the value, in order (RFC 9535, 2.1.2); one that is selected twice
-/// is there twice. The members of an object come in the order of their keys' bytes, which the RFC leaves
-/// open. The errors are out of memory, and a regular expression that is too deep or too large.
+/// Returns the nodes that the query selects in the value, in the order of RFC 9535, 2.1.2. A node that is selected
+/// twice is returned twice. The members of an object come in the order of their keys' bytes, since the RFC leaves
+/// their order open. The errors are out of memory, and a regular expression that is too deep or too large.
 ///
-/// A regular expression that is a literal of the query is read once, where it is first needed, and one from
-/// the value each time. The stack grows with the nesting of expressions and queries in the query, not with the
-/// value's depth.
+/// A regular expression that is a literal of the query is parsed once, when it is first needed; one from the value,
+/// each time. The stack grows with the nesting of the query, not with the depth of the value.
 ///
 /// ```
 /// let value = JsonValue::from_str(alloc, r#"{"a": [{"b": 1}, {"b": 2.50}]}"#)?;
@@ -60,13 +59,13 @@ pub fn find<'v>(
 #[derive(Drop)]
 struct Finder<'v> {
     alloc: Global,
-    /// What `$` names.
+    /// The value of `$`.
     root: &'v JsonValue,
     patterns: Patterns,
 }
 
 impl<'v> Finder<'v> {
-    /// What the segments select, one after the other, from a value on.
+    /// What the segments select, one after the other, from a value.
     #[cycle(selecting)]
     fn find_from(
         &mut self,
@@ -123,7 +122,8 @@ impl<'v> Finder<'v> {
         }
     }
 
-    /// From the node and each of its descendants, which wait on a stack.
+    /// What the selectors select from the node and from each of its descendants. Those to be visited are on a
+    /// stack.
     #[cycle(selecting)]
     fn descend(
         &mut self,
@@ -306,7 +306,7 @@ impl<'v> Finder<'v> {
     }
 }
 
-/// Puts the nodes behind those that wait, the last one first.
+/// Appends the nodes, the last one first.
 fn push_reversed<'v>(
     mut nodes: Vec<Node<'v>>,
     waiting: &mut Vec<Node<'v>>,

@@ -10,7 +10,7 @@ pub(crate) enum Steps {
     Down(usize),
 }
 
-/// The first index of a slice, the one after its last, and the size of its steps.
+/// The bounds of a slice in an array: the first index, the one after the last, and the size of a step.
 #[derive(Clone, Copy)]
 pub(crate) struct Bounds {
     pub(crate) low: usize,
@@ -18,7 +18,7 @@ pub(crate) struct Bounds {
     pub(crate) step: usize,
 }
 
-/// The place that an index means, counted from the end if it is below zero.
+/// The index in an array of this length. One below zero counts from the end.
 pub(crate) fn place(index: i64, len: usize) -> Option<usize>
     ensures { result ≡ place_of index len }
 {
@@ -48,7 +48,7 @@ pub(crate) fn steps_of(step: Option<i64>) -> Steps
     }
 }
 
-/// Whether steps up from the lower bound meet the index.
+/// Whether steps up from the lower bound reach the index.
 pub(crate) fn is_up(bounds: Bounds, index: usize) -> bool
     ensures { result ≡ is_up bounds.low bounds.high bounds.step index }
 {
@@ -58,7 +58,7 @@ pub(crate) fn is_up(bounds: Bounds, index: usize) -> bool
         && (index - bounds.low) % bounds.step == 0
 }
 
-/// Whether steps down from below the upper bound meet the index.
+/// Whether steps down from below the upper bound reach the index.
 pub(crate) fn is_down(bounds: Bounds, index: usize) -> bool
     ensures { result ≡ is_down bounds.low bounds.high bounds.step index }
 {
@@ -68,7 +68,7 @@ pub(crate) fn is_down(bounds: Bounds, index: usize) -> bool
         && (bounds.high - 1 - index) % bounds.step == 0
 }
 
-/// A bound of steps up, within the array.
+/// A bound for steps up, clamped to the array.
 pub(crate) fn bound(bound: Option<i64>, len: usize, default: usize) -> usize
     ensures { result ≡ bound_or clamped bound len default }
 {
@@ -85,7 +85,7 @@ pub(crate) fn bound(bound: Option<i64>, len: usize, default: usize) -> usize
     }
 }
 
-/// One more than a bound of steps down, within the array.
+/// One more than a bound for steps down, clamped to the array.
 pub(crate) fn bound_after(bound: Option<i64>, len: usize, default: usize) -> usize
     ensures { result ≡ bound_or clamped_after bound len default }
 {

@@ -1,4 +1,4 @@
--- The schemas that a schema has at its keywords.
+-- The subschemas of a schema, by keyword.
 use Rattle.std.specs.Prelude.{Bool}
 use Rattle.std.specs.Prelude.{Option, cond}
 use Rattle.std.specs.Option.{option_map_or}
@@ -18,7 +18,7 @@ items_in _ = no_items
 abbrev pub schemas_at : Tree → Keyword → Items
 schemas_at s k = option_map_or items_in (schema_at s k) no_items
 
--- the members of an object; of another value there are none
+-- the members of an object; none for another value
 abbrev pub members_in : Tree → Members
 members_in (object ms) = ms
 members_in _ = no_members
@@ -26,6 +26,6 @@ members_in _ = no_members
 abbrev pub schema_map_at : Tree → Keyword → Members
 schema_map_at s k = option_map_or members_in (schema_at s k) no_members
 
--- what `if` says chooses the keyword
+-- the keyword that `if` chooses
 abbrev pub branch : Bool → Keyword
 branch accepted = cond accepted kw.Then kw.Else

@@ -1,4 +1,4 @@
--- The forms that the values of keywords have.
+-- The form that each keyword's value needs.
 use Rattle.std.specs.Prelude.{ℕ, Bool, true, false, List, Option}
 use Rattle.std.specs.Option.{option_map_or}
 use Rattle.tinyjson.specs.Tree.{Items, no_items, item}
@@ -67,11 +67,11 @@ form_of kw.ReadOnly = form.Truth
 form_of kw.WriteOnly = form.Truth
 form_of kw.Examples = form.List
 
--- the form that the value of a name needs, if it is that of the keyword; of no keyword's it needs none
+-- the form that the keyword's value needs; none without a keyword
 abbrev pub form_by : Option Keyword → Form
 form_by k = option_map_or form_of k form.Anything
 
--- the form that the value of the name with these bytes needs
+-- the form that the value at the name with these bytes needs
 abbrev pub form_at : List ℕ → Form
 form_at key = form_by (keyword_among keywords key)
 

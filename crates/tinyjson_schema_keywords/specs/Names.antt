@@ -65,7 +65,7 @@ name kw.ReadOnly = codes "readOnly"
 name kw.WriteOnly = codes "writeOnly"
 name kw.Examples = codes "examples"
 
--- all of them, in the order of the bytes of their names
+-- all keywords, in the order of their names' bytes
 abbrev pub keywords : List Keyword
 keywords = kw.Anchor ∷ kw.Comment ∷ kw.Defs ∷ kw.DynamicAnchor ∷ kw.DynamicRef ∷ kw.Id ∷ kw.Ref ∷ kw.Schema ∷ kw.Vocabulary ∷
     kw.AdditionalProperties ∷ kw.AllOf ∷ kw.AnyOf ∷ kw.Const ∷ kw.Contains ∷ kw.ContentEncoding ∷ kw.ContentMediaType ∷
@@ -81,14 +81,14 @@ abbrev pub keyword_among : List Keyword → List ℕ → Option Keyword
 keyword_among [] key = None
 keyword_among (k ∷ ks) key = cond (bytes_eq (name k) key) (Some k) (keyword_among ks key)
 
--- ---- words of private contracts
+-- ---- for private contracts
 
 -- Their names rise.
 abbrev pub is_rising : List Keyword → Bool
 is_rising (k ∷ l ∷ ks) = not (is_lt (slice_cmp nat_cmp (name l) (name k))) && is_rising (l ∷ ks)
 is_rising _ = true
 
--- No two have one name.
+-- No two have the same name.
 abbrev pub are_apart : List Keyword → Bool
 are_apart [] = true
 are_apart (k ∷ ks) = not (is_some (keyword_among ks (name k))) && are_apart ks

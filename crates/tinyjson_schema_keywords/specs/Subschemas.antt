@@ -1,4 +1,4 @@
--- The schemas in a document, by their members.
+-- All members of a schema and of its subschemas.
 use Rattle.std.specs.Prelude.{◌≡◌, ℕ, List, [], ◌∷◌, ◌++◌, Option, encode_utf8_all, map}
 use Rattle.std.specs.String.{string_bytes}
 use Rattle.tinyjson.specs.Tree.{Tree, array, object, Items, no_items, item, Members, no_members, member}
@@ -17,7 +17,7 @@ InSchema = Tree × List ℕ × Option Keyword × Tree
 abbrev pub in_schema : Tree → List ℕ → Tree → InSchema
 in_schema s k w = (s, k, keyword_among keywords k, w)
 
--- of a keyword's value: the members of the schemas in it, where it is a schema, a list or an object of schemas
+-- the members of the schemas in a keyword's value: a schema, a list of schemas or an object of schemas
 abbrev pub members_by : Form → List InSchema → List InSchema → List InSchema → List InSchema
 members_by form.Schema one list entries = one
 members_by form.Schemas one list entries = list
@@ -26,7 +26,7 @@ members_by form.PatternMap one list entries = entries
 members_by _ one list entries = []
 
 abbrev mutual
-  -- those of a schema and of the schemas in it, in the order of their keys
+  -- the members of a schema and of its subschemas, in the order of their keys
   pub schema_members : Tree → List InSchema
   schema_members (object ms) = members_among (object ms) ms
   schema_members _ = []
@@ -53,7 +53,7 @@ abbrev mutual
   members_of_entries no_members = []
   members_of_entries (member k t ms) = schema_members t ++ members_of_entries ms
 
--- ---- words of private contracts
+-- ---- for private contracts
 
 abbrev pub members_by_form : Form → Tree → List InSchema
 members_by_form f w = members_by f (schema_members w) (members_in_list w) (members_in_map w)
@@ -64,6 +64,6 @@ seen m = (view m.schema.now, string_bytes m.name.now, m.keyword, view m.value.no
 abbrev pub all_seen : List SchemaMember → List InSchema
 all_seen ms = map seen ms
 
--- The list has these beside those that it had, after them.
+-- These are appended to the list.
 abbrev pub Gathers : List InSchema → List SchemaMember → List SchemaMember → Type 0
 Gathers ms old new = all_seen new ≡ all_seen old ++ ms

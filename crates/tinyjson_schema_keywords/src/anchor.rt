@@ -1,4 +1,4 @@
-//! The plain names of the schemas in a document.
+//! The anchors of a document: the plain names of its schemas.
 ghost use Rattle.std.specs.Prelude.{◌≡◌, option_map, IfOk, OnOk};
 ghost use Rattle.std.specs.String.{string_bytes};
 ghost use Rattle.tinyjson.specs.View.{view};
@@ -14,14 +14,14 @@ use std::alloc::{AllocError, Global};
 use std::collections::BTreeSet;
 use tinyjson::JsonValue;
 
-/// A name of `$anchor` or `$dynamicAnchor`, and the schema that has it.
+/// A name by `$anchor` or `$dynamicAnchor`, and the schema that has it.
 #[derive(Clone, Copy)]
 pub struct Anchor<'s> {
     pub name: &'s String,
     pub schema: &'s JsonValue,
 }
 
-/// Whether it is a letter or `_`, and after it letters, digits, `-`, `.` and `_` (Core, 8.2.2).
+/// Whether the name is a plain name: a letter or `_`, then letters, digits, `-`, `.` and `_` (Core, 8.2.2).
 pub fn is_plain_name(name: &str) -> bool
     ensures { result ≡ is_plain_name name.now }
 {
@@ -54,10 +54,10 @@ fn are_name_parts(bytes: &[u8]) -> bool
     true
 }
 
-/// The anchors of a schema and of the schemas in it, with members in the order of their keys. The only error is out of
-/// memory.
+/// The anchors of a schema and of all its subschemas, with members in the order of their keys. The only error is
+/// out of memory.
 ///
-/// It takes stack as the schema is nested.
+/// It takes stack with the nesting of the schema.
 pub fn anchors_of(schema: &JsonValue, alloc: Global) -> Result<Vec<Anchor<'_>>, AllocError>
     ensures { IfOk result (λ anchors. all_named anchors.items ≡ anchors_in (view schema.now)) }
 {
@@ -79,7 +79,7 @@ fn anchors_among<'s>(
     Ok(anchors)
 }
 
-/// The one that the member gives its schema, if it does.
+/// Appends the anchor that the member gives its schema, if it gives one.
 fn gather<'s>(member: SchemaMember<'s>, anchors: &mut Vec<Anchor<'s>>) -> Result<(), AllocError>
     ensures { OnOk result
         (Gathers (anchors_of (seen member.entry)) anchors.old.items anchors.new.items) }
@@ -119,7 +119,7 @@ pub fn anchored<'s>(anchors: &[Anchor<'s>], name: &str) -> Option<&'s JsonValue>
     None
 }
 
-/// The first name that an anchor after it has too. The time grows with the names, and not with the pairs of them.
+/// The first name that a later anchor has too. The time is nearly linear in the number of names.
 pub fn repeated<'s>(anchors: &[Anchor<'s>], alloc: Global) -> Result<Option<&'s String>, AllocError>
     ensures { IfOk result
         (λ name. option_map (λ x. string_bytes x.now) name ≡ repeated (all_named anchors.now)) }

@@ -1,4 +1,4 @@
-//! The schemas that the keywords of a schema apply.
+//! The subschemas of a schema, by keyword.
 ghost use Rattle.std.specs.Prelude.{◌≡◌, option_map, IfOk, is_some};
 ghost use Rattle.std.specs.Str.{chars};
 ghost use Rattle.tinyjson.specs.Index.{tree_at_key};
@@ -12,7 +12,7 @@ use crate::keyword::Keyword;
 use std::alloc::{AllocError, Global};
 use tinyjson::{JsonValue, sorted_members};
 
-/// What an object has at a key.
+/// The value of an object at a key; `None` for another value.
 pub fn operand<'s>(schema: &'s JsonValue, name: &str) -> Option<&'s JsonValue>
     ensures { option_map (λ x. view x.now) result
         ≡ tree_at_key (view schema.now) (chars name.now) }
@@ -30,7 +30,7 @@ pub fn schema_at(schema: &JsonValue, keyword: Keyword) -> Option<&JsonValue>
     operand(schema, keyword.name())
 }
 
-/// The schemas that a keyword has in a list.
+/// The list of schemas that the keyword has, or an empty one.
 pub fn schemas_at(schema: &JsonValue, keyword: Keyword) -> &[JsonValue]
     ensures { items_view result.now ≡ schemas_at (view schema.now) keyword }
 {
@@ -40,7 +40,7 @@ pub fn schemas_at(schema: &JsonValue, keyword: Keyword) -> &[JsonValue]
     }
 }
 
-/// The items of an array; of another value none.
+/// The items of an array; none for another value.
 pub fn items_in(value: &JsonValue) -> &[JsonValue]
     ensures { items_view result.now ≡ items_in (view value.now) }
 {
@@ -50,7 +50,7 @@ pub fn items_in(value: &JsonValue) -> &[JsonValue]
     }
 }
 
-/// The schemas that a keyword has at keys, in the order of these.
+/// The members of the object of schemas that the keyword has, in the order of their keys; or none.
 pub fn schema_map_at(
     schema: &JsonValue,
     keyword: Keyword,
@@ -69,7 +69,7 @@ pub fn schema_map_at(
     }
 }
 
-/// The members of an object, in the order of their keys; of another value none.
+/// The members of an object, in the order of their keys; none for another value.
 pub fn listed_members(
     value: &JsonValue,
     alloc: Global,
@@ -84,7 +84,7 @@ pub fn listed_members(
     }
 }
 
-/// The key as a value.
+/// The key as a string value.
 pub fn name_of(key: &String, alloc: Global) -> Result<JsonValue, AllocError>
     ensures { IfOk result (λ name. view name ≡ string (text key.now)) }
 {
@@ -99,7 +99,7 @@ pub fn has_key(value: &JsonValue, key: &str) -> bool
     operand(value, key).is_some()
 }
 
-/// The keyword that `if` chooses, by what its schema says.
+/// The keyword that `if` chooses: `then` if its schema accepts the value, else `else`.
 pub fn branch(is_accepted: bool) -> Keyword
     ensures { result ≡ branch is_accepted }
 {

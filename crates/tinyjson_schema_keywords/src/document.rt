@@ -1,4 +1,4 @@
-//! A whole schema, and the anchors in it.
+//! A whole schema with its anchors.
 ghost use Rattle.std.specs.Prelude.{◌≡◌, option_map, true};
 ghost use Rattle.std.specs.String.{string_bytes};
 ghost use Rattle.tinyjson.specs.View.{view};

@@ -1,4 +1,4 @@
-//! The forms that the values of keywords have.
+//! The form that each keyword's value needs.
 ghost use Rattle.std.specs.Prelude.{◌≡◌};
 ghost use Rattle.std.specs.Option.{option_map_or};
 ghost use Rattle.tinyjson.specs.View.{items_view};
@@ -7,27 +7,27 @@ ghost use Rattle.tinyjson_schema_keywords.specs.Forms.{form_of, form_by, form_at
 use crate::keyword::{Keyword, keyword_of};
 use tinyjson::JsonValue;
 
-/// What the standard asks of a keyword's value.
+/// The form that the standard asks of a keyword's value.
 #[derive(Clone, Copy)]
 pub enum Form {
     Anything,
     Text,
     Truth,
     List,
-    /// A name of a type, or an array of different ones.
+    /// The name of a type, or an array of different ones.
     Types,
     Number,
     /// A number above zero, with at most 19 digits.
     Divisor,
-    /// A whole number that is not negative.
+    /// A whole number, not negative.
     Count,
     /// An array of different strings.
     Keys,
     /// An object whose members are arrays of different strings.
     KeyLists,
-    /// A text that is a pattern (Core, 6.4).
+    /// A string that is a pattern (Core, 6.4).
     Pattern,
-    /// The name of this version of the standard.
+    /// The URI of this version of the standard.
     Dialect,
     Schema,
     /// An array of schemas, not empty.
@@ -36,22 +36,22 @@ pub enum Form {
     SchemaMap,
     /// An object whose members are schemas, and whose keys are patterns.
     PatternMap,
-    /// A string, in the whole schema alone: in another it would change what references lead to.
+    /// A string, which only the whole schema may have: in a subschema it would change where references lead.
     Base,
     /// A reference to a schema in the whole schema.
     Reference,
-    /// A plain name that no other schema has.
+    /// A plain name that no other schema of the document has.
     Anchor,
 }
 
-/// The form that the value of a name needs; a name that is no keyword asks nothing.
+/// The form that the value at a name needs. A name that is no keyword needs none.
 pub fn form_at(name: &str) -> Form
     ensures { result ≡ form_at name.now }
 {
     form_by(keyword_of(name))
 }
 
-/// That of a name's keyword, if it is one.
+/// The form that the keyword's value needs; none without a keyword.
 pub fn form_by(keyword: Option<Keyword>) -> Form
     ensures { result ≡ form_by keyword }
 {
@@ -113,7 +113,7 @@ fn form_of(keyword: Keyword) -> Form
     }
 }
 
-/// Whether there are any.
+/// Whether there are items.
 pub fn is_some_item(items: &[JsonValue]) -> bool
     ensures { result ≡ is_some_item (items_view items.now) }
 {

@@ -65,7 +65,7 @@ pub enum Keyword {
     Examples,
 }
 
-/// All of them, in the order of the bytes of their names.
+/// All keywords, in the order of their names' bytes.
 const KEYWORDS: [Keyword; 57] = [
     Keyword::Anchor,
     Keyword::Comment,
@@ -126,7 +126,7 @@ const KEYWORDS: [Keyword; 57] = [
     Keyword::WriteOnly,
 ];
 
-/// The keyword of a name, if it is one.
+/// The keyword with this name, if there is one.
 pub fn keyword_of(key: &str) -> Option<Keyword>
     ensures { result ≡ keyword_among keywords key.now }
 {
@@ -145,7 +145,7 @@ fn keyword_among(keywords: &[Keyword], key: &str) -> Option<Keyword>
 }
 
 impl Keyword {
-    /// The name in a schema.
+    /// The keyword's name in a schema.
     pub fn name(self) -> &'static str
         ensures { result.now ≡ name self }
     {

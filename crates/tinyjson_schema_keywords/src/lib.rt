@@ -1,5 +1,5 @@
-//! The keywords of JSON Schema 2020-12, and what they have in a schema: the forms of their values, the schemas that
-//! they apply, the names of schemas, and the schemas that references lead to.
+//! The keywords of JSON Schema 2020-12 and their values in a schema: the forms that they need, the subschemas, the
+//! names of schemas, and where references lead.
 //!
 //! ```
 //! let items = schema_at(&schema, Keyword::Items);

@@ -1,4 +1,4 @@
-//! The schemas that references lead to.
+//! Where references lead.
 ghost use Rattle.std.specs.Prelude.{◌≡◌, Some, None, option_map, map, IfOk, MatchOption};
 ghost use Rattle.std.specs.Str.{chars};
 ghost use Rattle.tinyjson.specs.View.{view, text};
@@ -21,7 +21,7 @@ use std::str;
 use tinyjson::JsonValue;
 use tinyjson_pointer::{Pointer, PointerError};
 
-/// The schema that the keyword, `$ref` or `$dynamicRef`, of the schema leads to, in the whole schema.
+/// The schema to which the keyword, `$ref` or `$dynamicRef`, of the schema leads, within the whole schema.
 pub fn referenced<'s>(
     schema: &JsonValue,
     keyword: Keyword,
@@ -36,8 +36,8 @@ pub fn referenced<'s>(
     }
 }
 
-/// The schema that a reference leads to: it has to be `#`, and percent-encoded a plain name or a JSON pointer (Core,
-/// 8.2.3). Not inlined, since the recursion over schemas calls it at each level.
+/// The schema to which a reference leads. It has to be `#` and, percent-encoded, a plain name or a JSON pointer
+/// (Core, 8.2.3). Not inlined, since the recursion over schemas calls it at each level.
 #[inline(never)]
 pub fn target<'s>(
     reference: &JsonValue,
@@ -55,7 +55,7 @@ pub fn target<'s>(
     at_fragment(fragment.as_slice(), walk)
 }
 
-/// The schema that a fragment leads to, if its bytes are UTF-8.
+/// The schema to which a fragment leads, if its bytes are UTF-8.
 fn at_fragment<'s>(fragment: &[u8], walk: Walk<'_, 's>) -> Result<Option<&'s JsonValue>, AllocError>
     ensures { IfOk result (λ r. option_map (λ x. view x.now) r
         ≡ at_fragment (view walk.entry.whole.now.root.now) fragment.now) }
@@ -69,7 +69,7 @@ fn at_fragment<'s>(fragment: &[u8], walk: Walk<'_, 's>) -> Result<Option<&'s Jso
     at_pointer(walk.whole.root, text, walk.alloc)
 }
 
-/// The schema that a pointer leads to.
+/// The schema to which a JSON pointer leads.
 pub fn at_pointer<'s>(
     root: &'s JsonValue,
     text: &str,
@@ -97,7 +97,7 @@ pub fn read_pointer(text: &str, alloc: Global) -> Result<Option<Pointer>, AllocE
     }
 }
 
-/// The bytes of a reference that is nothing but a fragment.
+/// The bytes of a reference that is only a fragment; else `None`.
 fn read_reference(reference: &str, alloc: Global) -> Result<Option<Vec<u8>>, AllocError>
     ensures { IfOk result (λ d. option_map (λ v. v.items) d ≡ reference_bytes reference.now) }
 {
@@ -110,8 +110,7 @@ fn read_reference(reference: &str, alloc: Global) -> Result<Option<Vec<u8>>, All
     percent_decoded(fragment, alloc)
 }
 
-/// The bytes that percent-encoded ones stand for (RFC 3986, section 2.1); `None` where two hexadecimal digits do not
-/// follow a `%`.
+/// Decodes percent-encoded bytes (RFC 3986, section 2.1). `None` if two hexadecimal digits do not follow a `%`.
 pub fn percent_decoded(bytes: &[u8], alloc: Global) -> Result<Option<Vec<u8>>, AllocError>
     ensures { IfOk result (λ d. option_map (λ v. v.items) d ≡ percent_decoded bytes.now) }
 {
@@ -127,7 +126,7 @@ pub fn percent_decoded(bytes: &[u8], alloc: Global) -> Result<Option<Vec<u8>>, A
     Ok(Some(decoded))
 }
 
-/// The byte that the first one stands for, and what follows; after a `%` two digits belong to it.
+/// The first decoded byte, and the bytes after it: a `%` takes two digits.
 fn decoded_byte(first: u8, more: &[u8]) -> Option<(u8, &[u8])>
     ensures { MatchOption result (byte_front first more.now ≡ None)
         (λ r. byte_front first more.now ≡ Some (r.0, r.1.now)) }
@@ -139,7 +138,7 @@ fn decoded_byte(first: u8, more: &[u8]) -> Option<(u8, &[u8])>
     }
 }
 
-/// The byte of the two hexadecimal digits that come first.
+/// The byte of the two hexadecimal digits at the front, and what follows.
 fn escaped_byte(text: &[u8]) -> Option<(u8, &[u8])>
     ensures { MatchOption result (escape_front text.now ≡ None)
         (λ r. escape_front text.now ≡ Some (r.0, r.1.now)) }
@@ -169,7 +168,7 @@ fn hex_byte(high: u8, low: u8) -> Option<u8>
     Some((high * 16 + low) as u8)
 }
 
-/// Whether what stands where the tokens lead is a schema, and no data.
+/// Whether these tokens lead to a schema, and not to data.
 fn leads_to_schema(tokens: &[String]) -> bool
     ensures { result ≡ is_schema_form (form_after form.Schema (map text tokens.now)) }
 {
@@ -180,7 +179,7 @@ fn leads_to_schema(tokens: &[String]) -> bool
     is_schema_form(form)
 }
 
-/// What stands at a token, in a schema, or in a list or an object of schemas.
+/// The form of what is at a token: in a schema, in a list of schemas or in an object of schemas.
 fn form_in(form: Form, token: &String) -> Form
     ensures { result ≡ form_in form (text token.now) }
 {

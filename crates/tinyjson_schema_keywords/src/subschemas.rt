@@ -1,4 +1,4 @@
-//! The schemas in a document, by their members.
+//! All members of a schema and of its subschemas, in one walk.
 ghost use Rattle.std.specs.Prelude.{◌≡◌, IfOk, OnOk};
 ghost use Rattle.tinyjson.specs.View.{view, items_view, members_listed};
 ghost use Rattle.tinyjson_schema_keywords.specs.Subschemas.{schema_members, members_among};
@@ -11,20 +11,20 @@ use crate::keyword::{Keyword, keyword_of};
 use std::alloc::{AllocError, Global};
 use tinyjson::{JsonValue, sorted_members};
 
-/// A member of a schema.
+/// A member of a schema or of a subschema.
 #[derive(Clone, Copy)]
 pub struct SchemaMember<'s> {
     pub schema: &'s JsonValue,
     pub name: &'s String,
-    /// The keyword of that name, if there is one.
+    /// The keyword of that name, if it is one.
     pub keyword: Option<Keyword>,
     pub value: &'s JsonValue,
 }
 
-/// The members of a schema and of the schemas in it, in the order of their keys: after each one, those of the schemas in
-/// its value. The only error is out of memory.
+/// The members of a schema and of all its subschemas, in the order of their keys. After each member come those of
+/// the schemas in its value. The only error is out of memory.
 ///
-/// It calls itself for each nested schema, so it takes stack as the schema is nested.
+/// It is recursive: it takes stack with the nesting of the schema.
 pub fn schema_members(
     schema: &JsonValue,
     alloc: Global,
@@ -54,7 +54,7 @@ fn gather<'s>(
     }
 }
 
-/// Members of the schema, each with those in its value.
+/// Appends members of the schema, each with those in its value.
 #[cycle(subschemas)]
 fn gather_named<'s>(
     members: &[(&'s String, &'s JsonValue)],
@@ -78,7 +78,7 @@ fn gather_named<'s>(
     Ok(())
 }
 
-/// Those of the schemas in a member's value.
+/// Appends the members of the schemas in a member's value.
 #[cycle(subschemas)]
 fn gather_within<'s>(
     form: Form,

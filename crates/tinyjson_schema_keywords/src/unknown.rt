@@ -1,4 +1,4 @@
-//! The names in a schema that are no keywords.
+//! The names in a schema that are not keywords.
 ghost use Rattle.std.specs.Prelude.{IfOk, OnOk};
 ghost use Rattle.tinyjson.specs.View.{view};
 ghost use Rattle.tinyjson_schema_keywords.specs.Subschemas.{seen, all_seen};
@@ -10,11 +10,11 @@ use std::alloc::{AllocError, Global};
 use std::collections::BTreeSet;
 use tinyjson::JsonValue;
 
-/// The names that are no keywords, of the schema and of the schemas in it: each once, in the order of bytes. What
-/// stands where no schema does is none: a key of `properties` or `$defs`, say, or what an `enum` holds. The
-/// only error is out of memory.
+/// The names that are not keywords, in the schema and its subschemas: each once, in the order of bytes. Names
+/// outside of schemas do not count, as the keys of `properties` and `$defs` and what is in an `enum`. The only
+/// error is out of memory.
 ///
-/// It takes stack as the schema is nested.
+/// It takes stack with the nesting of the schema.
 pub fn unknown_words(schema: &JsonValue, alloc: Global) -> Result<BTreeSet<String>, AllocError>
     ensures { IfOk result (AreWords (unknown_words (view schema.now))) }
 {
@@ -32,7 +32,7 @@ fn words_among(members: &[SchemaMember<'_>], alloc: Global) -> Result<BTreeSet<S
     Ok(words)
 }
 
-/// Puts the name to the others, if it is that of no keyword.
+/// Inserts the member's name, unless it is that of a keyword.
 fn gather_word(
     member: SchemaMember<'_>,
     alloc: Global,

@@ -1,14 +1,14 @@
-//! How far a check has come into schemas that apply one another.
+//! The state of a check, which is passed down from schema to subschema.
 ghost use Rattle.std.specs.Prelude.{◌≡◌, MatchResult};
 ghost use Rattle.tinyjson_schema_keywords.specs.Walks.{IsDeeper};
 
 use crate::document::Whole;
 use std::alloc::{AllocError, AllocFailed, Global};
 
-/// Why it is not known whether a value is valid.
+/// Why a check has no result.
 #[derive(Clone, Copy)]
 pub enum CheckError {
-    /// More schemas would be applied in one another than the caller allows.
+    /// More nested schemas would be applied than the caller allows.
     TooDeep,
     /// An allocation failed.
     OutOfMemory,
@@ -26,7 +26,7 @@ impl<T: Drop> From<AllocFailed<T>> for CheckError {
     }
 }
 
-/// Where references lead, how many more nested schemas may be applied, and where what the check makes is allocated.
+/// The whole schema, in which references lead; how many more nested schemas may be applied; and the allocator.
 #[derive(Clone, Copy)]
 pub struct Walk<'d, 's> {
     pub whole: &'d Whole<'s>,
@@ -35,7 +35,7 @@ pub struct Walk<'d, 's> {
 }
 
 impl<'d, 's> Walk<'d, 's> {
-    /// The walk inside a schema.
+    /// The state for a subschema: one step less is left.
     pub fn deeper(self) -> Result<Walk<'d, 's>, CheckError>
         ensures { MatchResult result
             (λ inner. IsDeeper self.entry inner) (λ _. self.entry.steps ≡ 0) }
