@@ -1,4 +1,4 @@
--- How the program ends where it has no answer.
+-- The failures of the program.
 use Rattle.std.specs.Prelude.{◌≡◌, ℕ, ◌⊎◌, List, ◌++◌, Option, Some, codes}
 use Rattle.tinyjson.specs.Error.{error_kind, error_message}
 use Rattle.tinyjson.specs.JsonParseErrorKind.TheVariants as kind
@@ -26,16 +26,16 @@ schema_message (is.PatternLimit place) =
 abbrev pub Is : Status → List ℕ → Failure → Type 0
 Is status words f = (failure_status f ≡ status) × (failure_message f ≡ Some words)
 
--- Status 2 and the message of a schema, or memory ran out.
+-- Status 2 and the message for a schema; or out of memory.
 abbrev pub TellsSchema : SchemaFailure → Failure → Type 0
 TellsSchema e f = Is Misused (schema_message e) f ⊎ (f ≡ failure.OutOfMemory)
 
--- Of a schema's text that has no value; memory that ran out is told as that.
+-- Status 2 and the message for a schema whose text is no JSON; or out of memory.
 abbrev pub TellsSchemaText : JsonParseError → Failure → Type 0
 TellsSchemaText e f =
     ((error_kind e ≡ kind.OutOfMemory) × (f ≡ failure.OutOfMemory)) ⊎ (¬ (error_kind e ≡ kind.OutOfMemory) × TellsSchema (is.Text e) f)
 
--- Status 3 and why a text is not checked, or memory ran out; a text that is no JSON is told with its place.
+-- Status 3 and the reason why a text can't be checked, with the parser's place if it is no JSON; or out of memory.
 abbrev pub TellsText : Cause → Failure → Type 0
 TellsText (cause.NotJson e) f = f ≡ failure.NotJson e
 TellsText cause.NotUtf8 f = Is Refused (codes "not UTF-8") f ⊎ (f ≡ failure.OutOfMemory)

@@ -1,7 +1,7 @@
--- What the arguments ask for.
+-- The program's arguments.
 use Rattle.std.specs.Prelude.{ℕ, Bool, List, Option, option_map}
 use Rattle.tinyjson_cli.specs.Arguments.{Given, first_operand, is_given}
 
--- whether by lines, with `-l`; the name of the schema's file; and the files
+-- whether `-l` is there, the name of the schema's file, and the other files
 abbrev pub asks : Given → Option (Bool × (List ℕ × List (List ℕ)))
 asks a = option_map (λ o. (is_given 108 a, o)) (first_operand a.operands)

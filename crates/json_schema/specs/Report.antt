@@ -1,5 +1,5 @@
--- The report of a value that is not valid (Core, 12.4.2): the place in the value and the keyword's, with the number of its line
--- if it has one.
+-- The report of a value that is not valid (Core, 12.4.2): the place in the value and that of the keyword, with the
+-- number of the value's line if it has one.
 use Rattle.std.specs.Prelude.{ℕ, pos, false, Option, Some, None, codes}
 use Rattle.tinyjson.specs.Number.{integer_decimal}
 use Rattle.tinyjson.specs.Tree.{Tree, boolean, number, string, object, Members, no_members, member, put}

@@ -1,4 +1,4 @@
--- What the check of each line of an input does.
+-- The check of each line of an input.
 use Rattle.std.specs.Prelude.{◌≡◌, ℕ, List, [], ◌∷◌, Option, Some, option_map, Result, Ok, Err, ◌⊎◌}
 use Rattle.std.specs.Io.KnownBytes.{Appends, Keeps}
 use Rattle.std.specs.declared.io.Error.{Error}
@@ -22,12 +22,12 @@ status AllValid = ended.Done
 status SomeInvalid = ended.No
 status SomeRefused = ended.No
 
--- what is written of the line of this number: a report, where its value is not valid
+-- what is written for the line with this number: a report if its value is not valid
 abbrev pub report_of : ℕ → Verdict → List ℕ
 report_of n (Invalid v) = line_of (report_tree (Some n) v)
 report_of n _ = []
 
--- what is told of it: why it can't be checked, if it can't
+-- what is printed for it on standard error: why it can't be checked, if it can't
 abbrev pub telling_of : Check → ℕ → Verdict → List ℕ
 telling_of k n (Refused c) = told_line (option_map (λ f. f.now) k.file) n c
 telling_of k n _ = []
@@ -48,18 +48,19 @@ abbrev pub outcome_of_all : List Verdict → Outcome
 outcome_of_all [] = AllValid
 outcome_of_all (v ∷ vs) = both (outcome_of v) (outcome_of_all vs)
 
--- what a line gives in this check
+-- the verdict on a line in this check
 abbrev pub Gives : Check → List ℕ → Verdict → Type 0
 Gives k = LineGives (tree_of k.schema.now)
 
--- By this check: what the input had and has, the output held and holds, and standard error held and holds.
+-- A run of this check: the input before and after, the output before and after, and standard error before and
+-- after.
 abbrev pub Runs : Check → Option (List ℕ) → Option (List ℕ) → Option (List ℕ) → Option (List ℕ) → Option (List ℕ) → Option (List ℕ)
     → Result Outcome Error → Type 0
 Runs k unread left held holds told tells (Ok o) =
     (vs : List Verdict) × AnswersAll (Gives k) report_of (telling_of k) unread left held holds told tells vs × (o ≡ outcome_of_all vs)
 Runs k unread left held holds told tells (Err e) = StopsAmong (Gives k) report_of (telling_of k) unread held holds told tells
 
--- the same of one line
+-- the same for one line
 abbrev pub Handles : Check → ℕ → List ℕ → Option (List ℕ) → Option (List ℕ) → Option (List ℕ) → Option (List ℕ)
     → Result Outcome Error → Type 0
 Handles k n line held holds told tells (Ok o) =

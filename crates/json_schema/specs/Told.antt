@@ -1,4 +1,4 @@
--- What is told on standard error: a line each.
+-- The messages on standard error, of one line each.
 use Rattle.std.specs.Fmt.{decimal}
 use Rattle.std.specs.Prelude.{ℕ, List, [], ◌∷◌, ◌++◌, Option, None, Some, codes}
 use Rattle.std.specs.Str.{chars}
@@ -15,13 +15,13 @@ program = codes "json_schema"
 abbrev pub too_deep : List ℕ
 too_deep = codes "too many schemas are applied in one another"
 
--- that the line of this number, of the file with this name or of standard input, takes too many schemas
+-- that the line with this number, of the file with this name or of standard input, needs too many nested schemas
 abbrev pub told_depth : Option (List ℕ) → ℕ → List ℕ
 told_depth None n = program ++ (codes ": line " ++ (decimal n ++ (codes ": " ++ (too_deep ++ line_feed ∷ []))))
 told_depth (Some file) n =
     shown (chars file) ++ (codes ":" ++ (decimal n ++ (codes ": " ++ (too_deep ++ line_feed ∷ []))))
 
--- why it can't be checked
+-- why a line can't be checked
 abbrev pub told_line : Option (List ℕ) → ℕ → Cause → List ℕ
 told_line file n NotUtf8 = refusal_line program file record { number = n; cause = line.NotUtf8 }
 told_line file n (NotJson e) = refusal_line program file record { number = n; cause = line.NotJson e }

@@ -1,4 +1,4 @@
--- What a check says of a text.
+-- The verdict on a text.
 use Rattle.std.specs.Prelude.{◌≡◌, ℕ, List, Option, Some, None, Ok, Err}
 use Rattle.std.specs.Str.{IsUtf8, chars}
 use Rattle.tinyjson.specs.Error.{error_kind}
@@ -14,30 +14,30 @@ use Rattle.json_schema.specs.declared.verdict.Cause.TheVariants as cause
 use Rattle.json_schema.specs.declared.verdict.Verdict.{Verdict}
 use Rattle.json_schema.specs.declared.verdict.Verdict.TheVariants.{Valid, Invalid, Refused}
 
--- how many containers may be open at once, and how many schemas may be applied in one another
+-- how many containers may be nested, and how many nested schemas may be applied
 abbrev pub depth_limit : Option ℕ
 depth_limit = Some 100
 
 abbrev pub step_limit : ℕ
 step_limit = 200
 
--- what the check of the tree t by the schema s says
+-- the verdict on the tree t by the schema s
 abbrev pub ValueGives : Tree → Tree → Verdict → Type 0
 ValueGives s t Valid = Validates step_limit s t (Ok None)
 ValueGives s t (Invalid v) = Validates step_limit s t (Ok (Some v))
 ValueGives s t (Refused cause.TooDeep) = Validates step_limit s t (Err check.TooDeep)
 ValueGives s t (Refused _) = ⊥
 
--- the characters are no text, and this is what the parser says of them
+-- the characters are no JSON text, with this error of the parser
 abbrev pub IsNoText : List ℕ → JsonParseError → Type 0
 IsNoText xs e = ParsesText depth_limit xs (Err e) × ¬ (error_kind e ≡ kind.OutOfMemory) × ¬ IsAccepted depth_limit xs
 
--- the characters are the text of a value, of which the check says this; or they are no text
+-- the characters are a JSON text with this verdict on its value, or they are no JSON text
 abbrev pub TextGives : Tree → List ℕ → Verdict → Type 0
 TextGives s xs (Refused (cause.NotJson e)) = IsNoText xs e
 TextGives s xs v = (t : Tree) × IsText depth_limit xs t × ValueGives s t v
 
--- the same of a line's, without its line feed; or they are not UTF-8
+-- the same for a line without its line feed, or it is not UTF-8
 abbrev pub LineGives : Tree → List ℕ → Verdict → Type 0
 LineGives s line (Refused cause.NotUtf8) = ¬ IsUtf8 (content line)
 LineGives s line v = IsUtf8 (content line) × TextGives s (chars (content line)) v

@@ -1,4 +1,4 @@
-//! How the program ends where it has no answer.
+//! The failures of the program.
 ghost use Rattle.std.specs.Prelude.{Some};
 ghost use Rattle.json_schema.specs.Failures.{schema_message, TellsSchema, TellsSchemaText, TellsText};
 
@@ -13,9 +13,9 @@ use tinyjson_cli::{Failure, Shown};
 pub enum SchemaFailure {
     /// It is no JSON text.
     Text(JsonParseError),
-    /// It can't be applied at the place with this pointer.
+    /// It can't be applied; the string is a pointer to the place.
     Refused(String),
-    /// The pattern at the place with this pointer is too deep or too large.
+    /// A pattern is too deep or too large; the string is a pointer to it.
     PatternLimit(String),
 }
 
@@ -41,7 +41,7 @@ impl fmt::Display for SchemaFailure {
     }
 }
 
-/// The failure of a schema that is not applied, with its message and its status.
+/// The failure for a schema that is not applied, with its message and status.
 pub fn schema_failure(alloc: Global, failure: &SchemaFailure) -> Failure
     ensures { TellsSchema failure.now result }
 {
@@ -51,7 +51,7 @@ pub fn schema_failure(alloc: Global, failure: &SchemaFailure) -> Failure
     }
 }
 
-/// The failure of a schema that has no value, as the parser says of its text; or memory ran out.
+/// The failure for a schema whose text is no JSON; or out of memory.
 pub fn schema_text_failure(alloc: Global, error: JsonParseError) -> Failure
     ensures { TellsSchemaText error result }
 {
@@ -61,7 +61,7 @@ pub fn schema_text_failure(alloc: Global, error: JsonParseError) -> Failure
     schema_failure(alloc, &SchemaFailure::Text(error))
 }
 
-/// The failure of a text that is not checked, with its message and its status.
+/// The failure for a text that is not checked, with its message and status.
 pub fn text_failure(alloc: Global, cause: Cause) -> Failure
     ensures { TellsText cause result }
 {

@@ -1,4 +1,4 @@
-//! The check of each line of an input.
+//! Checks each line of an input.
 ghost use Rattle.std.specs.Prelude.{◌≡◌};
 ghost use Rattle.json_schema.specs.Run.{Runs, Handles, both, status};
 
@@ -11,28 +11,28 @@ use tinyjson_cli::Status;
 use tinyjson_lines::read_line;
 use tinyjson_schema::Schema;
 
-/// What lines are checked against, and where they are.
+/// The schema that lines are checked against, and the file that they are from.
 #[derive(Clone, Copy)]
 pub struct Check<'a, 's> {
     /// The schema.
     pub schema: &'a Schema<'s>,
-    /// The name of the file with the lines, if it has one: it is told of those that can't be checked.
+    /// The name of the file with the lines, if it has one, for messages.
     pub file: Option<&'a str>,
 }
 
-/// What became of the texts that were checked.
+/// The outcome for the texts that were checked.
 #[derive(Clone, Copy)]
 pub enum Outcome {
-    /// Each is valid.
+    /// All are valid.
     AllValid,
-    /// Each has a value, and some are not valid.
+    /// All are JSON, and some are not valid.
     SomeInvalid,
-    /// Some have no value, or it is not known whether they are valid.
+    /// Some are no JSON, or could not be checked.
     SomeRefused,
 }
 
 impl Outcome {
-    /// The status with which the program ends: 1 where one is not valid, or has no value.
+    /// The status with which the program ends: 1 if one is not valid or was rejected.
     pub fn status(self) -> Status
         ensures { result ≡ status self }
     {
@@ -42,7 +42,7 @@ impl Outcome {
         }
     }
 
-    /// What became of these texts and of others.
+    /// The worse of two outcomes.
     fn and(self, other: Outcome) -> Outcome
         ensures { result ≡ both self other }
     {
@@ -55,12 +55,11 @@ impl Outcome {
     }
 }
 
-/// Checks the text on each line of the input. Of one that is not valid it writes a report with the line's number to
-/// `output`; of one that can't be checked it tells `errors` the number and why, and goes on.
+/// Checks the JSON text on each line of the input. For one that is not valid it writes a report with the line's
+/// number to `output`. For one that can't be checked it writes the number and the reason to `errors`, and goes on.
 ///
-/// A line ends after its line feed, and the last one where the input ends. Memory that runs out, a read or a
-/// write that fails is an error. Then of what was to be written of the lines so far, and of what was to be told, a
-/// prefix was.
+/// A line ends after its line feed, and the last one with the input. The error is out of memory, or a read or a
+/// write that fails. Then a prefix was written of the reports and of the messages for the lines so far.
 ///
 /// ```
 /// let mut input = b"1\n\"a\"\n{".as_slice();
@@ -90,7 +89,7 @@ pub fn check_lines<R: BufRead, W: Write, E: Write>(
     Err(io::Error::new(ErrorKind::InvalidData, "too many lines"))
 }
 
-/// Checks one line, and writes or tells of it, after what was written before it.
+/// Checks one line, and writes its report or its message.
 fn handle<W: Write, E: Write>(
     alloc: Global,
     check: Check<'_, '_>,

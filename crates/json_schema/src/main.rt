@@ -1,4 +1,4 @@
-//! Checks JSON texts against a JSON Schema (2020-12). Its help page has the arguments and the statuses.
+//! Checks JSON texts against a JSON Schema (2020-12). Its help page lists the arguments and the statuses.
 #![tactic(auto)]
 
 mod failure;
@@ -77,7 +77,7 @@ fn run(rt: &HostRuntime) -> Result<Status, Status> {
     }
 }
 
-/// Reads the schema, and checks what was asked for.
+/// Reads the schema, and checks the inputs.
 fn check_inputs(rt: &HostRuntime, request: &Request<'_, '_>) -> Result<Status, Failure> {
     let tree = schema_tree(rt, request.schema)?;
     let schema = bundled(&tree, rt.alloc());
@@ -88,9 +88,9 @@ fn check_inputs(rt: &HostRuntime, request: &Request<'_, '_>) -> Result<Status, F
     checked
 }
 
-/// The value of the schema's file.
-// Neither this is inlined nor the check of texts or of lines, so that a check has the buffers of no other one below it
-// on the stack.
+/// Parses the schema's file.
+// Not inlined, nor is the check of texts or of lines, so that a check has no other one's buffers below it on the
+// stack.
 #[inline(never)]
 fn schema_tree(rt: &HostRuntime, file: &str) -> Result<JsonValue, Failure> {
     let alloc = rt.alloc();
@@ -101,7 +101,7 @@ fn schema_tree(rt: &HostRuntime, file: &str) -> Result<JsonValue, Failure> {
     }
 }
 
-/// Tells of the unknown words of the schema, and checks each input.
+/// Prints the unknown names of the schema, and checks each input.
 fn check_by(
     rt: &HostRuntime,
     tree: &JsonValue,
@@ -144,7 +144,7 @@ fn read_schema(alloc: Global, tree: &JsonValue) -> Result<Schema<'_>, Failure> {
     Err(schema_failure(alloc, &failure))
 }
 
-/// A schema that each text is checked against.
+/// The schema that each text is checked against.
 #[derive(Drop)]
 struct Asked<'a, 's> {
     alloc: Global,

@@ -1,4 +1,4 @@
-//! What the arguments ask for.
+//! The program's arguments.
 ghost use Rattle.std.specs.Prelude.{◌≡◌, option_map, map};
 ghost use Rattle.tinyjson_cli.specs.Arguments.{given_of};
 ghost use Rattle.json_schema.specs.Options.{asks};
@@ -15,7 +15,7 @@ pub const LINES: Known<'static> = Known {
 /// A check against the schema of a file.
 #[derive(Drop)]
 pub struct Request<'w, 'a> {
-    /// Whether each line of an input is a text.
+    /// Whether each line of an input is a text of its own.
     pub by_lines: bool,
     /// The name of the schema's file.
     pub schema: &'w str,
@@ -23,7 +23,7 @@ pub struct Request<'w, 'a> {
     pub files: &'a [&'w str],
 }
 
-/// What is asked for: `[-l] SCHEMA [FILE..]`.
+/// Parses the arguments: `[-l] SCHEMA [FILE..]`.
 pub fn requested<'w, 'a>(arguments: &'a Arguments<'w>) -> Option<Request<'w, 'a>>
     ensures { option_map (λ r. (r.by_lines, (r.schema.now, map (λ f. f.now) r.files.now))) result
         ≡ asks (given_of arguments.now) }

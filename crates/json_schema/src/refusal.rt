@@ -1,4 +1,4 @@
-//! What is told of a line that can't be checked.
+//! Messages about lines that can't be checked.
 ghost use Rattle.std.specs.Prelude.{◌≡◌, IfOk, option_map, string_bytes};
 ghost use Rattle.tinyjson.specs.Written.{WritesPrefix};
 ghost use Rattle.json_schema.specs.Told.{told_line, told_depth};
@@ -14,13 +14,13 @@ use tinyjson_lines::{self as lines, Refusal, write_all};
 pub struct Unchecked<'a> {
     /// The name of the file with the line, if it has one.
     pub file: Option<&'a str>,
-    /// Which line of the input it is, from 1.
+    /// The number of the line in the input, from 1.
     pub number: u64,
     /// Why it can't be checked.
     pub cause: Cause,
 }
 
-/// Writes one line about a line that can't be checked.
+/// Writes a message of one line about a line that can't be checked.
 pub fn tell_line<E: Write>(alloc: Global, errors: &mut E, line: Unchecked<'_>) -> io::Result<()>
     ensures { WritesPrefix (E.contents errors.old) (E.contents errors.new)
         (told_line (option_map (λ f. f.now) line.entry.file) line.entry.number line.entry.cause)
@@ -44,7 +44,7 @@ pub fn tell_line<E: Write>(alloc: Global, errors: &mut E, line: Unchecked<'_>) -
     tell(alloc, errors, &refused)
 }
 
-/// Writes one line about a line whose value takes too many schemas.
+/// Writes a message of one line about a line whose check needs too many nested schemas.
 fn tell_depth<E: Write>(
     alloc: Global,
     errors: &mut E,

@@ -1,4 +1,4 @@
-//! The line that is printed of a value that is not valid.
+//! The report of a value that is not valid.
 ghost use Rattle.std.specs.Prelude.{◌≡◌, IfOk, OnOk};
 ghost use Rattle.std.specs.Str.{chars};
 ghost use Rattle.tinyjson.specs.Tree.{put};
@@ -15,10 +15,10 @@ use tinyjson_lines::write_line;
 use tinyjson_pointer::Pointer;
 use tinyjson_schema::Violation;
 
-/// Writes an output unit (Core, 12.4.2) as one line in normal form, with the number of the value's line if it
-/// has one.
+/// Writes an output unit (Core, 12.4.2) as one line of normal text, with the number of the value's line if it has
+/// one.
 ///
-/// The first error ends it, and a prefix of the line was written then. Nothing is flushed.
+/// It stops at the first error, and then a prefix of the line was written. It does not flush.
 pub fn write_report<W: Write>(
     alloc: Global,
     line: Option<u64>,

@@ -1,4 +1,4 @@
-//! The names in a schema that are no keywords, as they are told.
+//! Messages about names in a schema that are not keywords.
 ghost use Rattle.std.specs.Prelude.{map};
 ghost use Rattle.std.specs.Str.{chars};
 ghost use Rattle.tinyjson.specs.View.{text};
@@ -11,7 +11,7 @@ use std::io::{self, Write};
 use tinyjson_cli::Shown;
 use tinyjson_lines::write_all;
 
-/// Writes a line for each of the words, which says that it is no keyword.
+/// Writes a line for each of the names, which says that it is no keyword.
 pub fn tell_words<E: Write>(
     alloc: Global,
     errors: &mut E,

@@ -1,4 +1,4 @@
-//! What a check says of a text.
+//! The verdict on a text.
 ghost use Rattle.std.specs.Prelude.{IfOk};
 ghost use Rattle.std.specs.Str.{chars};
 ghost use Rattle.tinyjson.specs.View.{view};
@@ -11,35 +11,35 @@ use tinyjson::{JsonParseError, JsonValue};
 use tinyjson_lines::content;
 use tinyjson_schema::{CheckError, Schema, Violation};
 
-/// How many containers of a schema or a value may be open at once: the check takes stack as they are deep.
+/// How many containers may be nested in a schema or a value: the check takes stack with the nesting.
 pub const DEPTH_LIMIT: usize = 100;
 
-/// How many schemas may be applied in one another: so many take less than 256 KB of stack.
+/// How many nested schemas may be applied: these take less than 256 KB of stack.
 const STEP_LIMIT: usize = 200;
 
-/// What a check says of a text.
+/// The verdict on a text.
 #[derive(Drop)]
 pub enum Verdict {
-    /// The text has a value, which is valid.
+    /// The text is JSON, and its value is valid.
     Valid,
-    /// The text has a value, which does not meet the schema there.
+    /// The text is JSON, and its value violates the schema there.
     Invalid(Violation),
-    /// The text has no value, or it is not known whether that is valid.
+    /// The text is no JSON, or its value can't be checked.
     Refused(Cause),
 }
 
-/// Why a text is not checked.
+/// Why a text can't be checked.
 #[derive(Clone, Copy)]
 pub enum Cause {
     /// It is not UTF-8.
     NotUtf8,
-    /// It is no JSON text, or more than 100 containers are open in it at once.
+    /// It is no JSON text, or more than 100 containers are nested in it.
     NotJson(JsonParseError),
-    /// Its value goes through more than 200 schemas in one another.
+    /// It needs more than 200 nested schemas.
     TooDeep,
 }
 
-/// What the check of a text's value says. The only error is out of memory.
+/// Checks a text. The only error is out of memory.
 pub fn check_text(alloc: Global, schema: &Schema<'_>, text: &str) -> Result<Verdict, AllocError>
     ensures { IfOk result (TextGives (tree_of schema.now) (chars text.now)) }
 {
@@ -69,7 +69,7 @@ fn check_value(alloc: Global, schema: &Schema<'_>, value: &JsonValue) -> Result<
     }
 }
 
-/// The same of the text on a line, without its line feed.
+/// Checks the text on a line, without its line feed.
 pub fn check_line(alloc: Global, schema: &Schema<'_>, line: &[u8]) -> Result<Verdict, AllocError>
     ensures { IfOk result (LineGives (tree_of schema.now) line.now) }
 {

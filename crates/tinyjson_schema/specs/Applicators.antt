@@ -1,5 +1,5 @@
--- The keywords that apply schemas, by what those schemas say of values (JSON Schema 2020-12, Core, section 10).
--- A keyword that is missing says nothing; nor does a list or an object of schemas that is empty, or has another form.
+-- The keywords that apply schemas, given the results of those schemas (JSON Schema 2020-12, Core, section 10). A
+-- keyword that is missing accepts every value; so does an empty list or object of schemas, and one of another form.
 use Rattle.std.specs.Prelude.{ℕ, suc, ◌+◌, ◌==◌, Bool, true, false, not, ◌&&◌, ◌||◌, List}
 use Rattle.std.specs.Prelude.{[], ◌∷◌, Option, Some, None, cond, is_some, length}
 use Rattle.std.specs.Prelude.{option_and_then}
@@ -14,11 +14,11 @@ use Rattle.tinyjson_schema_keywords.specs.declared.keyword.Keyword.TheVariants a
 use Rattle.tinyjson_schema.specs.Assertions.{is_count_at_most, is_count_at_least}
 use Rattle.tinyjson_schema.specs.Parts.{member_schema, item_schema}
 
--- what each schema, the first tree, says of each value
+-- whether a schema, the first tree, accepts a value
 abbrev pub Judge : Type 0
 Judge = Tree → Tree → Bool
 
--- each of the schemas accepts the value, or some does
+-- each of the schemas accepts the value, or one does
 abbrev pub all_accept : Judge → Items → Tree → Bool
 all_accept f no_items t = true
 all_accept f (item r rs) t = f r t && all_accept f rs t
@@ -38,12 +38,12 @@ accepting f (item r rs) t = cond (f r t) 1 0 + accepting f rs t
 abbrev pub one_of : Judge → Items → Tree → Bool
 one_of f rs t = not (is_some_item rs) || accepting f rs t == 1
 
--- what a test says of each key of an object
+-- each key of an object passes the test
 abbrev pub keys_pass : (Tree → Bool) → Members → Bool
 keys_pass p no_members = true
 keys_pass p (member k u ms) = p (string k) && keys_pass p ms
 
--- how many items pass a test
+-- how many items pass the test
 abbrev pub passing : (Tree → Bool) → Items → ℕ
 passing p no_items = 0
 passing p (item u us) = cond (p u) 1 0 + passing p us
@@ -52,7 +52,7 @@ abbrev pub items_passing : (Tree → Bool) → Tree → Option ℕ
 items_passing p (array us) = Some (passing p us)
 items_passing p _ = None
 
--- how many items of an array the schema of `contains` accepts; none are counted of another value, or without `contains`
+-- how many items of an array the schema of `contains` accepts; none without `contains`, or if the value is no array
 abbrev pub contained : Judge → Tree → Tree → Option ℕ
 contained f s t = option_and_then (λ r. items_passing (f r) t) (schema_at s kw.Contains)
 
@@ -60,7 +60,7 @@ abbrev pub is_zero : Tree → Bool
 is_zero (number d) = length d.digits == 0
 is_zero _ = false
 
--- the count is one at least, unless `minContains` is 0; at most `maxContains`; at least `minContains`
+-- the count is at least 1, unless `minContains` is 0; at most `maxContains`; at least `minContains`
 abbrev pub contains_some : Option ℕ → Tree → Bool
 contains_some count s = option_map_or is_zero (schema_at s kw.MinContains) false || option_map_or (λ n. not (n == 0)) count true
 
@@ -73,17 +73,17 @@ contains_at_least count s = option_map_or (λ w. is_count_at_least count w) (sch
 abbrev pub branch_accepts : Judge → Tree → Tree → Bool → Bool
 branch_accepts f s t accepted = option_map_or (λ r. f r t) (schema_at s (branch accepted)) true
 
--- where a key is there, the schema that depends on it accepts the value
+-- for each key that the value has, the schema of `dependentSchemas` accepts the value
 abbrev pub dependents_accept : Judge → Members → Tree → Bool
 dependents_accept f no_members t = true
 dependents_accept f (member k r rs) t = (not (is_some (tree_at_key t k)) || f r t) && dependents_accept f rs t
 
--- each of the members in whose key the pattern p is found passes a test
+-- each member passes the test whose key the pattern p matches
 abbrev pub found_pass : (Tree → Bool) → List ℕ → Members → Bool
 found_pass q p no_members = true
 found_pass q p (member k u ms) = (not (is_found p k) || q u) && found_pass q p ms
 
--- of each pattern, the schema that it has accepts those
+-- for each pattern, its schema accepts those members
 abbrev pub patterns_accept : Judge → Members → Members → Bool
 patterns_accept f no_members ms = true
 patterns_accept f (member p r rs) ms = found_pass (f r) p ms && patterns_accept f rs ms
@@ -107,7 +107,7 @@ abbrev pub apply_all : Judge → List Keyword → Tree → Tree → Bool
 apply_all f [] s t = true
 apply_all f (k ∷ ks) s t = applies f k s t && apply_all f ks s t
 
--- those that say only whether the value is accepted, and those that say where it is not
+-- `counts` and `tests` only accept or reject; a violation of `demands` has its place within one of their schemas
 abbrev pub counts : List Keyword
 counts = kw.Contains ∷ kw.MaxContains ∷ kw.MinContains ∷ []
 
@@ -117,7 +117,7 @@ tests = kw.AnyOf ∷ kw.OneOf ∷ kw.Not ∷ kw.PropertyNames ∷ counts
 abbrev pub demands : List Keyword
 demands = kw.AllOf ∷ kw.If ∷ kw.DependentSchemas ∷ kw.PatternProperties ∷ []
 
--- each member and each item is accepted by the schema that there is for it
+-- the schema for each member and each item accepts it
 abbrev pub member_accepted : Judge → Tree → List ℕ → Tree → Bool
 member_accepted f s k u = option_map_or (λ r. f r u) (member_schema s k) true
 
@@ -128,7 +128,7 @@ members_accepted f s (member k u ms) = member_accepted f s k u && members_accept
 abbrev pub item_accepted : Judge → Tree → ℕ → Tree → Bool
 item_accepted f s i u = option_map_or (λ r. f r u) (item_schema s i) true
 
--- of items of which the first has the index i
+-- the first of the items has the index i
 abbrev pub items_accepted : Judge → Tree → ℕ → Items → Bool
 items_accepted f s i no_items = true
 items_accepted f s i (item u us) = item_accepted f s i u && items_accepted f s (suc i) us

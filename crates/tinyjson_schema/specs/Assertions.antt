@@ -1,6 +1,7 @@
--- The keywords that speak of a value and not of its parts (JSON Schema 2020-12, Validation).
--- One whose own value has another form than the standard's says nothing, but a type of another form, or with no name of a
--- type in it, accepts nothing, no value is in an `enum` that is no array, and a string that is no pattern is found in no text.
+-- The keywords that constrain a value itself, not its parts (JSON Schema 2020-12, Validation). If the keyword's own
+-- value has a form that the standard does not allow, it accepts every value. There are three exceptions: a `type`
+-- of another form, or without the name of a type, accepts none; no value is in an `enum` that is no array; a string
+-- that is no pattern matches no text.
 use Rattle.std.specs.Prelude.{◌≡◌, ℕ, suc, pos, Bool, true, false, not, ◌&&◌, ◌||◌, List, [], ◌∷◌, Option, Some, None, is_some, int_le}
 use Rattle.std.specs.Prelude.{codes, length}
 use Rattle.std.specs.Option.{option_map_or}
@@ -19,12 +20,12 @@ use Rattle.tinyjson_schema_keywords.specs.Names.{name}
 use Rattle.tinyjson_schema_keywords.specs.declared.keyword.Keyword.{Keyword}
 use Rattle.tinyjson_schema_keywords.specs.declared.keyword.Keyword.TheVariants as kw
 
--- a number with no fraction: its digits end in no 0, so its power decides
+-- a number without a fraction: its digits do not end in 0, so its power decides
 abbrev pub is_whole : Tree → Bool
 is_whole (number d) = int_le (pos 0) d.power
 is_whole _ = false
 
--- a name of a type: the kind's, or `integer`
+-- the name of the value's type, or `integer`
 abbrev pub is_type : Tree → Tree → Bool
 is_type (string name) t = bytes_eq name (kind_name (kind_of t)) || (bytes_eq name (codes "integer") && is_whole t)
 is_type _ t = false
@@ -41,7 +42,7 @@ abbrev pub is_in : Tree → Tree → Bool
 is_in (array us) t = is_among us t
 is_in _ t = false
 
--- how many characters, items or members there are, as a decimal
+-- a number of characters, items or members, as a decimal
 abbrev pub count : ℕ → Decimal
 count n = integer_decimal (pos n)
 
@@ -49,7 +50,7 @@ abbrev pub member_count : Members → ℕ
 member_count no_members = 0
 member_count (member k t ms) = suc (member_count ms)
 
--- each of the keys is there
+-- the value has each of the keys
 abbrev pub is_present : Tree → Members → Bool
 is_present (string key) ms = is_some (find key ms)
 is_present _ ms = true
@@ -62,7 +63,7 @@ abbrev pub has_keys : Tree → Members → Bool
 has_keys (array keys) ms = are_present keys ms
 has_keys _ ms = true
 
--- where the key is there, the keys that depend on it are
+-- if the value has the key, it has those that the key requires
 abbrev pub has_dependents_of : List ℕ → Tree → Members → Bool
 has_dependents_of k keys ms = not (is_some (find k ms)) || has_keys keys ms
 
@@ -70,22 +71,22 @@ abbrev pub has_dependents : Members → Members → Bool
 has_dependents no_members ms = true
 has_dependents (member k keys more) ms = has_dependents_of k keys ms && has_dependents more ms
 
--- whether a number is at most another; true of what is no number
+-- the first number is at most the second; true if one is no number
 abbrev pub are_ordered : Tree → Tree → Bool
 are_ordered (number d) (number e) = is_at_most d e
 are_ordered _ _ = true
 
--- whether a number is below another; true of what is no number
+-- the first number is less than the second; true if one is no number
 abbrev pub are_apart : Tree → Tree → Bool
 are_apart (number d) (number e) = not (is_at_most e d)
 are_apart _ _ = true
 
--- whether a number is a divisor's multiple; true of what is no number, or no divisor
+-- the number is a multiple of the divisor; true if one is no number, or the divisor is not allowed
 abbrev pub are_multiple : Tree → Tree → Bool
 are_multiple (number d) (number e) = not (is_divisor e) || is_multiple d e
 are_multiple _ _ = true
 
--- what is counted of a value: a text's characters, an array's items, an object's members
+-- what is counted: the characters of a string, the items of an array, the members of an object
 abbrev pub length_of : Tree → Option ℕ
 length_of (string cs) = Some (length cs)
 length_of _ = None
@@ -98,7 +99,7 @@ abbrev pub members_count_of : Tree → Option ℕ
 members_count_of (object ms) = Some (member_count ms)
 members_count_of _ = None
 
--- a count that is there is at most the limit, and at least the limit
+-- the count is at most the limit, or at least the limit; true without a count
 abbrev pub is_count_at_most : Option ℕ → Tree → Bool
 is_count_at_most (Some n) w = are_ordered (number (count n)) w
 is_count_at_most None w = true
@@ -107,12 +108,12 @@ abbrev pub is_count_at_least : Option ℕ → Tree → Bool
 is_count_at_least (Some n) w = are_ordered w (number (count n))
 is_count_at_least None w = true
 
--- the pattern, the first, is found in the text
+-- the pattern, the first tree, matches somewhere in the string
 abbrev pub has_pattern : Tree → Tree → Bool
 has_pattern (string ps) (string cs) = is_found ps cs
 has_pattern _ t = true
 
--- no two items of an array are equal, where that is asked
+-- no two items of an array are equal, if `uniqueItems` is true
 abbrev pub are_unique : Tree → Tree → Bool
 are_unique (boolean asked) (array ts) = not asked || are_distinct ts
 are_unique _ t = true
@@ -125,7 +126,7 @@ abbrev pub has_dependent_required : Tree → Tree → Bool
 has_dependent_required (object more) (object ms) = has_dependents more ms
 has_dependent_required _ t = true
 
--- whether the value t meets the keyword whose own value is w
+-- the value t meets the keyword, whose own value is w
 abbrev pub accepts : Keyword → Tree → Tree → Bool
 accepts kw.Type w t = has_type w t  -- 6.1.1
 accepts kw.Enum w t = is_in w t  -- 6.1.2
@@ -160,7 +161,7 @@ abbrev pub meets_all : List Keyword → Tree → Tree → Bool
 meets_all [] s t = true
 meets_all (k ∷ ks) s t = meets k s t && meets_all ks s t
 
--- No keyword, and the value meets all of these; or one that it does not meet.
+-- No keyword, and the value meets all of these; or one that the value violates.
 abbrev pub IsUnmetAmong : List Keyword → Tree → Tree → Option Keyword → Type 0
 IsUnmetAmong ks s t None = meets_all ks s t ≡ true
 IsUnmetAmong ks s t (Some k) = (meets k s t ≡ false) × (meets_all ks s t ≡ false)

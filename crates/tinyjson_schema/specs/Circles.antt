@@ -1,4 +1,4 @@
--- References that lead on and on.
+-- References in circles.
 use Rattle.std.specs.Prelude.{ℕ, zero, suc, Bool, true, false, ◌&&◌, List, [], ◌∷◌}
 use Rattle.std.specs.Option.{option_map_or}
 use Rattle.tinyjson.specs.Tree.{Tree, Items, no_items, item, Members, no_members, member}
@@ -16,7 +16,7 @@ in_lists = kw.AllOf ∷ kw.AnyOf ∷ kw.OneOf ∷ []
 abbrev pub in_place : List Keyword
 in_place = kw.Not ∷ kw.If ∷ kw.Then ∷ kw.Else ∷ []
 
--- what a test says of each schema
+-- each schema passes the test
 abbrev pub all_pass : (Tree → Bool) → Items → Bool
 all_pass p no_items = true
 all_pass p (item r rs) = p r && all_pass p rs
@@ -36,21 +36,21 @@ singles_pass p (k ∷ ks) s = option_map_or p (schema_at s k) true && singles_pa
 abbrev pub reference_passes : Tree → (Tree → Bool) → Tree → Bool
 reference_passes root p s = option_map_or p (referenced root kw.Ref s) true && option_map_or p (referenced root kw.DynamicRef s) true
 
--- No more than so many schemas are applied in one another to the value itself, whatever it is; where references lead in a
--- circle, there is no end of them.
+-- At most this many nested schemas are applied to the value itself, whatever it is. References in a circle have no
+-- such bound.
 abbrev pub settles : Tree → ℕ → Tree → Bool
 settles root zero s = false
 settles root (suc n) s = lists_pass (settles root n) in_lists s && (singles_pass (settles root n) in_place s
     && (map_passes (settles root n) (schema_map_at s kw.DependentSchemas) && reference_passes root (settles root n) s))
 
--- how many are followed from a reference
+-- how many nested schemas are followed from a reference
 abbrev pub reference_steps : ℕ
 reference_steps = 100
 
--- The reference leads to a schema, from which none leads back to the same value.
+-- The reference leads to a schema, and following on from there comes to an end.
 abbrev pub leads : Tree → Tree → Bool
 leads root w = option_map_or (settles root reference_steps) (target root w) false
 
--- the same of a schema in a walk
+-- the same of a schema, within a walk
 abbrev pub settles_in : Walk → Tree → Bool
 settles_in w = settles (view w.whole.now.root.now) w.steps

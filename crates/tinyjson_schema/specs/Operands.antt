@@ -1,4 +1,4 @@
--- The forms that the values of keywords have, but for those of schemas.
+-- The forms that the values of keywords need, except for subschemas.
 use Rattle.std.specs.Prelude.{ℕ, pos, Bool, true, false, not, ◌&&◌, ◌||◌, List, int_le, codes, encode_utf8_all}
 use Rattle.std.specs.Str.{bytes_eq}
 use Rattle.i_regexp.specs.PatternDeciding.{is_pattern}
@@ -56,12 +56,12 @@ abbrev pub is_key_map : Tree → Bool
 is_key_map (object ms) = have_key_lists ms
 is_key_map _ = false
 
--- a text that is a pattern (Core, 6.4)
+-- a string that is a pattern (Core, 6.4)
 abbrev pub is_pattern_text : Tree → Bool
 is_pattern_text (string ps) = is_pattern ps
 is_pattern_text _ = false
 
--- each key is one
+-- each key is a pattern
 abbrev pub are_patterns : Members → Bool
 are_patterns no_members = true
 are_patterns (member k t ms) = is_pattern k && are_patterns ms

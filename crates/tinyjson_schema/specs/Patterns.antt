@@ -1,4 +1,4 @@
--- Texts that are read as patterns.
+-- Texts that are parsed as patterns.
 use Rattle.std.specs.Prelude.{◌≡◌, ℕ, Bool, false, ◌⊎◌, List, Option, Some, None}
 use Rattle.i_regexp.specs.Deciding.{matches}
 use Rattle.i_regexp.specs.PatternReading.{IsRefused, texts_of}
@@ -8,20 +8,20 @@ use Rattle.i_regexp.specs.declared.pattern_error.SchemaPatternErrorKind.TheVaria
 use Rattle.tinyjson_schema.specs.declared.pattern.PatternError.{PatternError}
 use Rattle.tinyjson_schema.specs.declared.pattern.PatternError.TheVariants.{AboveLimits, OutOfMemory}
 
--- Read as a pattern, the text is refused as too deep or too large.
+-- The text is too deep or too large to be parsed as a pattern.
 pub record IsAboveLimits (cs : List ℕ) : Type 0 where
   pub error : SchemaPatternError
   pub refused : IsRefused cs error
   pub limit : (error.kind ≡ TooDeep) ⊎ (error.kind ≡ TooLarge)
 
--- ---- words of private contracts
+-- ---- for private contracts
 
--- whether what was read is found in the text; what is no pattern is found in none
+-- the pattern matches somewhere in the text; no pattern matches nothing
 abbrev pub answer_of : Option SchemaPattern → List ℕ → Bool
 answer_of None cs = false
 answer_of (Some x) cs = matches (texts_of x) cs
 
--- what an error says of the text that was read
+-- what an error means for the text that was parsed
 abbrev pub IsPatternError : List ℕ → PatternError → Type 0
 IsPatternError cs AboveLimits = IsAboveLimits cs
 IsPatternError cs OutOfMemory = Unit {0}

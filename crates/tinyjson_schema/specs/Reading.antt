@@ -1,4 +1,4 @@
--- What reading a schema gives.
+-- The result of checking a schema.
 use Rattle.std.specs.Prelude.{◌≡◌, true, false, Result, Ok, Err}
 use Rattle.tinyjson.specs.Tree.{Tree}
 use Rattle.tinyjson.specs.View.{view}
@@ -10,11 +10,12 @@ use Rattle.tinyjson_schema.specs.declared.schema.Schema.{Schema}
 use Rattle.tinyjson_schema.specs.declared.schema.SchemaError.{SchemaError}
 use Rattle.tinyjson_schema.specs.declared.schema.SchemaError.TheVariants.{Refused, PatternLimit, OutOfMemory}
 
--- the tree that a schema was read from
+-- the tree of a schema
 abbrev pub tree_of : Schema → Tree
 tree_of s = view s.whole.root.now
 
--- The tree as a schema, which can be applied; or the place of what can't be, or of a pattern that is too deep or too large.
+-- The tree as a schema, which can be applied; or the place of what can't be applied, or of a pattern that is too
+-- deep or too large.
 abbrev pub ReadsSchema : Tree → Result Schema SchemaError → Type 0
 ReadsSchema t (Ok s) = (tree_of s ≡ t) × (is_schema t true t ≡ true)
 ReadsSchema t (Err (Refused p)) = (is_schema t true t ≡ false) × IsRefusedAt t true form.Schema t (tokens_of p)

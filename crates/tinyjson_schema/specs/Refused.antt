@@ -1,4 +1,4 @@
--- Where in a schema something stands that can't be applied.
+-- Places in a schema that can't be applied.
 use Rattle.std.specs.Prelude.{◌≡◌, ℕ, Bool, true, false, ◌||◌, List, [], ◌∷◌, Option, Some, None, Result, Ok, Err}
 use Rattle.std.specs.declared.alloc.AllocError.{AllocError}
 use Rattle.i_regexp.specs.PatternDeciding.{is_pattern}
@@ -22,7 +22,7 @@ abbrev pub is_some_list : Tree → Bool
 is_some_list (array ts) = is_some_item ts
 is_some_list _ = false
 
--- A schema, or a keyword's value, has the form that it needs, whatever the schemas in it are.
+-- The value w of a keyword, or a schema, has the form that it needs, whatever its subschemas are.
 abbrev pub has_own_form : Tree → Bool → Form → Tree → Bool
 has_own_form root whole form.Schema w = is_boolean w || is_object w
 has_own_form root whole form.Schemas w = is_some_list w
@@ -30,13 +30,13 @@ has_own_form root whole form.SchemaMap w = is_object w
 has_own_form root whole form.PatternMap w = is_object w
 has_own_form root whole f w = fits root whole f w
 
--- of what is said of keywords of the whole schema, what concerns a value: that its `$id` may stand there
+-- only the form of `$id` depends on whether the schema is the root
 abbrev pub whole_for : Bool → Form → Bool
 whole_for whole form.Base = whole
 whole_for whole _ = false
 
--- What the tokens name in w, which needs the form f, can't be applied, but for the schemas in it: it lacks the form, or is a
--- key that is no pattern. They lead through keywords that have schemas.
+-- The tokens lead in w, which needs the form f, to what can't be applied by itself: it has not its form, or is a
+-- key that is no pattern. They go through keywords with subschemas.
 pub data IsRefusedAt : Tree → Bool → Form → Tree → List (List ℕ) → Type 0 where
   itself : {root w : Tree} {whole : Bool} {f : Form} → has_own_form root whole f w ≡ false → IsRefusedAt root whole f w []
   no_pattern : {root w v : Tree} {whole : Bool} {k : List ℕ} → step w k ≡ Some v → is_pattern k ≡ false
@@ -44,43 +44,43 @@ pub data IsRefusedAt : Tree → Bool → Form → Tree → List (List ℕ) → T
   inside : {root w v : Tree} {whole : Bool} {f : Form} {k : List ℕ} {ks : List (List ℕ)} → step w k ≡ Some v
       → IsRefusedAt root (whole_for whole (form_in f k)) (form_in f k) v ks → IsRefusedAt root whole f w (k ∷ ks)
 
--- What the tokens name in w, which needs the form f, is a pattern that is too deep or too large, or a key that is one. They
--- lead through keywords that have schemas.
+-- The tokens lead in w, which needs the form f, to a pattern that is too deep or too large, or to a key that is
+-- one. They go through keywords with subschemas.
 pub data IsAboveAt : Form → Tree → List (List ℕ) → Type 0 where
   value : {cs : List ℕ} → IsAboveLimits cs → IsAboveAt form.Pattern (string cs) []
   key : {w v : Tree} {k : List ℕ} → step w k ≡ Some v → IsAboveLimits k → IsAboveAt form.PatternMap w (k ∷ [])
   within : {w v : Tree} {f : Form} {k : List ℕ} {ks : List (List ℕ)} → step w k ≡ Some v → IsAboveAt (form_in f k) v ks
       → IsAboveAt f w (k ∷ ks)
 
--- ---- words of private contracts
+-- ---- for private contracts
 
--- What was asked of w is not so, and something in it can't be applied; or a pattern in it is too deep or too large.
+-- What was asked of w is false, and something in it can't be applied; or a pattern in it is too deep or too large.
 abbrev pub IsReason : Bool → Tree → Bool → Form → Tree → Reason → List (List ℕ) → Type 0
 IsReason is root whole f w Misfit ks = (is ≡ false) × IsRefusedAt root whole f w ks
 IsReason is root whole f w PatternLimit ks = IsAboveAt f w ks
 
--- No place, and what was asked is so; or one, with its reason.
+-- No place, and what was asked is true; or a place, with its reason.
 abbrev pub Refuses : Bool → Tree → Bool → Form → Tree → Result (Option RefusedPlace) AllocError → Type 0
 Refuses is root whole f w (Ok None) = is ≡ true
 Refuses is root whole f w (Ok (Some p)) = IsReason is root whole f w p.reason (tokens_of p.pointer)
 Refuses is root whole f w (Err e) = Unit {0}
 
--- the place of the whole, with the reason
+-- the place of the value itself, with the reason
 abbrev pub IsWhole : Reason → RefusedPlace → Type 0
 IsWhole x p = (p.reason ≡ x) × (tokens_of p.pointer ≡ [])
 
--- No place, and what was asked is so; or that of the whole.
+-- No place, and what was asked is true; or the place of the value itself.
 abbrev pub RefusesWhole : Bool → Result (Option RefusedPlace) AllocError → Type 0
 RefusesWhole is (Ok None) = is ≡ true
 RefusesWhole is (Ok (Some p)) = (is ≡ false) × IsWhole Misfit p
 RefusesWhole is (Err e) = Unit {0}
 
--- why a text can't be applied as a pattern; or it can be
+-- why a text can't be applied as a pattern, or nothing if it can
 abbrev pub IsTextReason : List ℕ → Option Reason → Type 0
 IsTextReason cs None = is_pattern cs ≡ true
 IsTextReason cs (Some Misfit) = is_pattern cs ≡ false
 IsTextReason cs (Some PatternLimit) = IsAboveLimits cs
 
--- the whole schema that a document has
+-- the root schema of a document
 abbrev pub whole_of : Document → Tree
 whole_of d = view d.whole.now.root.now

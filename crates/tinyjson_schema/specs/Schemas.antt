@@ -10,8 +10,9 @@ use Rattle.tinyjson_schema.specs.Operands.{is_count, is_divisor_number, are_type
 use Rattle.tinyjson_schema.specs.Operands.{has_patterns}
 use Rattle.tinyjson_schema.specs.Circles.{leads}
 
--- Whether a keyword's value has the form, where it is known whether it is a schema, a list or a map of schemas, whether it
--- is a reference that leads to a schema and in no circle, and a name of its own, and whether the keyword is one of the whole schema.
+-- Whether a keyword's value has the form. The flags are given: it is a schema, a list of schemas, an object of
+-- schemas, a reference that leads to a schema and in no circle, a name of its own; and the keyword is in the root
+-- schema.
 abbrev pub has_form : Form → Tree → Bool → Bool → Bool → Bool → Bool → Bool → Bool
 has_form form.Anything w one list entries leads own whole = true
 has_form form.Text w one list entries leads own whole = is_string w
@@ -34,7 +35,7 @@ has_form form.Reference w one list entries leads own whole = leads
 has_form form.Anchor w one list entries leads own whole = own
 
 abbrev mutual
-  -- a schema whose keywords, and those of the schemas in it, can be applied; in the whole schema root, or the whole itself
+  -- the schema, with its subschemas, can be applied in the root schema; or it is the root schema itself
   pub is_schema : Tree → Bool → Tree → Bool
   is_schema root whole (boolean accepts) = true
   is_schema root whole (object ms) = keywords_fit root whole ms

@@ -1,4 +1,4 @@
--- The schemas that evaluate members and items for one that asks; only private contracts use these words.
+-- The schemas that evaluate members and items, for one that asks; for private contracts.
 use Rattle.std.specs.Prelude.{◌≡◌, ◌∷◌, ◌≤◌, [], ℕ, Bool, true, false, not, ◌&&◌, ◌||◌, List, Option, Some, None, is_some}
 use Rattle.std.specs.Prelude.{Result, Ok, Err}
 use Rattle.tinyjson.specs.Tree.{Tree}
@@ -14,7 +14,7 @@ use Rattle.tinyjson_schema.specs.Valid.{answers_in, says, IsInvalidAt}
 use Rattle.tinyjson_schema.specs.declared.validate.unevaluated.Source.{Source}
 use Rattle.tinyjson_schema.specs.declared.violation.Violation.{Violation}
 
--- A keyword of the schema evaluates the child; the keyword for the rest counts in all but the schema that asks.
+-- A keyword of the schema evaluates the child. The keyword for the rest counts except in the schema that asks.
 abbrev pub source_evaluates : Answers → Source → Child → Bool
 source_evaluates g x c = (not x.asks && is_some (schema_at (view x.schema.now) (rest_keyword c)))
     || applies_to (says x.walk g) (view x.schema.now) c
@@ -28,14 +28,15 @@ abbrev pub AreWithin : ℕ → List Source → Type 0
 AreWithin n [] = Unit {0}
 AreWithin n (x ∷ xs) = (x.walk.steps ≤ n) × AreWithin n xs
 
--- They evaluate what they did, and what q makes of what schemas say in the walk.
+-- They evaluate what they did before, and what q yields of the results of schemas in the walk.
 abbrev pub Adds : Walk → (Answers → Child → Bool) → List Source → List Source → Type 0
 Adds w q old new = (g : Answers) (c : Child) → sources_evaluate g new c ≡ (sources_evaluate g old c || q (answers_in w g) c)
 
 abbrev pub StaysWithin : Walk → List Source → List Source → Type 0
 StaysWithin w old new = (n : ℕ) → w.steps ≤ n → AreWithin n old → AreWithin n new
 
--- The place is in a child that they do not evaluate, and that the schema r, which the keyword a has, does not accept.
+-- The place is in a child that the sources do not evaluate, and the schema r at the keyword a does not accept the
+-- child.
 pub record InRest (w : Walk) (a : Keyword) (xs : List Source) (r t : Tree) (v : Violation) : Type 0 where
   pub child : Child
   pub token : List ℕ
@@ -47,7 +48,7 @@ pub record InRest (w : Walk) (a : Keyword) (xs : List Source) (r t : Tree) (v : 
   pub placed : IsAt (name a ∷ location) (token ∷ within) v
   pub invalid : IsInvalidAt (view w.whole.now.root.now) w.steps r (value_of child) location within
 
--- No violation, and r accepts each child that they do not evaluate; or one, in such a child.
+-- No violation, and r accepts each child that the sources do not evaluate; or a violation by such a child.
 abbrev pub FindsLeft : Walk → Keyword → List Source → Tree → Tree → Result (Option Violation) CheckError → Type 0
 FindsLeft w a xs r t (Ok None) = (g : Answers) → children_pass (λ c. sources_evaluate g xs c || says w g r (value_of c)) t ≡ true
 FindsLeft w a xs r t (Ok (Some v)) = InRest w a xs r t v

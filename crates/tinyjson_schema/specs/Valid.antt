@@ -27,7 +27,7 @@ abbrev pub refuses_all : Tree → Bool
 refuses_all (boolean accepts) = not accepts
 refuses_all _ = false
 
--- the schemas that `$ref` and `$dynamicRef` lead to accept the value, whatever stands beside them (Core, 8.2.3)
+-- the schemas to which `$ref` and `$dynamicRef` lead accept the value; their siblings count too (Core, 8.2.3)
 abbrev pub is_reference : Keyword → Bool
 is_reference kw.Ref = true
 is_reference kw.DynamicRef = true
@@ -39,9 +39,9 @@ target_accepts root k f s t = option_map_or (λ r. f r t) (referenced root k s) 
 abbrev pub reference_accepts : Tree → Judge → Tree → Tree → Bool
 reference_accepts root f s t = target_accepts root kw.Ref f s t && target_accepts root kw.DynamicRef f s t
 
--- The tree t meets the keywords of the schema s that speak of it, those that apply schemas to it, each part is accepted by the
--- schema that there is for it, and what is not evaluated by that for the rest: by what a says of the schemas that s applies, in s
--- or elsewhere in the whole schema root.
+-- The schema s accepts the tree t, given the results a of the schemas that s applies, in s or elsewhere in the root
+-- schema: t meets the assertions and the applicators, the schema for each part accepts it, and so does the one for
+-- what is not evaluated.
 abbrev pub accepts_by : Tree → Answers → Judge
 accepts_by root a s t = not (refuses_all s) && (meets_all assertions s t && (apply_all a.accepts tests s t
     && (apply_all a.accepts demands s t && (reference_accepts root a.accepts s t && (parts_accepted a.accepts s t
@@ -50,8 +50,8 @@ accepts_by root a s t = not (refuses_all s) && (meets_all assertions s t && (app
 abbrev pub by_rules : Tree → Answers → Answers
 by_rules root a = record { accepts = accepts_by root a; evaluates = evaluates_by root a }
 
--- What the schemas of the whole schema root say, by the rules of all keywords, where so many are applied in one another. Of one
--- that is applied further in, g says it.
+-- The results of the schemas in the root schema by the rules of all keywords, with up to this many nested schemas;
+-- g has the results for those nested deeper.
 abbrev pub answers : Tree → ℕ → Answers → Answers
 answers root zero g = g
 answers root (suc n) g = by_rules root (answers root n g)
@@ -59,18 +59,18 @@ answers root (suc n) g = by_rules root (answers root n g)
 abbrev pub judge : Tree → ℕ → Answers → Judge
 judge root n g = (answers root n g).accepts
 
--- The tree t is valid against the schema s: to some depth the rules of the keywords give that, whatever is said of the schemas
--- that are applied further in. So no schema was left out that matters, and references are followed however deep they lead.
+-- The tree t is valid against the schema s: at some depth the rules of the keywords yield it, whatever the results
+-- of schemas nested deeper are. So no schema that matters is left out, and references are followed to any depth.
 abbrev pub IsValid : Tree → Tree → Type 0
 IsValid s t = (n : ℕ) × ((g : Answers) → judge s n g s t ≡ true)
 
--- What is said of each schema and value meets the rules of all keywords.
+-- The results of all schemas for all values meet the rules of the keywords.
 pub record MeetsRules (root : Tree) (a : Answers) : Type 0 where
   pub accepts : (s t : Tree) → a.accepts s t ≡ accepts_by root a s t
   pub evaluates : (s t : Tree) (c : Child) → a.evaluates s t c ≡ evaluates_by root a s t c
 
--- What the first tokens name in the schema s is not met by what the others name in t: it is the schema `false`, or
--- a keyword, of a schema that is applied to that part. A token of a reference goes on in the schema that it leads to (Core, 12.3.2).
+-- The first tokens lead in the schema s to the schema `false` or to a keyword, which the part of t does not meet to
+-- which the other tokens lead. After a reference the tokens go on in the schema to which it leads (Core, 12.3.2).
 pub data IsInvalidAt : Tree → ℕ → Tree → Tree → List (List ℕ) → List (List ℕ) → Type 0 where
   refused : {root s t : Tree} {n : ℕ} → refuses_all s ≡ true → IsInvalidAt root (suc n) s t [] []
   unmet : {root s t : Tree} {n : ℕ} (k : Keyword) → IsUnmet s t (Some k) → IsInvalidAt root (suc n) s t (name k ∷ []) []
@@ -95,31 +95,31 @@ pub data IsInvalidAt : Tree → ℕ → Tree → Tree → List (List ℕ) → Li
       → IsChild t k c → ((g : Answers) → others_evaluate root (answers root n g) s t c ≡ false)
       → IsInvalidAt root n r (value_of c) ks js → IsInvalidAt root (suc n) s t (name (rest_keyword c) ∷ ks) (k ∷ js)
 
--- No violation, and the whole schema s accepts t; or one, and it does not.
+-- No violation, and the whole schema s accepts t; or a violation, and s does not.
 abbrev pub Validates : ℕ → Tree → Tree → Result (Option Violation) CheckError → Type 0
 Validates n s t (Ok None) = IsValid s t
 Validates n s t (Ok (Some v)) = IsInvalidAt s n s t (tokens_of v.keyword_location) (tokens_of v.instance_location)
     × IsSome (part_at t (tokens_of v.instance_location)) × ¬ IsValid s t
 Validates n s t (Err e) = Unit {0}
 
--- Whatever meets the rules of the keywords gives the same answer.
+-- Any results that meet the rules of the keywords agree.
 abbrev pub Agrees : Tree → Tree → Option Violation → Type 0
 Agrees s t o = (a : Answers) → MeetsRules s a → a.accepts s t ≡ not (is_some o)
 
--- ---- words of private contracts
+-- ---- for private contracts
 
--- what schemas say in a walk, where g speaks beyond its steps
+-- the results of schemas in a walk; g has those beyond its steps
 abbrev pub answers_in : Walk → Answers → Answers
 answers_in w g = answers (view w.whole.now.root.now) w.steps g
 
 abbrev pub says : Walk → Answers → Judge
 says w g = judge (view w.whole.now.root.now) w.steps g
 
--- x is what q makes of what schemas say in the walk, whatever is said beyond its steps.
+-- x is what q yields of the results of schemas in the walk, whatever the results beyond its steps are.
 abbrev pub Follows : {X : Type 0} → Walk → X → (Judge → X) → Type 0
 Follows w x q = (g : Answers) → x ≡ q (says w g)
 
--- No violation, and s accepts t, within so many steps; or one, and it does not.
+-- No violation, and s accepts t, within this many steps; or a violation, and s does not.
 abbrev pub Decides : Tree → ℕ → Tree → Tree → Result (Option Violation) CheckError → Type 0
 Decides root n s t (Ok None) = (g : Answers) → judge root n g s t ≡ true
 Decides root n s t (Ok (Some v)) = IsInvalidAt root n s t (tokens_of v.keyword_location) (tokens_of v.instance_location)
@@ -128,21 +128,21 @@ Decides root n s t (Err e) = Unit {0}
 abbrev pub Judges : Walk → Tree → Tree → Result (Option Violation) CheckError → Type 0
 Judges w = Decides (view w.whole.now.root.now) w.steps
 
--- No violation, and what was asked of t is so; or one, of t by s, in whose schemas the walk is.
+-- No violation, and what was asked of t is true; or a violation of s by t, within the walk.
 abbrev pub Finds : Walk → (Judge → Bool) → Tree → Tree → Result (Option Violation) CheckError → Type 0
 Finds w q s t (Ok None) = (g : Answers) → q (says w g) ≡ true
 Finds w q s t (Ok (Some v)) = IsInvalidAt (view w.whole.now.root.now) (suc w.steps) s t (tokens_of v.keyword_location)
     (tokens_of v.instance_location)
 Finds w q s t (Err e) = Unit {0}
 
--- No violation, and what the others of s leave is accepted; or one.
+-- No violation, and what the other keywords of s leave is accepted; or a violation.
 abbrev pub FindsRest : Walk → Tree → Tree → Result (Option Violation) CheckError → Type 0
 FindsRest w s t (Ok None) = (g : Answers) → rest_accepted (view w.whole.now.root.now) (answers_in w g) s t ≡ true
 FindsRest w s t (Ok (Some v)) = IsInvalidAt (view w.whole.now.root.now) (suc w.steps) s t (tokens_of v.keyword_location)
     (tokens_of v.instance_location)
 FindsRest w s t (Err e) = Unit {0}
 
--- The place is in the member at the key k, in which the pattern p is found, and which the schema r does not accept.
+-- The place is in the member at the key k; the pattern p matches k, and the schema r does not accept the member.
 pub record InFound (w : Walk) (p : List ℕ) (r : Tree) (ms : Members) (v : Violation) : Type 0 where
   pub key : List ℕ
   pub value : Tree
@@ -152,13 +152,13 @@ pub record InFound (w : Walk) (p : List ℕ) (r : Tree) (ms : Members) (v : Viol
   pub placed : tokens_of v.instance_location ≡ key ∷ rest
   pub invalid : IsInvalidAt (view w.whole.now.root.now) w.steps r value (tokens_of v.keyword_location) rest
 
--- No violation, and r accepts each of the members in whose key p is found; or one, in such a member.
+-- No violation, and r accepts each member whose key p matches; or a violation by such a member.
 abbrev pub FindsFound : Walk → List ℕ → Tree → Members → Result (Option Violation) CheckError → Type 0
 FindsFound w p r ms (Ok None) = (g : Answers) → found_pass (says w g r) p ms ≡ true
 FindsFound w p r ms (Ok (Some v)) = InFound w p r ms v
 FindsFound w p r ms (Err e) = Unit {0}
 
--- No keyword, and t meets all of these; or one that it does not meet.
+-- No keyword, and t meets all of these; or one that t violates.
 abbrev pub IsUnapplied : Walk → List Keyword → Tree → Tree → Option Keyword → Type 0
 IsUnapplied w ks s t None = (g : Answers) → apply_all (says w g) ks s t ≡ true
 IsUnapplied w ks s t (Some k) = (g : Answers) → applies (says w g) k s t ≡ false

@@ -1,4 +1,4 @@
-//! Whether a value meets a keyword that speaks of it and not of its parts.
+//! Assertions: the keywords that constrain a value itself, not its parts.
 ghost use Rattle.std.specs.Prelude.{◌≡◌, IfOk};
 ghost use Rattle.std.specs.Option.{option_map_or};
 ghost use Rattle.tinyjson.specs.Kind.{kind_of, kind_name};
@@ -23,7 +23,7 @@ use tinyjson::{JsonNumber, JsonValue, sorted_members};
 use tinyjson_compare::is_at_most;
 use tinyjson_schema_keywords::{Keyword, operand};
 
-/// The keywords that speak of a value and not of its parts, in the order in which they are checked.
+/// The assertions, in the order in which they are checked.
 const ASSERTIONS: [Keyword; 18] = [
     Keyword::Type,
     Keyword::Enum,
@@ -45,7 +45,7 @@ const ASSERTIONS: [Keyword; 18] = [
     Keyword::DependentRequired,
 ];
 
-/// A keyword of the schema that the value does not meet, if there is one. Not inlined, since its frame takes 9 KB,
+/// An assertion of the schema that the value violates, if there is one. Not inlined, since its frame takes 9 KB,
 /// and the recursion over schemas calls it at each level.
 #[inline(never)]
 pub fn unmet(
@@ -153,7 +153,7 @@ fn is_type(name: &JsonValue, value: &JsonValue) -> bool
     name.as_str() == "integer" && is_whole(value)
 }
 
-/// The name that `type` has for the value's kind.
+/// The name that `type` has for the value's type.
 fn kind_name(value: &JsonValue) -> &'static str
     ensures { result.now ≡ kind_name (kind_of (view value.now)) }
 {
@@ -167,7 +167,7 @@ fn kind_name(value: &JsonValue) -> &'static str
     }
 }
 
-/// Whether the value is a number with no fraction.
+/// Whether the value is a number without a fraction.
 fn is_whole(value: &JsonValue) -> bool
     ensures { result ≡ is_whole (view value.now) }
 {
@@ -197,7 +197,7 @@ pub fn is_among(values: &[JsonValue], value: &JsonValue) -> bool
     false
 }
 
-/// Whether a number is at most another; `true` of what is no number.
+/// Whether the first number is at most the second; true if one is no number.
 fn are_ordered(number: &JsonValue, other: &JsonValue) -> bool
     ensures { result ≡ are_ordered (view number.now) (view other.now) }
 {
@@ -207,7 +207,7 @@ fn are_ordered(number: &JsonValue, other: &JsonValue) -> bool
     }
 }
 
-/// Whether a number is below another; `true` of what is no number.
+/// Whether the first number is less than the second; true if one is no number.
 fn are_apart(number: &JsonValue, other: &JsonValue) -> bool
     ensures { result ≡ are_apart (view number.now) (view other.now) }
 {
@@ -217,7 +217,7 @@ fn are_apart(number: &JsonValue, other: &JsonValue) -> bool
     }
 }
 
-/// How many characters a string has.
+/// The number of characters of a string; `None` for another value.
 fn length(value: &JsonValue) -> Option<usize>
     ensures { result ≡ length_of (view value.now) }
 {
@@ -227,7 +227,7 @@ fn length(value: &JsonValue) -> Option<usize>
     }
 }
 
-/// Whether a pattern is found in a text; `true` of other values. The pattern is read for each text.
+/// Whether the pattern matches somewhere in the string; true for other values. The pattern is parsed at each call.
 fn has_pattern(pattern: &JsonValue, value: &JsonValue, alloc: Global) -> Result<bool, AllocError>
     ensures { IfOk result (λ has. has ≡ has_pattern (view pattern.now) (view value.now)) }
 {
@@ -240,7 +240,7 @@ fn has_pattern(pattern: &JsonValue, value: &JsonValue, alloc: Global) -> Result<
     }
 }
 
-/// How many items an array has.
+/// The number of items of an array; `None` for another value.
 fn item_count(value: &JsonValue) -> Option<usize>
     ensures { result ≡ items_count_of (view value.now) }
 {
@@ -250,7 +250,7 @@ fn item_count(value: &JsonValue) -> Option<usize>
     }
 }
 
-/// How many members an object has.
+/// The number of members of an object; `None` for another value.
 fn member_count(value: &JsonValue, alloc: Global) -> Result<Option<usize>, AllocError>
     ensures { IfOk result (λ n. n ≡ members_count_of (view value.now)) }
 {
@@ -260,7 +260,7 @@ fn member_count(value: &JsonValue, alloc: Global) -> Result<Option<usize>, Alloc
     }
 }
 
-/// Whether a count is at most the limit; `true` of none.
+/// Whether the count is at most the limit; true for `None`.
 pub fn is_count_at_most(
     found: Option<usize>,
     limit: &JsonValue,
@@ -274,7 +274,7 @@ pub fn is_count_at_most(
     }
 }
 
-/// Whether a count is at least the limit; `true` of none.
+/// Whether the count is at least the limit; true for `None`.
 pub fn is_count_at_least(
     found: Option<usize>,
     limit: &JsonValue,
@@ -349,7 +349,7 @@ fn has_dependent_required(
     }
 }
 
-/// Whether the keys that depend on a key are there, where that key is, of each key.
+/// Whether the value has, for each key that it has, the keys that this key requires.
 fn has_dependents(
     dependents: &[(&String, &JsonValue)],
     members: &HashMap<String, JsonValue>,

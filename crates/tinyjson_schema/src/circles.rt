@@ -1,4 +1,4 @@
-//! References that lead on and on.
+//! References in circles.
 ghost use Rattle.std.specs.Prelude.{◌≡◌, true, IfOk};
 ghost use Rattle.std.specs.Option.{option_map_or};
 ghost use Rattle.tinyjson.specs.View.{view, items_view, members_listed};
@@ -17,13 +17,13 @@ use tinyjson_schema_keywords::{
 /// The keywords that apply a list of schemas to the value itself.
 const IN_LISTS: [Keyword; 3] = [Keyword::AllOf, Keyword::AnyOf, Keyword::OneOf];
 
-/// Those that apply one schema to it.
+/// The keywords that apply one schema to the value itself.
 const IN_PLACE: [Keyword; 4] = [Keyword::Not, Keyword::If, Keyword::Then, Keyword::Else];
 
-/// How many schemas in one another are followed from a reference.
+/// How many nested schemas are followed from a reference.
 const REFERENCE_STEPS: usize = 100;
 
-/// Whether the reference leads to a schema in the whole one, from which none leads back to the same value.
+/// Whether the reference leads to a subschema of the whole schema, and following on from there comes to an end.
 pub fn leads(
     reference: &JsonValue,
     document: Document<'_, '_>,
@@ -43,7 +43,7 @@ pub fn leads(
     settles(schema, walk)
 }
 
-/// Whether the schemas that are applied in one another to the value itself come to an end.
+/// Whether the schemas that are applied to the value itself come to an end within the walk.
 #[cycle(circles)]
 fn settles(schema: &JsonValue, walk: Walk<'_, '_>) -> Result<bool, AllocError>
     ensures { IfOk result

@@ -12,7 +12,7 @@ use std::alloc::{AllocError, Global};
 use tinyjson::JsonValue;
 use tinyjson_schema_keywords::{Keyword, schema_at};
 
-/// Whether the count is enough for `contains`: one, unless `minContains` is 0; `true` of none.
+/// Whether the count is at least 1, unless `minContains` is 0; true for `None`.
 pub fn contains_some(count: Option<usize>, schema: &JsonValue) -> bool
     ensures { result ≡ contains_some count (view schema.now) }
 {
@@ -43,7 +43,7 @@ fn is_zero(value: &JsonValue) -> bool
     }
 }
 
-/// Whether the count is at most `maxContains`; `true` of none.
+/// Whether the count is at most `maxContains`; true for `None`.
 pub fn contains_at_most(
     count: Option<usize>,
     schema: &JsonValue,
@@ -57,7 +57,7 @@ pub fn contains_at_most(
     }
 }
 
-/// Whether the count is at least `minContains`; `true` of none.
+/// Whether the count is at least `minContains`; true for `None`.
 pub fn contains_at_least(
     count: Option<usize>,
     schema: &JsonValue,

@@ -1,5 +1,4 @@
-//! JSON Schema 2020-12: schemas that are looked through before use, and values that are checked by them.
-//!
+//! JSON Schema 2020-12: a schema is checked once before use, and then values are checked against it.
 //! ```
 //! let schema = Schema::read(&tree, alloc)?;
 //! let place = schema.invalid_place(&value, 200, alloc)?;

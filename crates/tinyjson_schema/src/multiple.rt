@@ -1,4 +1,4 @@
-//! Multiples of a number, and which numbers may be named as one whose multiples are accepted.
+//! `multipleOf`: multiples of a number, and which numbers it accepts.
 ghost use Rattle.std.specs.Prelude.{◌≡◌};
 ghost use Rattle.tinyjson.specs.View.{view};
 ghost use Rattle.tinyjson_schema.specs.Operands.{is_divisor_number};
@@ -17,7 +17,7 @@ pub fn is_divisor_number(value: &JsonValue) -> bool
     }
 }
 
-/// Whether a number is a multiple of a divisor; `true` of what is no number, or no divisor.
+/// Whether the number is a multiple of the divisor; true if one is no number, or the divisor is not allowed.
 pub fn are_multiple(number: &JsonValue, divisor: &JsonValue) -> bool
     ensures { result ≡ are_multiple (view number.now) (view divisor.now) }
 {

@@ -1,4 +1,4 @@
-//! Whether values that hold no schemas have the forms that their keywords need.
+//! Whether the values of keywords have the form that the standard asks for, except for subschemas.
 ghost use Rattle.std.specs.Prelude.{◌≡◌, ◌&&◌, IfOk, option_map};
 ghost use Rattle.std.specs.String.{string_bytes};
 ghost use Rattle.tinyjson.specs.Access.{is_string, is_boolean, is_array, is_number};
@@ -16,7 +16,7 @@ use tinyjson::{JsonValue, sorted_members};
 use tinyjson_compare::are_distinct;
 use tinyjson_schema_keywords::{Document, is_plain_name, is_some_item};
 
-/// Whether it is a plain name, and not the first one that the document has twice.
+/// Whether it is a plain name, but not the first one that the document has twice.
 pub fn is_own_name(value: &JsonValue, document: Document<'_, '_>) -> bool
     ensures { result ≡ is_own_name (whole_of document.entry) (view value.now) }
 {
@@ -36,7 +36,7 @@ fn is_name(again: Option<&String>, name: &str) -> bool
     }
 }
 
-/// Whether the value may be that of `$id`: a string, in the whole schema alone.
+/// Whether the value may be an `$id`: a string, and in the root schema only.
 pub fn is_base(value: &JsonValue, is_whole: bool) -> bool
     ensures { result ≡ is_whole && is_string (view value.now) }
 {
@@ -134,7 +134,7 @@ pub fn is_key_list(value: &JsonValue, alloc: Global) -> Result<bool, AllocError>
     }
 }
 
-/// Whether they are different strings. The time grows with the strings, and not with the pairs of them.
+/// Whether the items are different strings. The time is nearly linear in the number of strings.
 fn are_keys(keys: &[JsonValue], alloc: Global) -> Result<bool, AllocError>
     ensures { IfOk result (λ are. are ≡ are_keys (items_view keys.now)) }
 {

@@ -1,4 +1,4 @@
-//! The schema that there is for a member or an item.
+//! The schema for a member or an item.
 ghost use Rattle.std.specs.Prelude.{◌≡◌, option_map, IfOk};
 ghost use Rattle.std.specs.Str.{chars};
 ghost use Rattle.tinyjson.specs.View.{view, members_listed};
@@ -11,15 +11,15 @@ use std::alloc::{AllocError, Global};
 use tinyjson::JsonValue;
 use tinyjson_schema_keywords::{Keyword, operand, schema_map_at};
 
-/// The schema for a part of the value, and what applies it.
+/// The schema for a part of the value, and the keyword that applies it.
 #[derive(Clone, Copy)]
 pub struct Part<'s> {
     pub applicator: Keyword,
     pub schema: &'s JsonValue,
 }
 
-/// The schema for the member at the key: that of `properties`, or else `additionalProperties`, unless
-/// a pattern of `patternProperties` is found in the key.
+/// The schema for the member at the key: that of `properties`, or else `additionalProperties`, unless a pattern of
+/// `patternProperties` matches the key.
 pub fn member_part<'s>(
     schema: &'s JsonValue,
     key: &str,
@@ -68,7 +68,7 @@ fn property<'s>(schema: &'s JsonValue, key: &str) -> Option<&'s JsonValue>
     operand(operand(schema, "properties")?, key)
 }
 
-/// The schema that `additionalProperties` has for a key in which no pattern is found.
+/// The schema of `additionalProperties` for a key that no pattern matches.
 fn additional<'s>(
     schema: &'s JsonValue,
     key: &str,
@@ -87,8 +87,8 @@ fn additional<'s>(
     Ok(Some(part))
 }
 
-/// Whether a pattern of `patternProperties` is found in the key. Not inlined, since the recursion over
-/// schemas calls it at each level.
+/// Whether a pattern of `patternProperties` matches the key. Not inlined, since the recursion over schemas calls it
+/// at each level.
 #[inline(never)]
 pub fn is_patterned(schema: &JsonValue, key: &str, alloc: Global) -> Result<bool, AllocError>
     ensures { IfOk result (λ is. is ≡ is_patterned (view schema.now) (chars key.now)) }

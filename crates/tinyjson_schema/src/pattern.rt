@@ -8,7 +8,7 @@ ghost use Rattle.tinyjson_schema.specs.Patterns.{answer_of, IsPatternError};
 use i_regexp::{SchemaPattern, SchemaPatternErrorKind};
 use std::alloc::{AllocError, Global};
 
-/// Why a pattern is not read.
+/// Why a pattern is not parsed.
 #[derive(Clone, Copy)]
 pub enum PatternError {
     /// It is too deep or too large.
@@ -17,18 +17,18 @@ pub enum PatternError {
     OutOfMemory,
 }
 
-/// A text that was read as a pattern.
+/// A text that was parsed as a pattern.
 #[derive(Drop)]
 pub struct Pattern {
     pattern: String,
-    /// Nothing where the text is no pattern.
+    /// `None` if the text is no pattern.
     code: Option<SchemaPattern>,
     ghost read: { (cs : List ℕ) → is_found (text pattern) cs ≡ answer_of code cs },
 }
 
 impl Pattern {
-    /// Reads a text; one that is no pattern is found nowhere. No pattern of a schema that was read is too
-    /// deep or too large; another would be told as want of memory.
+    /// Parses a text. One that is no pattern matches nothing. A checked schema has no pattern that is too deep or
+    /// too large; for such a one the error is out of memory.
     pub fn read(alloc: Global, pattern: &str) -> Result<Pattern, AllocError>
         ensures { IfOk result (λ p. text p.pattern ≡ chars pattern.now) }
     {
@@ -39,7 +39,7 @@ impl Pattern {
         Ok(Pattern { pattern, code })
     }
 
-    /// Whether the pattern is found in the text: anywhere, unless it says where.
+    /// Whether the pattern matches somewhere in the text.
     pub fn is_found_in(&mut self, value: &str) -> bool
         ensures found { result ≡ is_found (text self.old.pattern) (chars value.now) }
         ensures same { self.new.pattern ≡ self.old.pattern }
@@ -51,7 +51,7 @@ impl Pattern {
     }
 }
 
-/// The pattern that the text is, if it is one.
+/// The pattern that the text is, or `None` if it is none.
 fn code_of(alloc: Global, pattern: &str) -> Result<Option<SchemaPattern>, PatternError>
     ensures is { IfOk result (λ o. is_some o ≡ is_pattern (chars pattern.now)) }
     ensures found { IfOk result

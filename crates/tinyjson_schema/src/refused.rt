@@ -1,4 +1,4 @@
-//! Which schemas can be applied, and the place of what can't.
+//! Which schemas can be applied, and the place where one cannot.
 ghost use Rattle.std.specs.Prelude.{◌&&◌, IfOk, true, false};
 ghost use Rattle.std.specs.Str.{chars};
 ghost use Rattle.tinyjson.specs.Soundness.{IsSorted};
@@ -23,28 +23,27 @@ use tinyjson::{JsonValue, sorted_members};
 use tinyjson_pointer::Pointer;
 use tinyjson_schema_keywords::{Document, Form, form_at, is_some_item};
 
-/// A place in a schema that is refused, and why.
+/// A place in a schema that is rejected, and why.
 #[derive(Drop)]
 pub struct RefusedPlace {
     pub pointer: Pointer,
     pub reason: Reason,
 }
 
-/// Why a place is refused.
+/// Why a place is rejected.
 #[derive(Clone, Copy)]
 pub enum Reason {
-    /// What stands there can't be applied.
+    /// The value there can't be applied.
     Misfit,
-    /// It is a pattern that is too deep or too large.
+    /// The pattern there is too deep or too large.
     PatternLimit,
 }
 
-/// The place of what can't be applied in a schema: a keyword whose value has another form than the standard's,
-/// a reference that leads to no schema in it, or in a circle, or a schema that is neither an object nor a truth
-/// value; or that of a pattern that is too deep or too large. `None` says that the schema can be applied. The only
-/// error is out of memory.
+/// A place in the schema that can't be applied: a keyword's value whose form is not the standard's; a reference
+/// that leads to no schema in it, or in a circle; a schema that is neither an object nor a boolean; or a pattern
+/// that is too deep or too large. `None` means that the schema can be applied. The only error is out of memory.
 ///
-/// It calls itself for each schema in the schema, so it takes stack as the schema is deep.
+/// It is recursive: it takes stack with the nesting of the schema.
 pub fn refused_place(
     document: Document<'_, '_>,
     alloc: Global,
@@ -55,7 +54,7 @@ pub fn refused_place(
     refused_in(document.whole.root, document, true, alloc)
 }
 
-/// The same of a schema in the whole one, or of the whole one.
+/// `refused_place` for the whole schema or a subschema.
 #[cycle(refused)]
 fn refused_in(
     schema: &JsonValue,
@@ -106,7 +105,7 @@ fn refused_keyword(
     Ok(None)
 }
 
-/// The place in a keyword's value of what has another form.
+/// The place in a keyword's value that has not the form it needs.
 #[cycle(refused)]
 fn misfit(
     form: Form,
@@ -216,7 +215,7 @@ fn refused_member(
     Ok(None)
 }
 
-/// The place of a key that is no pattern, or one above the limits, or else of what is refused in a schema.
+/// The place of a key that is no pattern, or whose pattern is too large, or else that of a schema's part.
 #[cycle(refused)]
 fn refused_in_patterns(
     schemas: &JsonValue,
@@ -267,7 +266,7 @@ fn refused_key(
     Ok(None)
 }
 
-/// The place of the whole, unless it is a text that is a pattern.
+/// The place of the value itself, unless it is a pattern.
 fn refused_text(value: &JsonValue, alloc: Global) -> Result<Option<RefusedPlace>, AllocError>
     ensures { (root : Tree) → Refuses (is_pattern_text (view value.now))
         root false form.Pattern (view value.now) result }
@@ -281,7 +280,7 @@ fn refused_text(value: &JsonValue, alloc: Global) -> Result<Option<RefusedPlace>
     }
 }
 
-/// Why the text can't be applied as a pattern; `None` says that it can be.
+/// Why the text can't be applied as a pattern; `None` if it can.
 fn text_reason(text: &str, alloc: Global) -> Result<Option<Reason>, AllocError>
     ensures { IfOk result (λ reason. IsTextReason (chars text.now) reason) }
 {
@@ -293,7 +292,7 @@ fn text_reason(text: &str, alloc: Global) -> Result<Option<Reason>, AllocError>
     }
 }
 
-/// The place of the whole.
+/// The place of the value itself.
 fn whole_place(alloc: Global, reason: Reason) -> RefusedPlace
     ensures { IsWhole reason result }
 {
@@ -303,7 +302,7 @@ fn whole_place(alloc: Global, reason: Reason) -> RefusedPlace
     }
 }
 
-/// The place of the whole, unless it fits.
+/// The place of the value itself, unless it fits.
 fn unless(fits: bool, alloc: Global) -> Result<Option<RefusedPlace>, AllocError>
     ensures { RefusesWhole fits result }
 {

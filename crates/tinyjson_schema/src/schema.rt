@@ -1,4 +1,4 @@
-//! Schemas, which are looked through before a value is checked.
+//! Schemas, which are checked before values are.
 ghost use Rattle.std.specs.Prelude.{◌≡◌, true, IfOk};
 ghost use Rattle.tinyjson.specs.View.{view};
 ghost use Rattle.tinyjson_schema.specs.Schemas.{is_schema};
@@ -12,22 +12,22 @@ use tinyjson::JsonValue;
 use tinyjson_pointer::Pointer;
 use tinyjson_schema_keywords::{CheckError, Document, Walk, Whole, anchors_of, repeated};
 
-/// A schema that can be applied: each keyword in it has a value of the standard's form, and is one that is applied or
-/// says nothing, and each reference leads to a schema in it, and not in a circle.
+/// A schema that can be applied. Each keyword in it is applied or is an annotation, and its value has the
+/// standard's form. Each reference leads to a schema in it, and not in a circle.
 #[derive(Drop)]
 pub struct Schema<'s> {
     whole: Whole<'s>,
     ghost checked: { is_schema (view whole.root.now) true (view whole.root.now) ≡ true },
 }
 
-/// Why a tree is not taken as a schema.
+/// Why a tree is not accepted as a schema.
 #[derive(Drop)]
 pub enum SchemaError {
-    /// What stands at this place can't be applied: a keyword whose value has another form than the standard's,
-    /// a reference that leads to no schema in the tree, or in a circle, a name that another schema
-    /// has, or a schema that is neither an object nor a truth value.
+    /// The tree can't be applied at this place: a keyword's value whose form is not the standard's; a reference
+    /// that leads to no schema in the tree, or in a circle; a name that another schema has; or a schema that is
+    /// neither an object nor a boolean.
     Refused(Pointer),
-    /// A pattern at this place is too deep or too large.
+    /// The pattern at this place is too deep or too large.
     PatternLimit(Pointer),
     /// An allocation failed.
     OutOfMemory,
@@ -45,10 +45,10 @@ impl<'s> Schema<'s> {
     ghost use Rattle.tinyjson_schema.specs.Reading.{ReadsSchema, tree_of};
     ghost use Rattle.tinyjson_schema.specs.Valid.{Validates, Agrees};
 
-    /// Looks a tree through, and gives it as a schema, or the place of what can't be applied in it (Core, 4.3), or of a pattern that is too
-    /// deep or too large.
+    /// Checks a tree, and returns it as a schema. The error has the place of what can't be applied (Core, 4.3), or
+    /// of a pattern that is too deep or too large.
     ///
-    /// It calls itself for each schema in the tree, so it takes stack as the tree is deep.
+    /// It is recursive: it takes stack with the nesting of the tree.
     ///
     /// ```
     /// let schema = Schema::read(&tree, alloc)?;
@@ -75,11 +75,11 @@ impl<'s> Schema<'s> {
         }
     }
 
-    /// What the value does not meet of the schema, and where in the value; `None` says that the value is valid. So many
-    /// schemas may be applied in one another, by keywords and by references; where more would be, it returns `TooDeep`.
-    /// The other error is out of memory.
+    /// What the value violates of the schema, and where in the value. `None` means that the value is valid. Up to
+    /// `steps` nested schemas are applied, by keywords and by references; for more the error is `TooDeep`. The
+    /// other error is out of memory.
     ///
-    /// It calls itself for each schema that a schema applies, so it takes stack as these are applied in one another.
+    /// It calls itself for each schema that is applied, so it takes stack with the nesting of these.
     ///
     /// ```
     /// let place = schema.invalid_place(&value, 200, alloc)?;

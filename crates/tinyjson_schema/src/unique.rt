@@ -1,4 +1,4 @@
-//! Whether the items of an array differ from each other.
+//! Whether the items of an array are all different.
 ghost use Rattle.std.specs.Prelude.{◌≡◌, IfOk};
 ghost use Rattle.tinyjson.specs.View.{view};
 ghost use Rattle.tinyjson_schema.specs.Assertions.{are_unique};
@@ -7,7 +7,7 @@ use std::alloc::{AllocError, Global};
 use tinyjson::JsonValue;
 use tinyjson_compare::are_distinct;
 
-/// Whether no two items of an array are equal, where that is asked; `true` of another value.
+/// Whether no two items of an array are equal, if `asked` is true; true for other values.
 pub fn are_unique(asked: &JsonValue, value: &JsonValue, alloc: Global) -> Result<bool, AllocError>
     ensures { IfOk result (λ is. is ≡ are_unique (view asked.now) (view value.now)) }
 {

@@ -1,4 +1,4 @@
-//! What a value does not meet of a schema.
+//! What a value violates of a schema.
 ghost use Rattle.std.specs.Prelude.{◌≡◌, IfOk, not, is_some, true};
 ghost use Rattle.tinyjson.specs.Tree.{array, object};
 ghost use Rattle.tinyjson.specs.View.{view, items_view, members_listed};
@@ -28,11 +28,11 @@ use tinyjson_schema_keywords::{
     schema_map_at, schemas_at,
 };
 
-/// What the value does not meet of the whole schema, if there is something; `None` says that the value is valid. So many
-/// schemas may be applied in one another as the walk has steps, by keywords and by references; where more would be, it
-/// returns `TooDeep`. The other error is out of memory.
+/// What the value violates of the whole schema, if it violates it; `None` means that the value is valid. Nested
+/// schemas are applied, by keywords and by references, up to the steps that the walk has left; for more the error
+/// is `TooDeep`. The other error is out of memory.
 ///
-/// It calls itself for each schema that a schema applies, so it takes stack as these are applied in one another.
+/// It calls itself for each schema that is applied, so it takes stack with the nesting of these.
 ///
 /// ```
 /// let violation = find_violation(&value, walk)?;
@@ -49,7 +49,7 @@ pub fn find_violation(
     violation_in(value, walk.whole.root, walk)
 }
 
-/// The same of a schema in the whole one.
+/// `find_violation` for a subschema of the whole schema.
 #[cycle(validate)]
 fn violation_in(
     value: &JsonValue,
@@ -122,7 +122,7 @@ fn is_nothing(found: &Option<Violation>) -> bool
     }
 }
 
-/// What the value does not meet of a schema of `allOf`.
+/// What the value violates of a schema of `allOf`.
 #[cycle(validate)]
 fn in_all_of(
     value: &JsonValue,
@@ -143,7 +143,7 @@ fn in_all_of(
     Ok(None)
 }
 
-/// What the value does not meet of the schema that `if` chooses.
+/// What the value violates of the schema that `if` chooses.
 #[cycle(validate)]
 fn in_branch(
     value: &JsonValue,
@@ -168,7 +168,7 @@ fn in_branch(
     Ok(Some(found))
 }
 
-/// What the value does not meet of a schema of `dependentSchemas` whose key it has.
+/// What the value violates of a schema of `dependentSchemas` whose key it has.
 #[cycle(validate)]
 fn in_dependents(
     value: &JsonValue,
@@ -192,7 +192,7 @@ fn in_dependents(
     Ok(None)
 }
 
-/// What the value does not meet of a schema of `patternProperties`.
+/// What the value violates of a schema of `patternProperties`.
 #[cycle(validate)]
 #[inline(never)]
 fn in_patterned(
@@ -215,7 +215,7 @@ fn in_patterned(
     Ok(None)
 }
 
-/// What a member of the value does not meet of the schema, if the pattern is found in its key.
+/// What a member of the value violates of the schema, if the pattern matches its key.
 #[cycle(validate)]
 #[inline(never)]
 fn in_found(
@@ -242,7 +242,7 @@ fn in_found(
     Ok(None)
 }
 
-/// What the value does not meet of the schemas that `$ref` and `$dynamicRef` lead to.
+/// What the value violates of the schemas to which `$ref` and `$dynamicRef` lead.
 #[cycle(validate)]
 fn in_reference(
     value: &JsonValue,
@@ -260,7 +260,7 @@ fn in_reference(
     in_target(value, schema, Keyword::DynamicRef, walk)
 }
 
-/// What the value does not meet of the schema that the reference leads to.
+/// What the value violates of the schema to which the reference leads.
 #[cycle(validate)]
 #[inline(never)]
 fn in_target(
@@ -283,7 +283,7 @@ fn in_target(
     Ok(Some(found))
 }
 
-/// What a member or an item does not meet of the schema that there is for it.
+/// What a member or an item violates of the schema for it.
 #[cycle(validate)]
 fn in_parts(
     value: &JsonValue,

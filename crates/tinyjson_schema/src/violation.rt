@@ -1,4 +1,4 @@
-//! What a value does not meet.
+//! What a value violates of a schema, and where.
 ghost use Rattle.std.specs.Prelude.{◌≡◌, ◌∷◌, [], IfOk, OnOk};
 ghost use Rattle.std.specs.Str.{chars};
 ghost use Rattle.tinyjson_pointer.specs.Tokens.{tokens_of};
@@ -11,7 +11,7 @@ use std::alloc::{AllocError, Global};
 use tinyjson_pointer::Pointer;
 use tinyjson_schema_keywords::Keyword;
 
-/// A place in the schema, and the place in the value that does not meet it (Core, 12.3).
+/// A place in the schema, and the place in the value that violates it (Core, 12.3).
 #[derive(Drop)]
 pub struct Violation {
     /// The place of the keyword, or of the schema `false`.
@@ -21,7 +21,7 @@ pub struct Violation {
 }
 
 impl Violation {
-    /// The value does not meet the schema `false`.
+    /// The value violates the schema `false`.
     pub fn of_schema(alloc: Global) -> Violation
         ensures { IsAt [] [] result }
     {
@@ -31,7 +31,7 @@ impl Violation {
         }
     }
 
-    /// The value does not meet the schema's keyword.
+    /// The value violates the schema's keyword.
     pub fn of_keyword(alloc: Global, keyword: Keyword) -> Result<Violation, AllocError>
         ensures { IfOk result (λ v. IsAt (name keyword ∷ []) [] v) }
     {
@@ -40,7 +40,7 @@ impl Violation {
         Ok(violation)
     }
 
-    /// Makes what was found of a schema one of the schema that has it as the keyword's value.
+    /// Turns a violation of a schema into one of the schema around it, which has it at the keyword.
     pub fn enter_keyword(&mut self, alloc: Global, keyword: Keyword) -> Result<(), AllocError>
         ensures { OnOk result (IsUnder (name keyword) self.old self.new) }
     {
@@ -48,7 +48,7 @@ impl Violation {
         Ok(())
     }
 
-    /// The same of a schema in the keyword's list.
+    /// Turns a violation of a schema into one of the schema around it, which has it in the keyword's list.
     pub fn enter_listed(
         &mut self,
         alloc: Global,
@@ -62,7 +62,8 @@ impl Violation {
         Ok(())
     }
 
-    /// The same of a schema that the keyword has at a key.
+    /// Turns a violation of a schema into one of the schema around it, which has it in the keyword's object at a
+    /// key.
     pub fn enter_keyed(
         &mut self,
         alloc: Global,
@@ -76,7 +77,7 @@ impl Violation {
         Ok(())
     }
 
-    /// Puts a token before those of the place in the schema.
+    /// Puts a token in front of the place in the schema.
     fn put_under(&mut self, alloc: Global, token: &str) -> Result<(), AllocError>
         ensures { OnOk result (IsUnder (chars token.now) self.old self.new) }
     {
@@ -85,7 +86,7 @@ impl Violation {
         Ok(())
     }
 
-    /// Makes what was found of a member one of the object, whose schema applies the member's by the
+    /// Turns a violation by a member into one by the object. The object's schema applies the member's by the
     /// applicator.
     pub fn enter_member(
         &mut self,
@@ -107,7 +108,7 @@ impl Violation {
         Ok(())
     }
 
-    /// Makes what was found of a member one of the object.
+    /// Turns a violation by a member into one by the object, of the same schema.
     pub fn enter_value(&mut self, alloc: Global, key: &str) -> Result<(), AllocError>
         ensures { OnOk result (IsWithin (chars key.now) self.old self.new) }
     {
@@ -116,7 +117,7 @@ impl Violation {
         Ok(())
     }
 
-    /// The same of an item and its array.
+    /// Turns a violation by an item into one by the array. The array's schema applies the item's by the applicator.
     pub fn enter_item(
         &mut self,
         alloc: Global,
@@ -136,7 +137,7 @@ impl Violation {
     }
 }
 
-/// Whether the keyword has a schema for each part, and not one for all.
+/// Whether the keyword has a schema for each part, not one for all.
 fn is_by_part(applicator: Keyword) -> bool
     ensures { result ≡ is_by_part applicator }
 {

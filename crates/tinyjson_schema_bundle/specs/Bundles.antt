@@ -1,5 +1,5 @@
--- A document with schema resources in it, with each reference as a pointer from its root (JSON Schema 2020-12, Core, 8.2.1,
--- 8.2.3.1, 9.1.2, 9.2 and 9.3).
+-- A document with several schema resources, and the same with each reference as a pointer from its root (JSON
+-- Schema 2020-12, Core, 8.2.1, 8.2.3.1, 9.1.2, 9.2 and 9.3).
 use Rattle.std.specs.BTreeMap as tree
 use Rattle.std.specs.BTreeMap.{BTreeMap}
 use Rattle.std.specs.Fmt.{decimal}
@@ -25,7 +25,7 @@ use Rattle.tinyjson_schema_bundle.specs.declared.mark.Kind.{Kind}
 use Rattle.tinyjson_schema_bundle.specs.declared.mark.Kind.TheVariants as kind
 use Rattle.tinyjson_schema_bundle.specs.declared.mark.Mark.{Mark}
 
--- ---- places: pointers from the root, in UTF-8, as they stand in a fragment
+-- ---- places: pointers from the root in UTF-8, in the form that a fragment needs
 
 -- a character of a token (RFC 6901, sections 3 and 6)
 abbrev pub token_char : ℕ → List ℕ
@@ -36,20 +36,20 @@ abbrev pub token_text : List ℕ → List ℕ
 token_text [] = []
 token_text (c ∷ cs) = token_char c ++ token_text cs
 
--- what stands at the key, or at the index, in what stands at p
+-- the place of the value at the key, or at the index, of the value at p
 abbrev pub at_key : List ℕ → List ℕ → List ℕ
 at_key p k = p ++ solidus ∷ token_text k
 
 abbrev pub at_index : List ℕ → ℕ → List ℕ
 at_index p i = p ++ solidus ∷ decimal i
 
--- ---- what a document has: its resources and the names in them, each with its place
+-- ---- the marks of a document: resources, names and references, each with its place
 
 abbrev pub is_empty : List ℕ → Bool
 is_empty [] = true
 is_empty (b ∷ bs) = false
 
--- a text with its place
+-- a kind, a URI or reference, and a place
 abbrev pub Marked : Type 0
 Marked = Kind × List ℕ × List ℕ
 
@@ -57,7 +57,7 @@ Marked = Kind × List ℕ × List ℕ
 abbrev pub with_name : List ℕ → List ℕ → List ℕ
 with_name u bs = u ++ number_sign ∷ bs
 
--- the base URI in a schema, in one whose base URI is b, by its `$id`
+-- the base URI in a schema, given the one around it and its `$id`
 abbrev pub base_by : List ℕ → Option Tree → List ℕ
 base_by b (Some (string cs)) = without_fragment (resolved b (encode_utf8_all cs))
 base_by b _ = b
@@ -65,14 +65,14 @@ base_by b _ = b
 abbrev pub base_in : List ℕ → Tree → List ℕ
 base_in b s = base_by b (schema_at s kw.Id)
 
--- The whole is a resource, and so is each schema with an `$id`. Its URI is the base URI in it.
+-- The root is a resource, and so is each schema with an `$id`. Its URI is the base URI in it.
 abbrev pub is_resource : List ℕ → Tree → Bool
 is_resource p s = is_empty p || option_map_or is_string (schema_at s kw.Id) false
 
 abbrev pub resource_marks : List ℕ → List ℕ → Tree → List Marked
 resource_marks b p s = cond (is_resource p s) ((kind.Resource, b, p) ∷ []) []
 
--- the kind of a name that the keyword gives
+-- the kind of a name by this keyword
 abbrev pub name_kind : List ℕ → Kind
 name_kind key = cond (bytes_eq key (name kw.DynamicAnchor)) kind.DynamicName kind.Name
 
@@ -80,7 +80,7 @@ abbrev pub name_marks : Kind → List ℕ → List ℕ → Tree → List Marked
 name_marks k b p (string cs) = (k, with_name b (encode_utf8_all cs), p) ∷ []
 name_marks k b p _ = []
 
--- a reference that is more than a fragment
+-- a reference that is only a fragment
 abbrev pub is_fragment : List ℕ → Bool
 is_fragment [] = false
 is_fragment (b ∷ bs) = b == number_sign
@@ -92,7 +92,7 @@ abbrev pub reference_marks : List ℕ → Tree → List Marked
 reference_marks p (string cs) = (reference_kind (encode_utf8_all cs), encode_utf8_all cs, p) ∷ []
 reference_marks p _ = []
 
--- of a keyword's value: of itself, or of the schemas in it
+-- the marks of a keyword's value: its own, or those of the schemas in it
 abbrev pub marks_by : Form → List Marked → List Marked → List Marked → List Marked → List Marked → List Marked
 marks_by form.Anchor names outside one list entries = names
 marks_by form.Reference names outside one list entries = outside
@@ -103,7 +103,8 @@ marks_by form.PatternMap names outside one list entries = entries
 marks_by _ names outside one list entries = []
 
 abbrev mutual
-  -- those of a schema at p and of the schemas in it, with members in the order of their keys; b is the base URI around it
+  -- the marks of a schema at p and of its subschemas, with members in the order of their keys; b is the base URI
+  -- around it
   pub marks_in : List ℕ → List ℕ → Tree → List Marked
   marks_in b p (object ms) = resource_marks (base_in b (object ms)) p (object ms) ++ marks_among (base_in b (object ms)) p ms
   marks_in b p _ = []
@@ -130,11 +131,11 @@ abbrev mutual
   marks_of_members b p no_members = []
   marks_of_members b p (member k t ms) = marks_in b (at_key p k) t ++ marks_of_members b p ms
 
--- the base URI of a document is empty, unless its `$id` says another
+-- the base URI around a document is empty
 abbrev pub marks_of : Tree → List Marked
 marks_of t = marks_in [] [] t
 
--- A document whose references have to be changed has a resource in it, or a reference that is more than a fragment.
+-- A document has to be bundled if a subschema is a resource, or a reference is more than a fragment.
 abbrev pub is_bundled_by : Kind → List ℕ → Bool
 is_bundled_by kind.Resource p = not (is_empty p)
 is_bundled_by kind.Name p = false
@@ -162,20 +163,20 @@ abbrev pub is_dynamic_name : Kind → Bool
 is_dynamic_name kind.DynamicName = true
 is_dynamic_name _ = false
 
--- the URI of a name by `$dynamicAnchor`
+-- the mark has the URI, by `$dynamicAnchor`
 abbrev pub is_dynamic_at : Marked → List ℕ → Bool
 is_dynamic_at m u = is_dynamic_name m.0 && bytes_eq m.1 u
 
--- the place of the first schema that has the URI so
+-- the place of the first schema that has the URI by `$dynamicAnchor`
 abbrev pub dynamic_place : List Marked → List ℕ → Option (List ℕ)
 dynamic_place [] u = None
 dynamic_place (m ∷ ms) u = cond (is_dynamic_at m u) (Some m.2) (dynamic_place ms u)
 
--- the name n by `$dynamicAnchor`, in any resource
+-- the mark has the name n by `$dynamicAnchor`, in any resource
 abbrev pub is_named : Marked → List ℕ → Bool
 is_named m n = is_dynamic_name m.0 && bytes_eq (unwrap_or (fragment_of m.1) []) n
 
--- the same elsewhere than at p
+-- the mark has the name n so, at another place than p
 abbrev pub is_other : Marked → List ℕ → List ℕ → Bool
 is_other m n p = is_named m n && not (bytes_eq m.2 p)
 
@@ -184,9 +185,9 @@ abbrev pub is_only : List Marked → List ℕ → List ℕ → Bool
 is_only [] n p = true
 is_only (m ∷ ms) n p = not (is_other m n p) && is_only ms n p
 
--- A dynamic reference that leads first to a schema at p, which has the name n by `$dynamicAnchor`, leads on to the outermost one of the
--- dynamic scope (8.2.3.2). That is the one in the resource of the whole, r, where each scope begins; without one there it is known
--- if no other schema has the name.
+-- The final place of a dynamic reference that first leads to a schema at p with the name n by `$dynamicAnchor`:
+-- that of the outermost schema with this name in the dynamic scope (8.2.3.2). Each scope begins in the root
+-- resource r, so it is the one there. If r has none, the place is known only if no other schema has the name.
 abbrev pub outermost : List Marked → List ℕ → List ℕ → List ℕ → Option (List ℕ)
 outermost ms r n p = option_or (dynamic_place ms (with_name r n)) (cond (is_only ms n p) (Some p) None)
 
@@ -196,8 +197,8 @@ Places = List ℕ → Option (List ℕ)
 
 -- ---- where references lead
 
--- the place of a URI; from a schema with the base URI b, the one where a dynamic reference to a name in a resource leads; and the
--- one where a place that a reference leads to is found
+-- the place of a URI; the place to which a dynamic reference leads from a schema with the base URI b, given its
+-- resource and its name; and the place, in the document or in a copy, at which a place is found from such a schema
 abbrev pub Leads : Type 0
 Leads = Places × (List ℕ → List ℕ → List ℕ → Option (List ℕ)) × (List ℕ → List ℕ → List ℕ)
 
@@ -205,7 +206,7 @@ abbrev pub begins_pointer : List ℕ → Bool
 begins_pointer [] = true
 begins_pointer (b ∷ bs) = b == solidus
 
--- where tokens lead from the place p
+-- the place to which the tokens lead from p
 abbrev pub place_after : List ℕ → List (List ℕ) → List ℕ
 place_after p [] = p
 place_after p (k ∷ ks) = place_after (at_key p k) ks
@@ -213,7 +214,7 @@ place_after p (k ∷ ks) = place_after (at_key p k) ks
 abbrev pub place_below : List ℕ → List ℕ → Option (List ℕ)
 place_below p ds = option_map (place_after p) (pointer_tokens (chars ds))
 
--- From a schema with the base URI b, in the resource u: the fragment is percent-encoded for ds, a pointer or a name.
+-- From a schema with the base URI b: in the resource u, the decoded fragment ds is a pointer or a name.
 abbrev pub leads_in : Leads → Bool → List ℕ → List ℕ → List ℕ → Option (List ℕ)
 leads_in to dynamic b u ds = cond (begins_pointer ds) (option_and_then (λ p. place_below p ds) (to.0 u))
     (cond dynamic (to.1 b u ds) (to.0 (with_name u ds)))
@@ -221,7 +222,7 @@ leads_in to dynamic b u ds = cond (begins_pointer ds) (option_and_then (λ p. pl
 abbrev pub leads_by : Leads → Bool → List ℕ → List ℕ → List ℕ → Option (List ℕ)
 leads_by to dynamic b u ds = cond (is_utf8 ds) (leads_in to dynamic b u ds) None
 
--- the place that the URI t leads to
+-- the place to which the URI t leads
 abbrev pub first_place : Leads → Bool → List ℕ → List ℕ → Option (List ℕ)
 first_place to dynamic b t = option_and_then (leads_by to dynamic b (without_fragment t)) (percent_decoded (unwrap_or (fragment_of t) []))
 
@@ -230,21 +231,21 @@ destination to dynamic b t = option_map (to.2 b) (first_place to dynamic b t)
 
 -- ---- the document with pointers
 
--- the text of bytes in UTF-8
+-- the string of bytes in UTF-8
 abbrev pub string_of : List ℕ → Tree
 string_of bs = string (chars bs)
 
--- a reference as a pointer; one that leads nowhere stays
+-- a reference as a pointer; one that leads nowhere is left as it is
 abbrev pub pointing : Leads → Bool → List ℕ → Tree → Tree
 pointing to dynamic b (string cs) =
     option_map_or (λ p. string_of (number_sign ∷ p)) (destination to dynamic b (resolved b (encode_utf8_all cs))) (string cs)
 pointing to dynamic b w = w
 
--- the URI has the place p
+-- the place is p
 abbrev pub is_here : Option (List ℕ) → List ℕ → Bool
 is_here o p = option_map_or (λ q. bytes_eq q p) o false
 
--- An `$id` of a resource in the whole is left out; not one with a fragment, nor one that an earlier resource has.
+-- The `$id` of a subschema is left out, unless it has a fragment or an earlier resource has it.
 abbrev pub is_own_id : Places → List ℕ → List ℕ → List ℕ → Bool
 is_own_id at b p bs = not (is_empty p) && (is_empty (unwrap_or (fragment_of bs) []) && is_here (at b) p)
 
@@ -252,7 +253,7 @@ abbrev pub kept_id : Places → List ℕ → List ℕ → Tree → Option Tree
 kept_id at b p (string cs) = cond (is_own_id at b p (encode_utf8_all cs)) None (Some (string cs))
 kept_id at b p w = Some w
 
--- A name is left out. One that is no plain name, or that the resource has before, is made a text that is none.
+-- A name is left out. One that is not plain, or that its resource has before, becomes a text that is no plain name.
 abbrev pub is_own_anchor : Places → List ℕ → List ℕ → List ℕ → Bool
 is_own_anchor at b p bs = is_plain_name bs && is_here (at (with_name b bs)) p
 
@@ -260,7 +261,7 @@ abbrev pub kept_anchor : Places → List ℕ → List ℕ → Tree → Option Tr
 kept_anchor at b p (string cs) = cond (is_own_anchor at b p (encode_utf8_all cs)) None (Some (string_of (with_name b (encode_utf8_all cs))))
 kept_anchor at b p w = Some w
 
--- what stays of a keyword's value w, or comes in its place
+-- what remains of a keyword's value w, or replaces it
 abbrev pub kept_by : Form → Tree → Option Tree → Option Tree → Tree → Tree → Tree → Tree → Option Tree
 kept_by form.Base w id anchor reference one list entries = id
 kept_by form.Anchor w id anchor reference one list entries = anchor
@@ -279,7 +280,7 @@ abbrev pub is_dynamic : List ℕ → Bool
 is_dynamic key = bytes_eq key (name kw.DynamicRef)
 
 abbrev mutual
-  -- a schema at p, b is the base URI around it
+  -- the bundled schema at p; b is the base URI around it
   pub pointed : Leads → List ℕ → List ℕ → Tree → Tree
   pointed to b p (object ms) = object (pointed_among to (base_in b (object ms)) p ms)
   pointed to b p t = t
@@ -306,7 +307,7 @@ abbrev mutual
   pointed_members to b p no_members = no_members
   pointed_members to b p (member k t ms) = put k (pointed to b (at_key p k) t) (pointed_members to b p ms)
 
--- ---- words of private contracts
+-- ---- for private contracts
 
 abbrev pub marks_of_keyword : List ℕ → List ℕ → List ℕ → List ℕ → Tree → List Marked
 marks_of_keyword key b p q w = marks_by (form_at key) (name_marks (name_kind key) b p w) (reference_marks p w) (marks_in b q w)
@@ -322,13 +323,13 @@ marked m = (m.kind, string_bytes m.uri, string_bytes m.place)
 abbrev pub all_marked : List Mark → List Marked
 all_marked marks = map marked marks
 
--- The list has these beside those that it had, after them.
+-- These are appended to the list.
 abbrev pub Gathers : List Marked → List Mark → List Mark → Type 0
 Gathers ms old new = all_marked new ≡ all_marked old ++ ms
 
 abbrev pub places_in : BTreeMap (String Global) (String Global) → Places
 places_in m u = option_map string_bytes (tree.get_by_text m u)
 
--- The map has the places of these.
+-- The map has the places of these marks.
 abbrev pub HasPlaces : List Marked → BTreeMap (String Global) (String Global) → Type 0
 HasPlaces ms m = (u : List ℕ) → places_in m u ≡ place_of ms u

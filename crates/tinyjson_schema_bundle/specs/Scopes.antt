@@ -1,5 +1,5 @@
--- Scopes of dynamic references: a resource that is reached in several has a copy for each (JSON Schema 2020-12, Core, 7.1 and
--- 8.2.3.2).
+-- Scopes of dynamic references: a resource that is reached in several scopes has a copy for each (JSON Schema
+-- 2020-12, Core, 7.1 and 8.2.3.2).
 use Rattle.std.specs.Fmt.{decimal}
 use Rattle.std.specs.Prelude.{ℕ, suc, Bool, true, false, ◌&&◌, ◌||◌, List, [], ◌∷◌, ◌++◌, Option, Some, None, cond, take}
 use Rattle.std.specs.Prelude.{drop, length, nat_lt, replicate, codes, is_some, is_none, map, option_map, option_and_then, unwrap_or}
@@ -20,15 +20,15 @@ use Rattle.tinyjson_schema_bundle.specs.declared.mark.Kind.{Kind}
 use Rattle.tinyjson_schema_bundle.specs.declared.mark.Kind.TheVariants as kind
 use Rattle.tinyjson_schema_bundle.specs.declared.scope.State.{State}
 
--- what follows the place p in q, which is p or within it
+-- the rest of the place q after p, which is the same or contains it
 abbrev pub below : List ℕ → List ℕ → Option (List ℕ)
 below p q = cond (bytes_eq (take (length p) q) p && begins_pointer (drop (length p) q)) (Some (drop (length p) q)) None
 
 abbrev pub is_within : List ℕ → List ℕ → Bool
 is_within p q = is_some (below p q)
 
--- A dynamic scope, so far as it tells: of names that several resources have by `$dynamicAnchor`, the whole's not among them, the
--- schemas that have them in the outermost resource.
+-- A dynamic scope, as far as it decides where references lead. For contested names it has the outermost schema with
+-- the name. A name is contested if several resources have it by `$dynamicAnchor`, and the root resource has not.
 abbrev pub Scope : Type 0
 Scope = List Marked
 
@@ -45,7 +45,7 @@ is_same _ _ = false
 abbrev pub Reached : Type 0
 Reached = Scope × List ℕ
 
--- that of the whole
+-- the root, where each scope begins
 abbrev pub from_root : Reached
 from_root = ([], [])
 
@@ -57,17 +57,17 @@ abbrev pub is_resource_mark : Kind → Bool
 is_resource_mark kind.Resource = true
 is_resource_mark _ = false
 
--- a resource within what is at e, which p is in
+-- the mark is a resource within the one at e, and contains p
 abbrev pub is_between : List ℕ → List ℕ → Marked → Bool
 is_between e p m = is_resource_mark m.0 && is_within e m.2 && is_within m.2 p
 
--- the name that a mark has
+-- the name of a mark
 abbrev pub name_in : Marked → List ℕ
 name_in m = unwrap_or (fragment_of m.1) []
 
--- the marks of a document, and the URI of the whole
+-- given the marks of a document, and the URI of its root
 module _ (all : List Marked) (r : List ℕ) where
-  -- Others have the name too, and the whole's resource has not.
+  -- Other resources have the mark's name, and the root resource has not.
   abbrev pub is_contested : Marked → Bool
   is_contested m = is_dynamic_name m.0 && is_none (outermost all r (name_in m) m.2)
 
@@ -75,7 +75,7 @@ module _ (all : List Marked) (r : List ℕ) where
   some_contested [] = false
   some_contested (m ∷ ms) = is_contested m || some_contested ms
 
-  -- where a resource is entered: a contested name of it that the scope has not
+  -- when the resource u is entered, its contested names are added, unless the scope has them
   abbrev pub is_entering : Scope → List ℕ → Marked → Bool
   is_entering c u m = is_contested m && bytes_eq (without_fragment m.1) u && is_none (settled c (name_in m))
 
@@ -83,11 +83,11 @@ module _ (all : List Marked) (r : List ℕ) where
   entered_by [] u c = c
   entered_by (m ∷ ms) u c = entered_by ms u (cond (is_entering c u m) (c ++ m ∷ []) c)
 
-  -- the scope in the resource u, which is entered from the scope c
+  -- the scope c after the resource u is entered
   abbrev pub entered : List ℕ → Scope → Scope
   entered u c = entered_by all u c
 
-  -- the scope at p, in the resource at e, and in those between
+  -- the scope at p: those resources are entered that are in the one at e and contain p
   abbrev pub scope_by : List Marked → List ℕ → List ℕ → Scope → Scope
   scope_by [] e p c = c
   scope_by (m ∷ ms) e p c = scope_by ms e p (cond (is_between e p m) (entered m.1 c) c)
@@ -95,7 +95,7 @@ module _ (all : List Marked) (r : List ℕ) where
   abbrev pub scope_at : Reached → List ℕ → Scope
   scope_at s p = scope_by all s.1 p s.0
 
-  -- the innermost resource that p is in
+  -- the innermost resource that contains p
   abbrev pub innermost : List Marked → List ℕ → List ℕ × List ℕ → List ℕ × List ℕ
   innermost [] p h = h
   innermost (m ∷ ms) p h = innermost ms p (cond (is_between [] p m) (m.1, m.2) h)
@@ -104,17 +104,18 @@ module _ (all : List Marked) (r : List ℕ) where
   abbrev pub home : List ℕ → List ℕ × List ℕ
   home p = innermost all p (r, [])
 
-  -- where a dynamic reference at p leads, that leads first to a schema at q, which has its name n by `$dynamicAnchor`
+  -- the final place of a dynamic reference at p that first leads to a schema at q with its name n by
+  -- `$dynamicAnchor`
   abbrev pub leads_over : Reached → List ℕ → List ℕ → List ℕ → List ℕ
   leads_over s p n q = unwrap_or (option_or (outermost all r n q) (settled (scope_at s p) n)) q
 
-  -- what is reached at q from the scope c
+  -- the state that is reached at q from the scope c
   abbrev pub reached : Scope → List ℕ → Reached
   reached c q = (entered (home q).0 c, (home q).1)
 
 -- ---- copies
 
--- The copies of a document stand in `$defs`, at keys that begin with these letters: more than each key there has bytes.
+-- The copies are in `$defs`, at keys that begin with these letters: more letters than each key there has bytes.
 abbrev pub longer : ℕ → ℕ → ℕ
 longer n l = cond (nat_lt n l) l n
 
@@ -128,23 +129,23 @@ letters_above n = replicate (suc n) 122
 abbrev pub letters : Tree → List ℕ
 letters t = letters_above (longest (schema_map_at t kw.Defs) 0)
 
--- The key of the copy i, and what stands below it.
+-- The key of the copy i, and a place in this copy.
 abbrev pub copy_key : List ℕ → ℕ → List ℕ
 copy_key z i = z ++ decimal i
 
 abbrev pub copy_place : List ℕ → ℕ → List ℕ → List ℕ
 copy_place z i rest = codes "/$defs/" ++ (z ++ (decimal i ++ rest))
 
--- where references lead from a schema in what was reached so, if these have copies
+-- where references lead from a schema in the state s, given the states with copies
 module _ (at : Places) (all : List Marked) (r z : List ℕ) (some : Bool) (copies : List Reached) (s : Reached) where
-  -- In the document itself, or in a copy: one that there is not is led to where nothing is.
+  -- In the document itself, or in a copy. A copy that is missing leads nowhere.
   abbrev pub placed : List ℕ → Reached → List ℕ
   placed q t = cond (is_same t.0 (scope_at all r from_root q)) q (copy_place z (place_in_list copies t) (unwrap_or (below t.1 q) []))
 
   abbrev pub moved : List ℕ → List ℕ → List ℕ
   moved p q = cond some (placed q (reached all r (scope_at all r s p) q)) q
 
-  -- In the resource u, one to a name by `$anchor` leads to it.
+  -- A name by `$anchor` leads to its schema in the resource u.
   abbrev pub leads_on : List ℕ → List ℕ → List ℕ → Option (List ℕ)
   leads_on p u n = option_map_or (λ q. Some (leads_over all r s p n q)) (dynamic_place all (with_name u n)) (at (with_name u n))
 
@@ -157,7 +158,7 @@ module _ (at : Places) (all : List Marked) (r z : List ℕ) (some : Bool) (copie
 abbrev pub schema_there : Tree → List ℕ → Option Tree
 schema_there t p = option_and_then (λ bs. cond (is_utf8 bs) (at_pointer t (chars bs)) None) (percent_decoded p)
 
--- the copy of the resource u, which stands at p
+-- the bundled copy of the resource u, which is at p
 abbrev pub copy_by : Leads → List ℕ → List ℕ → Option Tree → Option Tree
 copy_by to u p (Some (object ms)) = Some (object (pointed_among to u p ms))
 copy_by to u p _ = None
@@ -166,7 +167,7 @@ abbrev pub put_copies : (Reached → Option Tree) → List ℕ → ℕ → List 
 put_copies copy z i [] ms = ms
 put_copies copy z i (s ∷ ss) ms = put_copies copy z (suc i) ss (put_some (chars (copy_key z i)) (copy s) ms)
 
--- the members of `$defs`, if it may have any
+-- the members of `$defs`, if it may have members
 abbrev pub defs_in : Leads → List ℕ → Option Tree → Option Members
 defs_in to b None = Some no_members
 defs_in to b (Some (object ms)) = Some (pointed_members to b (codes "/$defs") ms)
@@ -191,12 +192,13 @@ module _ (at : Places) (all : List Marked) (r z : List ℕ) (some : Bool) (copie
   with_copies (s ∷ ss) = with_defs (option_map (put_copies copy_of z 0 (s ∷ ss)) (defs_in (leads_from from_root) r (schema_at t kw.Defs)))
       main_part
 
--- The document, in which each reference to a schema in it is a pointer from its root, with copies of what was reached so.
+-- The bundled document: each reference to a schema in it is a pointer from the root, and each of these states has a
+-- copy.
 abbrev pub bundled : List Reached → Tree → Tree
 bundled copies t = cond (is_bundle (marks_of t)) (with_copies (place_of (marks_of t)) (marks_of t) (base_in [] t) (letters t)
     (some_contested (marks_of t) (base_in [] t) (marks_of t)) copies t copies) t
 
--- ---- words of private contracts
+-- ---- for private contracts
 
 abbrev pub reached_of : State → Reached
 reached_of s = (all_marked s.scope.items, string_bytes s.entry)

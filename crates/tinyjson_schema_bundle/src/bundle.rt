@@ -1,4 +1,4 @@
-//! A document with each reference to a schema in it as a pointer from its root.
+//! Bundling: every reference to a schema in the document becomes a JSON pointer from the root.
 ghost use Rattle.std.specs.Prelude.{◌≡◌, ◌&&◌, List, IfOk, OnOk, option_map};
 ghost use Rattle.std.specs.Str.{chars};
 ghost use Rattle.std.specs.String.{string_bytes};
@@ -26,14 +26,14 @@ use tinyjson::{JsonValue, insert_member, sorted_members};
 use tinyjson_schema_keywords::{Form, Keyword, form_at, is_plain_name, percent_decoded};
 use uri_reference::{resolve, without_fragment};
 
-/// The document as one schema resource: each reference that leads to a schema in it, also to one in another resource,
-/// is a pointer from the root, and the `$id`s and names of schemas in it are left out (Core, 8.2.1, 8.2.3.2 and 9.3). A
-/// resource in which a dynamic reference leads elsewhere by what has led to it is copied into `$defs`. What can't be changed
-/// so, as a reference that leads elsewhere, stays, so that `Schema::read` of `tinyjson_schema` refuses it at its place. The
-/// only error is out of memory.
+/// Returns the document as a single schema resource. Each reference to a schema in the document becomes a pointer
+/// from the root, also one into another resource. The `$id`s and names of subschemas are left out (Core, 8.2.1,
+/// 8.2.3.2 and 9.3). A resource is copied into `$defs` where a dynamic reference in it leads elsewhere, depending
+/// on what has led to it. What can't be resolved stays as it is, as a reference out of the document; `Schema::read`
+/// of `tinyjson_schema` then rejects it with its place. The only error is out of memory.
 ///
-/// It calls itself for each schema in the schema, so it takes stack as the schema is deep. Not inlined, so that a check
-/// that comes after it has the stack.
+/// It is recursive: it takes stack with the nesting of the schema. Not inlined, so that a later check has all of
+/// the stack.
 #[inline(never)]
 pub fn bundled(document: &JsonValue, alloc: Global) -> Result<JsonValue, AllocError>
     ensures { IfOk result (λ v. (copies : List Reached)
@@ -91,7 +91,7 @@ pub fn pointed(
     Ok(JsonValue::Object(members))
 }
 
-/// The keywords of a schema that stay, from the last one on.
+/// Bundles the members of a schema, from the last one on.
 #[cycle(bundle)]
 pub fn pointed_named(
     keywords: &[(&String, &JsonValue)],
@@ -114,8 +114,8 @@ pub fn pointed_named(
     Ok(members)
 }
 
-/// What stays of a keyword's value, which is at the place. Neither this is inlined nor what it calls, so that the recursion
-/// takes less stack.
+/// What remains of a keyword's value, which is at the place. Not inlined, nor are its callees, so that the
+/// recursion takes less stack.
 #[cycle(bundle)]
 #[inline(never)]
 fn kept_of(
@@ -223,7 +223,7 @@ pub fn pointed_members(
     Ok(members)
 }
 
-/// Puts the value at the key, if there is one.
+/// Inserts the value at the key, if there is a value.
 pub fn put_some(
     members: &mut HashMap<String, JsonValue>,
     key: &str,
@@ -239,7 +239,7 @@ pub fn put_some(
     }
 }
 
-/// Puts the value at the key, of which it makes a string.
+/// Inserts the value at the key, which it copies into a string.
 #[inline(never)]
 pub fn put_member(
     members: &mut HashMap<String, JsonValue>,
@@ -257,7 +257,7 @@ pub fn put_member(
     insert_member(members, key, value)
 }
 
-/// What stays of the value of a keyword that has no schemas.
+/// What remains of the value of a keyword without subschemas.
 #[inline(never)]
 fn kept_alone(
     name: &str,
@@ -281,7 +281,7 @@ fn kept_alone(
     }
 }
 
-/// An `$id` of the schema at the spot, unless it is left out.
+/// The `$id` of the schema at the spot, or `None` if it is left out.
 fn kept_id(
     operand: &JsonValue,
     spot: Spot<'_>,
@@ -300,7 +300,7 @@ fn kept_id(
     Ok(Some(operand.try_clone(alloc)?))
 }
 
-/// Whether an `$id` has no fragment, and is that of the schema at the spot and of none before it.
+/// Whether the `$id` has no fragment, and its URI is that of the schema at the spot and of no earlier one.
 fn is_own_id(id: &str, spot: Spot<'_>, places: &BTreeMap<String, String>) -> bool
     ensures { result ≡ is_own_id (places_in places.now)
         spot.entry.base.now spot.entry.place.now id.now }
@@ -308,7 +308,7 @@ fn is_own_id(id: &str, spot: Spot<'_>, places: &BTreeMap<String, String>) -> boo
     !spot.place.is_empty() && fragment_in(id).is_empty() && is_here(spot.base, spot.place, places)
 }
 
-/// Whether the URI has the place.
+/// Whether the URI belongs to this place.
 fn is_here(uri: &str, place: &str, places: &BTreeMap<String, String>) -> bool
     ensures { result ≡ is_here (places_in places.now uri.now) place.now }
 {
@@ -318,7 +318,7 @@ fn is_here(uri: &str, place: &str, places: &BTreeMap<String, String>) -> bool
     }
 }
 
-/// A name of the schema at the spot, unless it is left out.
+/// The name of the schema at the spot, or `None` if it is left out.
 fn kept_anchor(
     operand: &JsonValue,
     spot: Spot<'_>,
@@ -339,7 +339,7 @@ fn kept_anchor(
     Ok(Some(JsonValue::String(uri)))
 }
 
-/// Whether it is a plain name, whose URI has the place.
+/// Whether it is a plain name, and its URI belongs to this place.
 fn is_own_anchor(name: &str, uri: &str, place: &str, places: &BTreeMap<String, String>) -> bool
     ensures { result ≡ is_plain_name name.now
         && is_here (places_in places.now uri.now) place.now }
@@ -353,7 +353,7 @@ fn is_dynamic(name: &str) -> bool
     name == Keyword::DynamicRef.name()
 }
 
-/// A reference in a schema with the base URI, as a pointer.
+/// A reference in a schema with this base URI, as a pointer.
 fn pointing(
     reference: &JsonValue,
     dynamic: bool,
@@ -373,7 +373,7 @@ fn pointing(
     }
 }
 
-/// The place that a URI leads to, in the document or in a copy.
+/// The place to which a URI leads, in the document or in a copy.
 fn destination(
     target: &str,
     dynamic: bool,
@@ -389,7 +389,7 @@ fn destination(
     }
 }
 
-/// The place in the document that a URI leads to.
+/// The place to which a URI leads in the document.
 pub fn first_place(
     target: &str,
     dynamic: bool,

@@ -1,4 +1,4 @@
-//! Copies of resources, where what has led to a dynamic reference tells where it leads.
+//! Copies of resources, for dynamic references that lead elsewhere depending on what has led to them.
 ghost use Rattle.std.specs.Prelude.{◌≡◌, IfOk, OnOk, map, option_map};
 ghost use Rattle.std.specs.String.{string_bytes};
 ghost use Rattle.tinyjson.specs.View.{view, members_view, members_listed};
@@ -21,7 +21,7 @@ use tinyjson::{JsonValue, sorted_members};
 use tinyjson_schema_keywords::{Keyword, at_pointer, percent_decoded, schema_at, schema_map_at};
 use uri_reference::resolve;
 
-/// The letters that the keys of copies begin with: more than each key of `$defs` has bytes.
+/// The letters with which the keys of copies begin: they are longer than each key of `$defs`.
 pub fn letters(document: &JsonValue, alloc: Global) -> Result<String, AllocError>
     ensures { IfOk result (λ s. string_bytes s ≡ letters (view document.now)) }
 {
@@ -40,7 +40,7 @@ fn letters_above(count: usize, alloc: Global) -> Result<String, AllocError>
     Ok(letters)
 }
 
-/// How many bytes the longest key has.
+/// The length in bytes of the longest key.
 fn longest_key(members: &[(&String, &JsonValue)]) -> usize
     ensures { result ≡ longest (members_listed members.now) 0 }
 {
@@ -78,7 +78,7 @@ pub fn with_copies(document: &JsonValue, guide: &Guide<'_>) -> Result<JsonValue,
     with_defs(whole, defs, guide.alloc)
 }
 
-/// The schema with these as its `$defs`, if there are any.
+/// The schema with these `$defs`, if there are any.
 fn with_defs(
     schema: JsonValue,
     defs: Option<HashMap<String, JsonValue>>,
@@ -100,7 +100,7 @@ fn with_defs(
     }
 }
 
-/// The `$defs` of the document with pointers, with the copies; `None` if they are no object.
+/// The `$defs` of the bundled document, with the copies; `None` if it is no object.
 fn copied_defs(
     document: &JsonValue,
     guide: &Guide<'_>,
@@ -119,7 +119,7 @@ fn copied_defs(
     Ok(Some(defs))
 }
 
-/// The `$defs` of the document with pointers; `None` if they are no object.
+/// The `$defs` of the bundled document; `None` if it is no object.
 fn defs_of(
     document: &JsonValue,
     guide: &Guide<'_>,
@@ -141,7 +141,7 @@ fn defs_of(
     Ok(Some(pointed_members(sorted.as_slice(), guide, spot)?))
 }
 
-/// Puts the copies.
+/// Inserts the copies.
 fn put_copies(
     defs: &mut HashMap<String, JsonValue>,
     document: &JsonValue,
@@ -162,7 +162,7 @@ fn put_copies(
     Ok(())
 }
 
-/// A copy of the resource that was reached, with pointers.
+/// A bundled copy of the resource that was reached.
 fn copy_of(document: &JsonValue, guide: &Guide<'_>) -> Result<Option<JsonValue>, AllocError>
     ensures { IfOk result (λ o. option_map view o ≡ copy_by (guided guide.now)
         (home (all_marked guide.now.marks.now) guide.now.root.now
@@ -202,11 +202,11 @@ fn schema_there<'s>(
     }
 }
 
-/// How many copies there may be. More would be pointed at where nothing is, and refused there.
+/// The most copies that are made. References to further ones lead nowhere, and are rejected at their place.
 const MOST_COPIES: usize = 1000;
 
-/// What is to be copied, as references lead to it from the whole on. No clause says that it is all of that: a reference to
-/// what is not among them is refused at its place.
+/// The states that need a copy, as references lead to them from the root. No clause claims that it finds all of
+/// them: a reference to a missing copy is rejected at its place.
 pub fn copies_of(guide: &Guide<'_>) -> Result<Vec<State>, AllocError> {
     let mut copies = Vec::new(guide.alloc);
     if !guide.contested {
@@ -227,7 +227,7 @@ pub fn copies_of(guide: &Guide<'_>) -> Result<Vec<State>, AllocError> {
     Ok(copies)
 }
 
-/// What the references lead to from what was reached, if the document has it not itself.
+/// Appends the states that the references of the last state lead to, unless the document has them itself.
 fn gather_reached(guide: &Guide<'_>, copies: &mut Vec<State>) -> Result<(), AllocError> {
     for mark in guide.marks {
         let is_reference = matches!(mark.kind, Kind::Inside | Kind::Outside);

@@ -1,4 +1,4 @@
-//! Where the URIs of a document lead.
+//! Looking up where the URIs of a document lead.
 ghost use Rattle.std.specs.Prelude.{◌≡◌, [], IfOk, map, option_and_then, option_map, unwrap_or};
 ghost use Rattle.std.specs.String.{string_bytes};
 ghost use Rattle.tinyjson.specs.View.{text};
@@ -16,9 +16,9 @@ use std::collections::BTreeMap;
 use tinyjson_schema_keywords::read_pointer;
 use uri_reference::fragment;
 
-/// What the references of a document are looked up in: the place of each URI, all marks, and the URI of the whole; whether
-/// what has led to a dynamic reference tells where it leads, what was reached so, and what has a copy, at a key that
-/// begins with the letters; and where what is made is allocated.
+/// What references are resolved with: the place of each URI, all marks, and the URI of the root; whether dynamic
+/// references lead to different places, the states that have a copy, and the letters with which the copies' keys
+/// begin; and the allocator.
 #[derive(Clone, Copy)]
 pub struct Guide<'a> {
     pub places: &'a BTreeMap<String, String>,
@@ -31,7 +31,7 @@ pub struct Guide<'a> {
     pub alloc: Global,
 }
 
-/// The place of each URI: the first one that it has.
+/// The first place of each URI.
 pub fn places_of(marks: &[Mark], alloc: Global) -> Result<BTreeMap<String, String>, AllocError>
     ensures { IfOk result (HasPlaces (all_marked marks.now)) }
 {
@@ -60,7 +60,7 @@ fn is_place(kind: Kind) -> bool
     }
 }
 
-/// The fragment, or an empty text.
+/// The fragment, or an empty text if there is none.
 pub fn fragment_in(text: &str) -> &str
     ensures { result.now ≡ unwrap_or (fragment_of text.now) [] }
 {
@@ -89,7 +89,7 @@ pub fn place_below(
     Ok(Some(place_after(place.as_str(), pointer.tokens(), alloc)?))
 }
 
-/// Where tokens lead from a place.
+/// The place to which the tokens lead from a place.
 fn place_after(place: &str, tokens: &[String], alloc: Global) -> Result<String, AllocError>
     ensures { IfOk result (λ s. string_bytes s ≡ place_after place.now (map text tokens.now)) }
 {
@@ -117,8 +117,9 @@ pub fn place_of_name(
     }
 }
 
-/// The place to which a dynamic reference leads on from the schema at the place, which has the name by `$dynamicAnchor`: the
-/// schema with it in the resource of the whole, or that one, if no other has it (Core, 8.2.3.2).
+/// The final place of a dynamic reference that first leads to the schema at `place`, which has the name by
+/// `$dynamicAnchor`. It is the schema with this name in the root resource, or this one if no other has the name
+/// (Core, 8.2.3.2).
 pub fn outermost<'m>(
     marks: &'m [Mark],
     root: &str,
@@ -139,7 +140,7 @@ pub fn outermost<'m>(
     Ok(None)
 }
 
-/// The place of the first schema that has the URI by `$dynamicAnchor`.
+/// The place of the first schema with the URI by `$dynamicAnchor`.
 pub fn dynamic_place<'m>(marks: &'m [Mark], uri: &str) -> Option<&'m str>
     ensures { option_map (λ p. p.now) result ≡ dynamic_place (all_marked marks.now) uri.now }
 {
@@ -163,7 +164,7 @@ pub fn is_dynamic_name(kind: Kind) -> bool
     matches!(kind, Kind::DynamicName)
 }
 
-/// Whether each schema that has the name by `$dynamicAnchor` is at the place.
+/// Whether each schema with the name by `$dynamicAnchor` is at the place.
 fn is_only(marks: &[Mark], name: &str, place: &str) -> bool
     ensures { result ≡ is_only (all_marked marks.now) name.now place.now }
 {
@@ -175,14 +176,14 @@ fn is_only(marks: &[Mark], name: &str, place: &str) -> bool
     true
 }
 
-/// Whether it is of the name, elsewhere.
+/// Whether the mark has the name, at another place.
 fn is_other(mark: &Mark, name: &str, place: &str) -> bool
     ensures { result ≡ is_other (marked mark.now) name.now place.now }
 {
     is_named(mark, name) && mark.place.as_str() != place
 }
 
-/// Whether it is of the name, by `$dynamicAnchor`, in any resource.
+/// Whether the mark has the name by `$dynamicAnchor`, in any resource.
 pub fn is_named(mark: &Mark, name: &str) -> bool
     ensures { result ≡ is_named (marked mark.now) name.now }
 {

@@ -1,5 +1,5 @@
-//! The schema resources of a document (JSON Schema 2020-12) made one: each reference by a URI, a name or a dynamic scope
-//! becomes a pointer from the root.
+//! Makes a document with several schema resources (JSON Schema 2020-12) a single one: each reference by a URI, a
+//! name or a dynamic scope becomes a pointer from the root.
 //!
 //! ```
 //! let document = bundled(&tree, alloc)?;

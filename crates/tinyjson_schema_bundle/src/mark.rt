@@ -1,4 +1,4 @@
-//! The resources of a document, and the names in them.
+//! The resources, names and references of a document.
 ghost use Rattle.std.specs.Prelude.{◌≡◌, Some, IfOk, OnOk};
 ghost use Rattle.std.specs.String.{string_bytes};
 ghost use Rattle.tinyjson.specs.Access.{is_string};
@@ -18,22 +18,22 @@ use tinyjson::{JsonValue, sorted_members};
 use tinyjson_schema_keywords::{Form, Keyword, form_at, schema_at};
 use uri_reference::{resolve, without_fragment};
 
-/// What has a place in a document.
+/// The kind of a mark.
 #[derive(Clone, Copy)]
 pub enum Kind {
-    /// A schema resource: the whole, or a schema with an `$id`.
+    /// A schema resource: the root, or a schema with an `$id`.
     Resource,
-    /// A schema with a name in its resource, by `$anchor`.
+    /// A schema with a name by `$anchor`.
     Name,
-    /// One with a name by `$dynamicAnchor`.
+    /// A schema with a name by `$dynamicAnchor`.
     DynamicName,
-    /// A schema with a reference that is nothing but a fragment.
+    /// A schema with a reference that is only a fragment.
     Inside,
-    /// One with a reference that is more.
+    /// A schema with any other reference.
     Outside,
 }
 
-/// A URI in a document, and the place of the schema that has it.
+/// A URI in a document, and the place of its schema.
 #[derive(Drop)]
 pub struct Mark {
     pub kind: Kind,
@@ -53,14 +53,14 @@ impl Mark {
     }
 }
 
-/// The place of a schema, and a base URI: in it, or around it.
+/// The place of a schema, and a base URI: that in it, or that around it.
 #[derive(Clone, Copy)]
 pub struct Spot<'a> {
     pub base: &'a str,
     pub place: &'a str,
 }
 
-/// The base URI in a schema, in one with the given base URI (Core, 8.2.1).
+/// The base URI in a schema, given the one around it (Core, 8.2.1).
 #[inline(never)]
 pub fn base_in(base: &str, schema: &JsonValue, alloc: Global) -> Result<String, AllocError>
     ensures { IfOk result (λ s. string_bytes s ≡ base_in base.now (view schema.now)) }
@@ -81,7 +81,7 @@ fn base_by(base: &str, id: &JsonValue, alloc: Global) -> Result<String, AllocErr
     String::from_str(alloc, without_fragment(uri.as_str()))
 }
 
-/// Whether it is the whole, or has an `$id`.
+/// Whether the schema is the root, or has an `$id`.
 fn is_resource(place: &str, schema: &JsonValue) -> bool
     ensures { result ≡ is_resource place.now (view schema.now) }
 {
@@ -100,10 +100,10 @@ fn is_string(value: &JsonValue) -> bool
     matches!(value, JsonValue::String(_))
 }
 
-/// The resources, names and references to URIs of a document, with members in the order of their keys. The only error
-/// is out of memory.
+/// The resources, names and references of a document, with members in the order of their keys. The only error is
+/// out of memory.
 ///
-/// It calls itself for each schema in the schema, so it takes stack as the schema is deep.
+/// It is recursive: it takes stack with the nesting of the schema.
 pub fn marks_of(document: &JsonValue, alloc: Global) -> Result<Vec<Mark>, AllocError>
     ensures { IfOk result (λ marks. all_marked marks.items ≡ marks_of (view document.now)) }
 {
@@ -142,7 +142,7 @@ fn gather(
     }
 }
 
-/// The schema itself, if it is a resource.
+/// Appends the schema itself, if it is a resource.
 #[inline(never)]
 fn gather_resource(
     schema: &JsonValue,
@@ -166,7 +166,7 @@ fn gather_resource(
     Ok(())
 }
 
-/// Those of keywords of the schema.
+/// Appends the marks of the schema's members.
 #[cycle(marks)]
 fn gather_named(
     keywords: &[(&String, &JsonValue)],
@@ -186,7 +186,7 @@ fn gather_named(
     Ok(())
 }
 
-/// The one of a keyword of the schema, or those of the schemas in its value, which is at the place.
+/// Appends the mark of a keyword of the schema, or those of the schemas in its value, which is at the place.
 #[cycle(marks)]
 fn gather_within(
     keyword: &str,
@@ -215,7 +215,7 @@ fn gather_within(
     }
 }
 
-/// The kind of a name that the keyword gives.
+/// The kind of a name by this keyword.
 fn name_kind(keyword: &str) -> Kind
     ensures { result ≡ name_kind keyword.now }
 {
@@ -225,7 +225,7 @@ fn name_kind(keyword: &str) -> Kind
     Kind::Name
 }
 
-/// The name of the schema.
+/// Appends the name of the schema.
 #[inline(never)]
 fn gather_name(
     kind: Kind,
@@ -250,14 +250,14 @@ fn gather_name(
     Ok(())
 }
 
-/// The URI of a name in a resource.
+/// The URI of a name in the resource with this base URI.
 pub fn with_name(base: &str, name: &str, alloc: Global) -> Result<String, AllocError>
     ensures { IfOk result (λ s. string_bytes s ≡ with_name base.now name.now) }
 {
     format!(in alloc; "{base}#{name}")
 }
 
-/// The reference of the schema.
+/// Appends the reference of the schema.
 #[inline(never)]
 fn gather_reference(
     operand: &JsonValue,
@@ -380,8 +380,7 @@ fn gather_members(
     Ok(())
 }
 
-/// Whether references of the document have to be changed: a resource stands in it, or a reference is more than a
-/// fragment.
+/// Whether the document has to be bundled: a subschema is a resource, or a reference is more than a fragment.
 pub fn is_bundle(marks: &[Mark]) -> bool
     ensures { result ≡ is_bundle (all_marked marks.now) }
 {

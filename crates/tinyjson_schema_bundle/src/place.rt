@@ -1,4 +1,4 @@
-//! Places in a document, as they stand in a fragment.
+//! Places in a document: JSON pointers in the form that a URI fragment needs.
 ghost use Rattle.std.specs.Fmt.{WritesOnOk};
 ghost use Rattle.std.specs.Prelude.{◌≡◌, Some, IfOk};
 ghost use Rattle.std.specs.Str.{chars};
@@ -8,7 +8,7 @@ ghost use Rattle.tinyjson_schema_bundle.specs.Bundles.{token_char, token_text, a
 use std::alloc::{AllocError, Global};
 use std::fmt::{self, Write};
 
-/// A token of a pointer, with what would not be read back as itself escaped.
+/// A token of a pointer; it escapes the characters that a fragment or a pointer does not allow.
 #[derive(Drop)]
 struct Token<'a>(&'a str);
 
@@ -43,7 +43,7 @@ fn write_token_char<W: fmt::Write>(f: &mut fmt::Formatter<W>, c: char) -> fmt::R
     }
 }
 
-/// The place of what stands at the key. Not inlined, since recursions over schemas call it at each level.
+/// The place of the value at the key. Not inlined, since recursions over schemas call it at each level.
 #[inline(never)]
 pub fn at_key(place: &str, key: &str, alloc: Global) -> Result<String, AllocError>
     ensures { IfOk result (λ s. string_bytes s ≡ at_key place.now (chars key.now)) }
@@ -51,7 +51,7 @@ pub fn at_key(place: &str, key: &str, alloc: Global) -> Result<String, AllocErro
     format!(in alloc; "{place}/{}", Token(key))
 }
 
-/// The place of what stands at the index.
+/// The place of the value at the index.
 #[inline(never)]
 pub fn at_index(place: &str, index: usize, alloc: Global) -> Result<String, AllocError>
     ensures { IfOk result (λ s. string_bytes s ≡ at_index place.now index) }

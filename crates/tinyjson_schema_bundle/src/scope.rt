@@ -1,4 +1,4 @@
-//! Dynamic scopes, so far as they tell where references lead (JSON Schema 2020-12, Core, 7.1 and 8.2.3.2).
+//! Dynamic scopes, as far as they decide where references lead (JSON Schema 2020-12, Core, 7.1 and 8.2.3.2).
 ghost use Rattle.std.specs.Prelude.{◌≡◌, [], IfOk, OnOk, map, option_map, unwrap_or};
 ghost use Rattle.std.specs.String.{string_bytes};
 ghost use Rattle.tinyjson_schema_bundle.specs.Bundles.{all_marked, marked, places_in};
@@ -15,8 +15,9 @@ use crate::mark::{Kind, Mark, with_name};
 use std::alloc::{AllocError, Global};
 use uri_reference::without_fragment;
 
-/// A scope, and the place of the resource that was reached in it. The scope has the schemas that are outermost of those
-/// with their names, of names that several resources have by `$dynamicAnchor` and the whole's has not.
+/// A dynamic scope, and the place of the resource that was reached in it. The scope has a schema for some contested
+/// names: the outermost one. A name is contested if several resources have it by `$dynamicAnchor`, and the root
+/// resource does not.
 #[derive(Drop)]
 pub struct State {
     pub scope: Vec<Mark>,
@@ -24,7 +25,7 @@ pub struct State {
 }
 
 impl State {
-    /// The whole, where each scope begins.
+    /// The root, where each scope begins.
     pub fn whole(alloc: Global) -> Self
         ensures { reached_of result ≡ from_root }
     {
@@ -56,7 +57,7 @@ fn copied(marks: &[Mark], alloc: Global) -> Result<Vec<Mark>, AllocError>
     Ok(copies)
 }
 
-/// What follows a place in another, which is the same or within it.
+/// The rest of a place after an outer one, which is the same or contains it.
 pub fn below<'p>(outer: &str, place: &'p str) -> Option<&'p str>
     ensures { option_map (λ x. x.now) result ≡ below outer.now place.now }
 {
@@ -71,7 +72,7 @@ pub fn below<'p>(outer: &str, place: &'p str) -> Option<&'p str>
     Some(&place[from..])
 }
 
-/// The same, or an empty text.
+/// That rest, or an empty text.
 fn rest_below<'p>(outer: &str, place: &'p str) -> &'p str
     ensures { result.now ≡ unwrap_or (below outer.now place.now) [] }
 {
@@ -87,7 +88,7 @@ pub fn is_within(outer: &str, place: &str) -> bool
     below(outer, place).is_some()
 }
 
-/// The place of the schema that the scope has for the name.
+/// The place of the scope's schema for the name.
 fn settled<'s>(scope: &'s [Mark], name: &str) -> Option<&'s str>
     ensures { option_map (λ x. x.now) result ≡ settled (all_marked scope.now) name.now }
 {
@@ -99,7 +100,7 @@ fn settled<'s>(scope: &'s [Mark], name: &str) -> Option<&'s str>
     None
 }
 
-/// Whether two scopes have the same schemas, in one order.
+/// Whether two scopes have the same schemas in the same order.
 fn is_same(scope: &[Mark], other: &[Mark]) -> bool
     ensures { result ≡ is_same (all_marked scope.now) (all_marked other.now) }
 {
@@ -114,7 +115,7 @@ fn is_same(scope: &[Mark], other: &[Mark]) -> bool
     true
 }
 
-/// The index of what was reached, or the length.
+/// The index of the state in the list, or the list's length.
 pub fn place_in_list(states: &[State], state: &State) -> usize
     ensures { result ≡ place_in_list (map reached_of states.now) (reached_of state.now) }
 {
@@ -131,7 +132,7 @@ pub fn place_in_list(states: &[State], state: &State) -> usize
     index
 }
 
-/// Whether it is a resource within what is at the first place, and the second is in it.
+/// Whether the mark is a resource within the one at `entry`, and the place is in it.
 fn is_between(entry: &str, place: &str, mark: &Mark) -> bool
     ensures { result ≡ is_between entry.now place.now (marked mark.now) }
 {
@@ -146,7 +147,8 @@ fn is_resource(kind: Kind) -> bool
     matches!(kind, Kind::Resource)
 }
 
-/// Whether the whole's resource has not the name of the mark by `$dynamicAnchor`, and others have.
+/// Whether the mark's name is contested: other resources have it by `$dynamicAnchor`, and the root resource has
+/// not.
 fn is_contested(marks: &[Mark], root: &str, mark: &Mark, alloc: Global) -> Result<bool, AllocError>
     ensures { IfOk result (λ b.
         b ≡ is_contested (all_marked marks.now) root.now (marked mark.now)) }
@@ -159,7 +161,7 @@ fn is_contested(marks: &[Mark], root: &str, mark: &Mark, alloc: Global) -> Resul
     Ok(found.is_none())
 }
 
-/// Whether some name is contested.
+/// Whether a name is contested.
 pub fn some_contested(marks: &[Mark], root: &str, alloc: Global) -> Result<bool, AllocError>
     ensures { IfOk result (λ b. b ≡ some_contested (all_marked marks.now) root.now
         (all_marked marks.now)) }
@@ -172,7 +174,7 @@ pub fn some_contested(marks: &[Mark], root: &str, alloc: Global) -> Result<bool,
     Ok(false)
 }
 
-/// Whether the mark comes into the scope where its resource, with the URI, is entered.
+/// Whether the mark is added to the scope when the resource with the URI is entered.
 fn is_entering(
     mark: &Mark,
     scope: &[Mark],
@@ -189,7 +191,7 @@ fn is_entering(
     is_contested(guide.marks, guide.root, mark, guide.alloc)
 }
 
-/// Enters the resource with the URI: of its contested names those come into the scope that it has not.
+/// Enters the resource with the URI: its contested names are added to the scope, unless the scope has them.
 fn enter(scope: &mut Vec<Mark>, uri: &str, guide: &Guide<'_>) -> Result<(), AllocError>
     ensures { OnOk result (all_marked scope.new.items ≡ entered (all_marked guide.now.marks.now)
         guide.now.root.now uri.now (all_marked scope.old.items)) }
@@ -217,7 +219,7 @@ fn scope_at(state: &State, place: &str, guide: &Guide<'_>) -> Result<Vec<Mark>, 
     Ok(scope)
 }
 
-/// The URI and the place of the innermost resource that the place is in.
+/// The URI and the place of the innermost resource that contains the place.
 pub fn home<'a>(place: &str, guide: &Guide<'a>) -> (&'a str, &'a str)
     ensures { (result.0.now, result.1.now)
         ≡ home (all_marked guide.now.marks.now) guide.now.root.now place.now }
@@ -231,7 +233,7 @@ pub fn home<'a>(place: &str, guide: &Guide<'a>) -> (&'a str, &'a str)
     home
 }
 
-/// What is reached at the place from a schema at the other place.
+/// The state that is reached at the place from a schema at the other place.
 pub fn reached(from: &str, place: &str, guide: &Guide<'_>) -> Result<State, AllocError>
     ensures { IfOk result (λ s. reached_of s ≡ reached (all_marked guide.now.marks.now)
         guide.now.root.now (scope_at (all_marked guide.now.marks.now) guide.now.root.now
@@ -246,7 +248,7 @@ pub fn reached(from: &str, place: &str, guide: &Guide<'_>) -> Result<State, Allo
     })
 }
 
-/// Whether the document itself has the place in this scope.
+/// Whether the document itself serves for this state at the place, so that no copy is needed.
 pub fn is_in_document(state: &State, place: &str, guide: &Guide<'_>) -> Result<bool, AllocError>
     ensures { IfOk result (λ b. b ≡ is_same (reached_of state.now).0
         (scope_at (all_marked guide.now.marks.now) guide.now.root.now from_root place.now)) }
@@ -256,7 +258,7 @@ pub fn is_in_document(state: &State, place: &str, guide: &Guide<'_>) -> Result<b
     Ok(is_same(state.scope.as_slice(), scope.as_slice()))
 }
 
-/// The place of a reference in a schema with the base URI, in the document or in a copy.
+/// The place to which a reference in a schema with the base URI leads: in the document or in a copy.
 pub fn moved(base: &str, place: String, guide: &Guide<'_>) -> Result<String, AllocError>
     ensures { IfOk result (λ s. string_bytes s
         ≡ (guided guide.now).2 base.now (string_bytes place)) }
@@ -283,8 +285,8 @@ pub fn place_of_base<'a>(base: &str, guide: &Guide<'a>) -> &'a str
     }
 }
 
-/// The place to which a dynamic reference to the name in the resource with the URI leads first, from a schema with the base
-/// URI (Core, 8.2.3.2).
+/// The place to which a dynamic reference leads from a schema with the base URI. The reference has the name, in the
+/// resource with the URI (Core, 8.2.3.2).
 pub fn place_of_dynamic(
     base: &str,
     uri: &str,
@@ -301,8 +303,8 @@ pub fn place_of_dynamic(
     }
 }
 
-/// The place to which a dynamic reference leads over, from a schema that has its name by `$dynamicAnchor`: the outermost in
-/// the dynamic scope.
+/// The final place of a dynamic reference that first leads to a schema with its name by `$dynamicAnchor`: that of
+/// the outermost such schema in the dynamic scope.
 fn leads_over<'a>(
     base: &str,
     name: &str,

@@ -1,5 +1,5 @@
-//! The keywords that a value does not meet by what the schemas in them say of it, or of what is in it. These tests are not
-//! inlined, so that a level of the recursion over schemas takes less than a kilobyte of stack.
+//! Keywords that count or combine the results of their subschemas. These tests are not inlined, so that a level of
+//! the recursion over schemas takes less than a kilobyte of stack.
 ghost use Rattle.std.specs.Prelude.{IfOk};
 ghost use Rattle.tinyjson.specs.View.{view, items_view, members_listed};
 ghost use Rattle.tinyjson_schema_keywords.specs.declared.keyword.Keyword.TheVariants as kw;
@@ -15,7 +15,7 @@ use tinyjson_schema_keywords::{
     CheckError, Keyword, Walk, is_some_item, listed_members, name_of, schema_at, schemas_at,
 };
 
-/// A keyword that the value does not meet by what the schemas in it say of the value, or of what is in it.
+/// One of these keywords that the value violates, if there is one.
 #[cycle(validate)]
 #[inline(never)]
 pub fn unmet_test(
@@ -45,7 +45,7 @@ pub fn unmet_test(
     unmet_count(value, schema, walk)
 }
 
-/// A keyword that the value does not meet by how many items the schema of `contains` accepts.
+/// The keyword that the value violates by how many items the schema of `contains` accepts.
 #[cycle(validate)]
 #[inline(never)]
 fn unmet_count(
@@ -72,7 +72,7 @@ fn unmet_count(
     Ok(None)
 }
 
-/// Whether some schema of the list accepts the value, or there is none in it.
+/// Whether a schema of the list accepts the value, or the list is empty.
 #[cycle(validate)]
 #[inline(never)]
 fn is_any_met(
@@ -111,7 +111,7 @@ fn is_some_met(
     Ok(false)
 }
 
-/// Whether exactly one schema of the list accepts the value, or there is none in it.
+/// Whether exactly one schema of the list accepts the value, or the list is empty.
 #[cycle(validate)]
 #[inline(never)]
 fn is_one_met(
@@ -211,7 +211,7 @@ fn are_keys_met(
     Ok(true)
 }
 
-/// How many items of an array the schema of `contains` accepts, if there is one.
+/// How many items of an array the schema of `contains` accepts; `None` without one, or if the value is no array.
 #[cycle(validate)]
 #[inline(never)]
 fn contained(

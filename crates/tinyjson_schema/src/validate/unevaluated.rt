@@ -1,8 +1,8 @@
-//! What `unevaluatedProperties` and `unevaluatedItems` say of the members and items that no other keyword
-//! evaluates (Core, 11.2 and 11.3).
+//! `unevaluatedProperties` and `unevaluatedItems`: the members and items that no other keyword evaluates (Core,
+//! 11.2 and 11.3).
 //!
-//! The schemas that evaluate for the one that asks are listed first: it, and those that it applies to the value itself
-//! and that accept it, however deep. So each is asked once whether it accepts the value, and not for each member.
+//! The schemas that evaluate are listed first: the schema that asks, and those that it applies to the value itself
+//! and that accept it, at any depth. So each of them checks the value once, not once for each member.
 ghost use Rattle.std.specs.Prelude.{◌≡◌, ◌&&◌, ◌||◌, IfOk, OnOk, is_some, not};
 ghost use Rattle.std.specs.Str.{chars};
 ghost use Rattle.tinyjson.specs.Index.{tree_at_key};
@@ -34,12 +34,11 @@ use tinyjson_schema_keywords::{
 pub struct Source<'d, 's> {
     pub schema: &'s JsonValue,
     pub walk: Walk<'d, 's>,
-    /// Whether it is the one that asks what the others leave: its own keyword for the rest does not count.
+    /// Whether it is the schema that asks. Its own `unevaluatedProperties` and `unevaluatedItems` do not count.
     pub asks: bool,
 }
 
-/// What a member or an item that no other keyword of the schema evaluates does not meet of the schema for
-/// such.
+/// What a member or an item violates that no other keyword of the schema evaluates.
 #[cycle(validate)]
 #[inline(never)]
 pub fn in_rest(
@@ -69,7 +68,7 @@ pub fn in_rest(
     }
 }
 
-/// What a member that the sources do not evaluate does not meet of the schema.
+/// What a member violates of the schema, among those that the sources do not evaluate.
 #[cycle(validate)]
 #[inline(never)]
 fn in_members_left(
@@ -94,7 +93,7 @@ fn in_members_left(
     Ok(None)
 }
 
-/// The same of an item.
+/// What an item violates of the schema, among those that the sources do not evaluate.
 #[cycle(validate)]
 #[inline(never)]
 fn in_items_left(
@@ -149,7 +148,7 @@ fn evaluates_member(source: &Source<'_, '_>, key: &str) -> Result<bool, AllocErr
     is_patterned(source.schema, key, source.walk.alloc)
 }
 
-/// Whether the source has the keyword for what the others leave, and does not ask.
+/// Whether the source has the keyword for the unevaluated parts, and is not the schema that asks.
 fn counts_rest(source: &Source<'_, '_>, keyword: Keyword) -> bool
     ensures { result ≡ (not source.now.asks
         && is_some (schema_at (view source.now.schema.now) keyword)) }
@@ -207,7 +206,7 @@ fn evaluates_item(
     Ok(accepted)
 }
 
-/// The schema, and those that it applies to the value itself and that accept it.
+/// The schema, and those that it applies to the value itself and that accept the value.
 #[cycle(validate)]
 #[inline(never)]
 fn sources_of<'d, 's>(
@@ -231,7 +230,7 @@ fn sources_of<'d, 's>(
     Ok(sources)
 }
 
-/// Adds a schema that accepts the value, and those that it applies to the value itself and that accept it.
+/// Adds a schema that accepts the value, and those that it applies to the value itself and that accept the value.
 #[cycle(validate)]
 #[inline(never)]
 fn add_schema<'d, 's>(
@@ -255,7 +254,7 @@ fn add_schema<'d, 's>(
     Ok(())
 }
 
-/// Adds those that the schema applies to the value itself and that accept it.
+/// Adds those schemas that the schema applies to the value itself and that accept the value.
 #[cycle(validate)]
 #[inline(never)]
 fn add_inner<'d, 's>(
@@ -282,7 +281,7 @@ fn add_inner<'d, 's>(
     Ok(())
 }
 
-/// Adds schemas of a list, which all accept the value.
+/// Adds the schemas of a list, all of which accept the value.
 #[cycle(validate)]
 #[inline(never)]
 fn add_listed<'d, 's>(
@@ -302,7 +301,7 @@ fn add_listed<'d, 's>(
     Ok(())
 }
 
-/// Adds those of a list that accept the value.
+/// Adds the schemas of a list that accept the value.
 #[cycle(validate)]
 #[inline(never)]
 fn add_accepting<'d, 's>(
@@ -322,7 +321,7 @@ fn add_accepting<'d, 's>(
     Ok(())
 }
 
-/// Adds a schema, if it accepts the value, and says whether it does.
+/// Adds a schema if it accepts the value, and returns whether it does.
 #[cycle(validate)]
 #[inline(never)]
 fn add_if_accepting<'d, 's>(
@@ -348,7 +347,7 @@ fn add_if_accepting<'d, 's>(
     Ok(true)
 }
 
-/// Adds the schema of `if`, if it accepts the value, and the one that it chooses, which accepts it.
+/// Adds the schema of `if`, if it accepts the value, and the one that it chooses, which accepts the value.
 #[cycle(validate)]
 #[inline(never)]
 fn add_branch<'d, 's>(
@@ -374,7 +373,7 @@ fn add_branch<'d, 's>(
     Ok(())
 }
 
-/// Adds the schemas of `dependentSchemas` whose key the value has, which accept it.
+/// Adds the schemas of `dependentSchemas` for the keys that the value has. They accept the value.
 #[cycle(validate)]
 #[inline(never)]
 fn add_dependents<'d, 's>(
@@ -397,7 +396,7 @@ fn add_dependents<'d, 's>(
     Ok(())
 }
 
-/// Adds a schema, if the value has the key on which it depends.
+/// Adds a schema of `dependentSchemas`, if the value has its key.
 #[cycle(validate)]
 #[inline(never)]
 fn add_dependent<'d, 's>(
@@ -420,7 +419,7 @@ fn add_dependent<'d, 's>(
     Ok(())
 }
 
-/// Adds the schemas that `$ref` and `$dynamicRef` lead to, which accept the value.
+/// Adds the schemas to which `$ref` and `$dynamicRef` lead. They accept the value.
 #[cycle(validate)]
 #[inline(never)]
 fn add_reference<'d, 's>(
@@ -440,7 +439,7 @@ fn add_reference<'d, 's>(
     Ok(())
 }
 
-/// Adds the schema that the reference leads to.
+/// Adds the schema to which the reference leads.
 #[cycle(validate)]
 #[inline(never)]
 fn add_target<'d, 's>(
