@@ -1,4 +1,4 @@
--- What a tree that is built means; only private contracts use these words.
+-- The meaning of the trees that are built; for private contracts.
 use Rattle.std.specs.Prelude.{◌≡◌, ℕ, Bool, true, false, List, [], ◌∷◌, ◌++◌, length}
 use Rattle.i_regexp.specs.declared.marked.Node.{Node}
 use Rattle.i_regexp.specs.declared.marked.Node.TheVariants.{Empty, Class, Concat', Alternation', Star'}
@@ -12,7 +12,7 @@ pub record Means (n : Node) (f : Form) : Type 0 where
   pub sound : (cs : List ℕ) → Matches (form_of n) cs → Matches f cs
   pub complete : (cs : List ℕ) → Matches f cs → Matches (form_of n) cs
 
--- The second tree is the first once more.
+-- The second tree is a copy of the first.
 pub record IsCopy (n m : Node) : Type 0 where
   pub form : form_of m ≡ form_of n
   pub skipped : skips m ≡ skips n
@@ -20,7 +20,7 @@ pub record IsCopy (n m : Node) : Type 0 where
   pub marked : is_marked m ≡ is_marked n
   pub kept : IsKept n → IsKept m
 
--- whether it is the tree of nothing
+-- the tree that matches only the empty text
 abbrev pub is_empty : Node → Bool
 is_empty Empty = true
 is_empty (Class cl mark) = false
@@ -35,29 +35,29 @@ AllMean [] (f ∷ fs) = ⊥
 AllMean (n ∷ ns) [] = ⊥
 AllMean (n ∷ ns) (f ∷ fs) = Means n f × AllMean ns fs
 
--- one after the other
+-- the sequence of all
 abbrev pub sequence : List Form → Form
 sequence [] = empty
 sequence (f ∷ fs) = concat f (sequence fs)
 
--- one of them
+-- a choice among them
 abbrev pub choice_from : Form → List Form → Form
 choice_from f [] = f
 choice_from f (g ∷ gs) = alternation f (choice_from g gs)
 
--- one of them; of none, what matches nothing
+-- a choice among them; of none, what matches nothing
 abbrev pub choice : List Form → Form
 choice [] = class false []
 choice (f ∷ fs) = choice_from f fs
 
--- The last nodes are taken, and are one after the other in n.
+-- The last nodes are removed, and n is their sequence.
 pub record TakesSequence (old : List Node) (count : ℕ) (new : List Node) (n : Node) : Type 0 where
   pub taken : List Node
   pub split : old ≡ new ++ taken
   pub counted : length taken ≡ count
   pub means : (fs : List Form) → AllMean taken fs → Means n (sequence fs)
 
--- The last nodes are taken, and n is a choice among them.
+-- The last nodes are removed, and n is a choice among them.
 pub record TakesChoice (old : List Node) (count : ℕ) (new : List Node) (n : Node) : Type 0 where
   pub taken : List Node
   pub split : old ≡ new ++ taken

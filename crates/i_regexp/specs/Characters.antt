@@ -1,4 +1,4 @@
--- The characters of I-Regexp that have a meaning of their own (RFC 9485, section 3), by their codes.
+-- The codes of the characters that have a meaning in I-Regexp (RFC 9485, section 3).
 use Rattle.std.specs.Prelude.{ℕ}
 
 -- around a group, and between branches
@@ -52,7 +52,7 @@ hyphen = 45
 abbrev pub right_bracket : ℕ
 right_bracket = 93
 
--- what begins an escape, and the letters of those that stand for another character
+-- the beginning of an escape, and the letters of those that mean another character
 abbrev pub reverse_solidus : ℕ
 reverse_solidus = 92
 
@@ -65,7 +65,7 @@ letter_r = 114
 abbrev pub letter_t : ℕ
 letter_t = 116
 
--- the letters that begin a category behind a backslash
+-- the letters of a category after a backslash
 abbrev pub letter_p : ℕ
 letter_p = 112
 

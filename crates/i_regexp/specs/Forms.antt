@@ -5,23 +5,24 @@ use Rattle.general_category.specs.Categories.{is_in}
 use Rattle.i_regexp.specs.declared.class.Item.{Item}
 use Rattle.i_regexp.specs.declared.class.Item.TheVariants.{Range, In, NotIn}
 
--- whether a character is one that an item of a class stands for: from the first to the last, in a category, or not in it
+-- the item of a class has the character: it is in the range, in the category, or not in the
+-- category
 abbrev pub is_item : Item → ℕ → Bool
 is_item (Range first last) c = nat_le first c && nat_le c last
 is_item (In k) c = is_in k.first k.last c
 is_item (NotIn k) c = not (is_in k.first k.last c)
 
--- whether a character is one that an item of the class stands for
+-- one of the items has the character
 abbrev pub is_within : List Item → ℕ → Bool
 is_within [] c = false
 is_within (r ∷ rs) c = is_item r c || is_within rs c
 
--- whether a character is in a class: one of its items stands for it, or, where it is negated, none
+-- the class has the character: one of its items has it or, if it is negated, none has it
 abbrev pub is_in_class : Bool → List Item → ℕ → Bool
 is_in_class negated items c = cond negated (not (is_within items c)) (is_within items c)
 
--- A regular expression: nothing, one character of a class, one part after another, one or the other, or a part at least and at most so
--- many times, with no bound above where there is none.
+-- A regular expression: the empty one, one character of a class, a sequence, a choice, or a
+-- repetition with a least and perhaps a greatest number.
 pub data Form : Type 0 where
   empty : Form
   class : (negated : Bool) (items : List Item) → Form
@@ -29,12 +30,12 @@ pub data Form : Type 0 where
   alternation : (first second : Form) → Form
   repetition : (body : Form) (least : ℕ) (most : Option ℕ) → Form
 
--- a text of that many parts, one after the other, each of which P holds of
+-- a text of that many parts, one after the other, and P is true for each
 abbrev pub Parts : (List ℕ → Type 0) → ℕ → List ℕ → Type 0
 Parts P zero cs = cs ≡ []
 Parts P (suc n) cs = (xs : List ℕ) × (ys : List ℕ) × (cs ≡ xs ++ ys) × P xs × Parts P n ys
 
--- so many are no more than the bound, if there is one
+-- the number is at most the bound, if there is one
 abbrev pub AtMost : ℕ → Option ℕ → Type 0
 AtMost n None = Unit {0}
 AtMost n (Some most) = n ≤ most

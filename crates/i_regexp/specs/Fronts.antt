@@ -1,4 +1,4 @@
--- What stands at the front of a text, and what follows it; only private contracts use these words.
+-- The first part of a text, and the text after it; for private contracts.
 use Rattle.std.specs.Prelude.{◌≡◌, ℕ, zero, suc, ◌+◌, ◌-◌, ◌*◌, Bool, true, false, ◌&&◌, ◌||◌, ◌==◌, nat_le, cond, List, [], ◌∷◌, ◌++◌}
 use Rattle.std.specs.Prelude.{length, Option, Some, None, option_map, option_and_then, Result, Ok, Err}
 use Rattle.std.specs.Borrow.{Bor}
@@ -16,7 +16,8 @@ use Rattle.i_regexp.specs.declared.token.Token.{Token as CodeToken}
 use Rattle.i_regexp.specs.Grammar.{Token, characters, opened, closed, bar, quantifier, one, any, is_normal, is_plain, is_digit}
 use Rattle.i_regexp.specs.Grammar.{escape_of}
 
--- what a reading of the front of the text returns: o, if the text is not refused for another reason; it is too large only where `Large`
+-- the result of parsing the front of the text: o, unless another error occurs; too large only with
+-- `Large`
 abbrev pub Fronts : {U V : Type 0} → Type 0 → (U → V) → Option (V × List ℕ) → Result (U × Bor (List ℕ)) IRegexpErrorKind → Type 0
 Fronts Large view o (Ok r) = o ≡ Some (view r.0, r.1.now)
 Fronts Large view o (Err kind.Invalid) = o ≡ None
@@ -24,7 +25,7 @@ Fronts Large view o (Err kind.TooDeep) = ⊥
 Fronts Large view o (Err kind.TooLarge) = Large
 Fronts Large view o (Err kind.OutOfMemory) = Unit {0}
 
--- a token of the code
+-- the view of the code's token
 abbrev pub token_of : CodeToken → Token
 token_of (is.Characters k) = characters k.negated k.items.items
 token_of is.Open = opened
@@ -32,7 +33,7 @@ token_of is.Close = closed
 token_of is.Bar = bar
 token_of (is.Quantifier least most) = quantifier least most
 
--- the character that an escape stands for, behind its backslash
+-- the character of an escape, after its backslash
 abbrev pub escape_front : List ℕ → Option (ℕ × List ℕ)
 escape_front [] = None
 escape_front (l ∷ cs) = option_map (λ c. (c, cs)) (escape_of l)
@@ -46,7 +47,8 @@ member_front (c ∷ cs) = cond (c == reverse_solidus) (escape_front cs) (cond (i
 abbrev pub up_to : ℕ → ℕ × List ℕ → Option (Item × List ℕ)
 up_to c p = cond (nat_le c p.0) (Some (Range c p.0, p.1)) None
 
--- what follows the `-` after c: the end of the class, before which this `-` stands for itself, or the last character of a range
+-- what follows the `-` after c: the end of the class, where `-` is a character, or the last
+-- character of a range
 abbrev pub range_end : ℕ → List ℕ → List ℕ → Option (Item × List ℕ)
 range_end c ys [] = None
 range_end c ys (e ∷ zs) = cond (e == right_bracket) (Some (Range c c, ys)) (option_and_then (up_to c) (member_front (e ∷ zs)))
@@ -60,11 +62,11 @@ range_front c (d ∷ ys) = cond (d == hyphen) (range_end c (d ∷ ys) ys) (Some 
 abbrev pub characters_front : List ℕ → Option (Item × List ℕ)
 characters_front xs = option_and_then (λ p. range_front p.0 p.1) (member_front xs)
 
--- what a name stands for, which the text follows
+-- the category of a name, and the text after it
 abbrev pub named_front : ℕ → Option ℕ → List ℕ → Option (Category × List ℕ)
 named_front g l cs = option_map (λ k. (k, cs)) (named g l)
 
--- the brace behind a name of two letters
+-- the brace after a name of two letters
 abbrev pub second_front : ℕ → ℕ → List ℕ → Option (Category × List ℕ)
 second_front g l [] = None
 second_front g l (c ∷ cs) = cond (c == right_brace) (named_front g (Some l) cs) None
@@ -76,26 +78,26 @@ name_front (b ∷ []) = None
 name_front (b ∷ g ∷ []) = None
 name_front (b ∷ g ∷ l ∷ cs) = cond (b == left_brace) (cond (l == right_brace) (named_front g None cs) (second_front g l cs)) None
 
--- the category, or all others, by the letter that stands before
+-- the category, or all characters outside of it, by the letter before it
 abbrev pub signed_front : ℕ → Category × List ℕ → Option (Item × List ℕ)
 signed_front p q = cond (p == letter_p) (Some (In q.0, q.1)) (cond (p == capital_p) (Some (NotIn q.0, q.1)) None)
 
--- charClassEsc, behind its backslash
+-- charClassEsc, after its backslash
 abbrev pub category_front : List ℕ → Option (Item × List ℕ)
 category_front [] = None
 category_front (p ∷ cs) = option_and_then (signed_front p) (name_front cs)
 
--- whether the letter of a category comes first
+-- the text begins with the letter of a category
 abbrev pub is_category_letter : List ℕ → Bool
 is_category_letter [] = false
 is_category_letter (c ∷ cs) = (c == letter_p) || (c == capital_p)
 
--- whether a category comes first
+-- the text begins with a category
 abbrev pub begins_category : List ℕ → Bool
 begins_category [] = false
 begins_category (c ∷ cs) = (c == reverse_solidus) && is_category_letter cs
 
--- what follows the first character
+-- the text after the first character
 abbrev pub behind : List ℕ → List ℕ
 behind [] = []
 behind (c ∷ cs) = cs
@@ -109,7 +111,7 @@ abbrev pub closing : List Item → List ℕ → Option (List Item × List ℕ)
 closing rs [] = None
 closing rs (c ∷ cs) = cond (c == right_bracket) (Some (rs ++ Range hyphen hyphen ∷ [], cs)) None
 
--- what one step finds there, with `go` for what follows an item
+-- one step of `tail_front`; `go` is for what follows an item
 abbrev pub tail_step : (List Item → List ℕ → Option (List Item × List ℕ))
     → List Item → List ℕ → Option (List Item × List ℕ)
 tail_step go rs [] = None
@@ -132,12 +134,12 @@ first_front n negated [] = None
 first_front n negated (c ∷ cs) =
     cond (c == hyphen) (class_front n negated (Range hyphen hyphen, cs)) (option_and_then (class_front n negated) (item_front (c ∷ cs)))
 
--- a class behind its bracket
+-- a class, after its bracket
 abbrev pub bracket_front : List ℕ → Option (Token × List ℕ)
 bracket_front [] = None
 bracket_front (c ∷ cs) = cond (c == circumflex) (first_front (length cs) true cs) (first_front (suc (length cs)) false (c ∷ cs))
 
--- the digits that are there, after those of n
+-- the number at the front, whose first digits gave n
 abbrev pub digits_front : ℕ → List ℕ → ℕ × List ℕ
 digits_front n [] = (n, [])
 digits_front n (c ∷ cs) = cond (is_digit c) (digits_front (10 * n + (c - digit_zero)) cs) (n, c ∷ cs)
@@ -163,7 +165,7 @@ abbrev pub least_end : ℕ → List ℕ → Option (Token × List ℕ)
 least_end n [] = None
 least_end n (c ∷ cs) = cond (c == right_brace) (Some (quantifier n (Some n), cs)) (cond (c == comma) (most_front n cs) None)
 
--- a quantifier behind its brace
+-- a quantifier, after its brace
 abbrev pub counts_front : List ℕ → Option (Token × List ℕ)
 counts_front xs = option_and_then (λ p. least_end p.0 p.1) (number_front xs)
 
@@ -175,7 +177,7 @@ one_front o = option_map (λ p. (one p.0, p.1)) o
 abbrev pub item_token : Option (Item × List ℕ) → Option (Token × List ℕ)
 item_token o = option_map (λ p. (characters false (p.0 ∷ []), p.1)) o
 
--- what stands behind a backslash, as a token
+-- the escape after a backslash, as a token
 abbrev pub escape_token : List ℕ → Option (Token × List ℕ)
 escape_token cs = cond (is_category_letter cs) (item_token (category_front cs)) (one_front (escape_front cs))
 

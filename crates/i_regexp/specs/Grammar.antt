@@ -13,7 +13,7 @@ use Rattle.i_regexp.specs.Forms.{Form, empty, class, concat, alternation, repeti
 
 -- ---- tokens
 
--- what a text is made of: one character of a class, the signs around groups and between branches, a quantifier with its counts
+-- a token: one character of a class, a parenthesis, a bar, or a quantifier with its counts
 pub data Token : Type 0 where
   characters : (negated : Bool) (items : List Item) → Token
   opened : Token
@@ -21,7 +21,7 @@ pub data Token : Type 0 where
   bar : Token
   quantifier : (least : ℕ) (most : Option ℕ) → Token
 
--- just this character
+-- this character only
 abbrev pub one : ℕ → Token
 one c = characters false (Range c c ∷ [])
 
@@ -39,11 +39,11 @@ abbrev pub is_normal : ℕ → Bool
 is_normal c = not (is_one_of (left_parenthesis ∷ right_parenthesis ∷ asterisk ∷ plus_sign ∷ full_stop ∷ question_mark ∷ left_bracket
     ∷ reverse_solidus ∷ right_bracket ∷ left_brace ∷ vertical_bar ∷ right_brace ∷ []) c)
 
--- CCchar as it stands: every character but - [ \ ]
+-- CCchar without a backslash: every character but - [ \ ]
 abbrev pub is_plain : ℕ → Bool
 is_plain c = not (is_one_of (hyphen ∷ left_bracket ∷ reverse_solidus ∷ right_bracket ∷ []) c)
 
--- SingleCharEsc: the character that this one stands for behind a backslash
+-- SingleCharEsc: the character that this one stands for after a backslash
 abbrev pub escape_of : ℕ → Option ℕ
 escape_of c =
     cond (c == letter_n) (Some line_feed) (cond (c == letter_r) (Some carriage_return) (cond (c == letter_t) (Some horizontal_tab)
@@ -59,16 +59,16 @@ abbrev pub are_digits : List ℕ → Bool
 are_digits [] = true
 are_digits (c ∷ cs) = is_digit c && are_digits cs
 
--- the number of which these are the digits after those of n
+-- the number with these digits, after those of n
 abbrev pub number_on : ℕ → List ℕ → ℕ
 number_on n [] = n
 number_on n (c ∷ cs) = number_on (10 * n + (c - digit_zero)) cs
 
--- QuantExact: the number of which these are the digits, of which there is a first
+-- QuantExact: the number with these digits, of which the first is given
 abbrev pub count : ℕ → List ℕ → ℕ
 count c cs = number_on (c - digit_zero) cs
 
--- CCchar: a character of a class, as it stands or behind a backslash
+-- CCchar: a character of a class, plain or escaped
 pub data MemberText : List ℕ → ℕ → Type 0 where
   plain : (c : ℕ) → is_plain c ≡ true → MemberText (c ∷ []) c
   escaped : (letter c : ℕ) → escape_of letter ≡ Some c → MemberText (reverse_solidus ∷ letter ∷ []) c
@@ -91,32 +91,33 @@ pub data ItemText : List ℕ → Item → Type 0 where
   range : {cs ds : List ℕ} {c d : ℕ} → MemberText cs c → MemberText ds d → nat_le c d ≡ true → ItemText (cs ++ hyphen ∷ ds) (Range c d)
   category : {cs : List ℕ} {i : Item} → CategoryText cs i → ItemText cs i
 
--- characters and ranges, one after the other
+-- characters and ranges, in sequence
 pub data ItemsText : List ℕ → List Item → Type 0 where
   none : ItemsText [] []
   more : {cs ds : List ℕ} {r : Item} {rs : List Item} → ItemText cs r → ItemsText ds rs → ItemsText (cs ++ ds) (r ∷ rs)
 
--- what comes first in a class: a `-`, or as the others
+-- the first item of a class, which may be a `-`
 pub data FirstText : List ℕ → Item → Type 0 where
   dash : FirstText (hyphen ∷ []) (Range hyphen hyphen)
   item : {cs : List ℕ} {r : Item} → ItemText cs r → FirstText cs r
 
--- what may come last in a class: a `-`
+-- the last item of a class, which may be a `-`
 pub data LastText : List ℕ → List Item → Type 0 where
   none : LastText [] []
   dash : LastText (hyphen ∷ []) (Range hyphen hyphen ∷ [])
 
--- what may stand before the first: a `^`, which negates
+-- the `^` before the first item, which negates
 pub data CaretText : List ℕ → Bool → Type 0 where
   none : CaretText [] false
   caret : CaretText (circumflex ∷ []) true
 
--- whether a `^` comes first
+-- the text begins with `^`
 abbrev pub begins_with_caret : List ℕ → Bool
 begins_with_caret [] = false
 begins_with_caret (c ∷ cs) = c == circumflex
 
--- The text is this token. A `^` behind an opening bracket negates, and of two counts the first is at most the second.
+-- The text is this token. A `^` after an opening bracket negates. Of two counts the first is at
+-- most the second.
 pub data Spells : List ℕ → Token → Type 0 where
   opens : Spells (left_parenthesis ∷ []) opened
   closes : Spells (right_parenthesis ∷ []) closed
@@ -139,14 +140,15 @@ pub data Spells : List ℕ → Token → Type 0 where
       → is_digit c ≡ true → are_digits cs ≡ true → is_digit d ≡ true → are_digits ds ≡ true → nat_le (count c cs) (count d ds) ≡ true
       → Spells (left_brace ∷ c ∷ (cs ++ comma ∷ d ∷ (ds ++ right_brace ∷ []))) (quantifier (count c cs) (Some (count d ds)))
 
--- the text is these tokens, one after the other
+-- the text consists of these tokens
 pub data Spelled : List ℕ → List Token → Type 0 where
   none : Spelled [] []
   more : {cs ds : List ℕ} {t : Token} {ts : List Token} → Spells cs t → Spelled ds ts → Spelled (cs ++ ds) (t ∷ ts)
 
 -- ---- expressions
 
--- i-regexp: branches with a bar between them; branch: pieces; piece: an atom, which may have a quantifier
+-- i-regexp: branches with bars between them; branch: pieces; piece: an atom, which may have a
+-- quantifier
 mutual
   pub data Regexp : Type 0 where
     last : Branch → Regexp
@@ -164,7 +166,7 @@ mutual
     character : (negated : Bool) (items : List Item) → Atom
     group : Regexp → Atom
 
--- the tokens of an expression, one after the other
+-- the tokens of an expression, in sequence
 abbrev mutual
   pub regexp_tokens : Regexp → List Token
   regexp_tokens (last b) = branch_tokens b
@@ -182,7 +184,7 @@ abbrev mutual
   atom_tokens (character negated items) = characters negated items ∷ []
   atom_tokens (group r) = opened ∷ (regexp_tokens r ++ closed ∷ [])
 
--- what an expression matches, in the words of `Forms`
+-- the meaning of an expression as a `Form`
 abbrev mutual
   pub regexp_form : Regexp → Form
   regexp_form (last b) = branch_form b

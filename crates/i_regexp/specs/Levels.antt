@@ -1,4 +1,4 @@
--- The machine that reads tokens; only private contracts use these words.
+-- The machine that parses tokens; for private contracts.
 use Rattle.std.specs.Prelude.{◌≡◌, ℕ, suc, ◌+◌, ◌≤◌, ◌<◌, List, [], ◌∷◌, ◌++◌, length, map, Option, Some, None}
 use Rattle.std.specs.Prelude.{option_and_then, Result, Ok, Err}
 use Rattle.i_regexp.specs.declared.error.IRegexpErrorKind.{IRegexpErrorKind}
@@ -11,7 +11,8 @@ use Rattle.i_regexp.specs.Limits.{depth_limit, size_limit, branch_size, piece_si
 use Rattle.i_regexp.specs.Grammar.{Token, characters, opened, closed, bar, quantifier, Regexp, last, branches, Branch, nothing, pieces}
 use Rattle.i_regexp.specs.Grammar.{Piece, once, times, Atom, character, group, branch_form, piece_form, atom_form}
 
--- what was read of a group: the branches that have ended, the pieces of the last one, and the atom after these
+-- what was parsed of a group: the branches that have ended, the pieces of the last one, and the
+-- atom after these
 pub data Level : Type 0 where
   level : (done : List Branch) (front : List Piece) (end : Option Atom) → Level
 
@@ -19,11 +20,11 @@ pub data Level : Type 0 where
 abbrev pub State : Type 0
 State = Level × List Level
 
--- nothing read
+-- an empty group
 abbrev pub fresh : Level
 fresh = level [] [] None
 
--- the pieces, with the atom after them as one, which is not repeated
+-- the pieces, and the last atom as one more, which is not repeated
 abbrev pub settled : List Piece → Option Atom → List Piece
 settled ps None = ps
 settled ps (Some a) = ps ++ once a ∷ []
@@ -50,7 +51,7 @@ regexp_from (c ∷ cs) b = branches c (regexp_from cs b)
 abbrev pub barred : Level → Level
 barred (level bs ps end) = level (bs ++ branch_of (settled ps end) ∷ []) [] None
 
--- what was read of the group, as if it ended here
+-- the group, as if it ended here
 abbrev pub regexp_of : Level → Regexp
 regexp_of (level bs ps end) = regexp_from bs (branch_of (settled ps end))
 
@@ -59,12 +60,12 @@ abbrev pub quantified : Level → ℕ → Option ℕ → Option Level
 quantified (level bs ps None) least most = None
 quantified (level bs ps (Some a)) least most = Some (level bs (ps ++ times a least most ∷ []) None)
 
--- the innermost group, if it is one, in those around it
+-- the state with this innermost group, if there is one
 abbrev pub in_state : List Level → Option Level → Option State
 in_state ls None = None
 in_state ls (Some l) = Some (l, ls)
 
--- the innermost group ends, and is an atom of the one around it
+-- the innermost group ends, and becomes an atom of the one around it
 abbrev pub close : Level → List Level → Option State
 close l [] = None
 close l (o ∷ ls) = Some (with_atom o (group (regexp_of l)), ls)
@@ -82,7 +83,7 @@ abbrev pub run : State → List Token → Option State
 run s [] = Some s
 run s (t ∷ ts) = option_and_then (λ s'. run s' ts) (advance s t)
 
--- ---- how much was read
+-- ---- sizes
 
 abbrev pub pieces_size : List Piece → ℕ
 pieces_size [] = 0
@@ -92,7 +93,7 @@ abbrev pub end_size : Option Atom → ℕ
 end_size None = 0
 end_size (Some a) = atom_size a
 
--- branches, each with the bar behind it
+-- branches, each with the bar after it
 abbrev pub branches_size : List Branch → ℕ
 branches_size [] = 0
 branches_size (b ∷ bs) = branch_size b + suc (branches_size bs)
@@ -100,7 +101,7 @@ branches_size (b ∷ bs) = branch_size b + suc (branches_size bs)
 abbrev pub level_size : Level → ℕ
 level_size (level bs ps end) = branches_size bs + (pieces_size ps + end_size end)
 
--- levels, each with the parenthesis behind it
+-- levels, each with the parenthesis after it
 abbrev pub outer_size : List Level → ℕ
 outer_size [] = 0
 outer_size (l ∷ ls) = suc (level_size l + outer_size ls)
@@ -110,7 +111,7 @@ state_size s = level_size s.0 + outer_size s.1
 
 -- ---- the code's levels
 
--- the node is the atom, or neither is there
+-- the node is the atom, or there is neither
 abbrev pub MeansEnd : Option Node → Option Atom → Type 0
 MeansEnd None None = Unit {0}
 MeansEnd None (Some a) = ⊥
@@ -135,13 +136,14 @@ EndSized n (Some a) = n ≡ atom_size a
 abbrev pub LastSized : CodeLevel → Level → Type 0
 LastSized f (level bs ps end) = EndSized f.last_size end
 
--- The code's level knows how much was read up to its end, with those around it, and how large its last atom is.
+-- The code's level has the size of all that was parsed up to its end, with the groups around it,
+-- and that of its last atom.
 pub record IsSized (f : CodeLevel) (s : State) : Type 0 where
   pub size : f.size ≡ state_size s
   pub few : state_size s ≤ size_limit
   pub ended : LastSized f s.0
 
--- the levels around, the innermost of which is the last one of the list
+-- the levels around it; in the code's list the innermost is the last
 abbrev pub Outer : List CodeLevel → List Level → Type 0
 Outer fs [] = fs ≡ []
 Outer fs (l ∷ ls) = (gs : List CodeLevel) × (f : CodeLevel) × (fs ≡ gs ++ f ∷ []) × StandsAt f l × IsSized f (l, ls) × Outer gs ls
@@ -150,7 +152,7 @@ Outer fs (l ∷ ls) = (gs : List CodeLevel) × (f : CodeLevel) × (fs ≡ gs ++ 
 abbrev pub Agrees : CodeLevel → List CodeLevel → State → Type 0
 Agrees here outer s = StandsAt here s.0 × IsSized here s × Outer outer s.1
 
--- so much and that more, or nothing where it is larger than may be
+-- the sum, or nothing if it is above the limit
 abbrev pub Grows : ℕ → ℕ → Option ℕ → Type 0
 Grows n more None = size_limit < n + more
 Grows n more (Some m) = (m ≡ n + more) × (m ≤ size_limit)
@@ -178,7 +180,7 @@ Takes here outer t (Err kind.TooLarge) here' outer' =
     (s : State) → Agrees here outer s → (s' : State) × (advance s t ≡ Some s') × (size_limit < state_size s')
 Takes here outer t (Err kind.OutOfMemory) here' outer' = Unit {0}
 
--- a quantifier's counts are in order
+-- the first count of a quantifier is at most the second
 abbrev pub IsFit : Token → Type 0
 IsFit (quantifier least most) = AtMost least most
 IsFit t = Unit {0}

@@ -1,10 +1,10 @@
--- How deep and how large a regular expression may be.
+-- The limits of nesting and size.
 use Rattle.std.specs.Prelude.{◌≡◌, ℕ, suc, ◌+◌, ◌-◌, ◌*◌, ◌<◌, Bool, true, ◌&&◌, ◌||◌, ◌==◌, List, [], ◌∷◌, ◌++◌, Option, Some, None}
 use Rattle.i_regexp.specs.Characters.{left_brace, comma}
 use Rattle.i_regexp.specs.Grammar.{Token, opened, closed, is_digit, are_digits, count, Regexp, last, branches, Branch, nothing, pieces}
 use Rattle.i_regexp.specs.Grammar.{Piece, once, times, Atom, character, group}
 
--- how many groups may be open at once
+-- how many groups may be nested
 abbrev pub depth_limit : ℕ
 depth_limit = 200
 
@@ -28,17 +28,17 @@ abbrev pub ended_groups : List Token → ℕ
 ended_groups [] = 0
 ended_groups (t ∷ ts) = ends_group t + ended_groups ts
 
--- how large a regular expression may be
+-- the greatest size of a regular expression
 abbrev pub size_limit : ℕ
 size_limit = 10000
 
--- how many times more a part is written out that is repeated
+-- how often a repeated part is written out in addition
 abbrev pub repeated : ℕ → Option ℕ → ℕ
 repeated least None = least
 repeated least (Some most) = most - 1
 
--- How large it is: each character, class, group and bar is one, and a part that is repeated counts once for each time it is written out,
--- which is n times for {m,n}, though once at least, and m + 1 times for {m,}.
+-- The size: each character, class, group and bar counts as 1, and a repeated part as often as it is
+-- written out. That is n times for {m,n}, though at least once, and m + 1 times for {m,}.
 abbrev mutual
   pub regexp_size : Regexp → ℕ
   regexp_size (last b) = branch_size b
@@ -56,7 +56,7 @@ abbrev mutual
   atom_size (character negated items) = 1
   atom_size (group r) = suc (regexp_size r)
 
--- A number stands at the front that is greater than the limit.
+-- The text begins with a number that is greater than the limit.
 pub record LargeNumber (cs : List ℕ) : Type 0 where
   pub first : ℕ
   pub digits : List ℕ
@@ -66,12 +66,13 @@ pub record LargeNumber (cs : List ℕ) : Type 0 where
   pub are : are_digits digits ≡ true
   pub large : size_limit < count first digits
 
--- whether these are digits and commas
+-- these are digits and commas
 abbrev pub are_counts : List ℕ → Bool
 are_counts [] = true
 are_counts (c ∷ cs) = (is_digit c || (c == comma)) && are_counts cs
 
--- A brace begins the rest, and behind it, with at most digits and commas between, stands a number that is greater than the limit.
+-- The rest begins with a brace, then at most digits and commas, then a number that is greater than
+-- the limit.
 pub record LargeCount (rest : List ℕ) : Type 0 where
   pub before : List ℕ
   pub number : List ℕ

@@ -12,6 +12,6 @@ kind_message TooDeep = codes "the groups are too deep"
 kind_message TooLarge = codes "the regular expression is too large"
 kind_message OutOfMemory = codes "out of memory"
 
--- the message of an error: that of its kind, and where it is
+-- the message of an error: that of its kind, and its place
 abbrev pub error_message : IRegexpError → List ℕ
 error_message e = kind_message e.kind ++ (codes " at character " ++ decimal e.place)

@@ -1,4 +1,4 @@
--- Which text is a pattern, and in which texts it is found, as tests.
+-- Which texts are patterns, and which texts they match, as tests.
 use Rattle.std.specs.Prelude.{ℕ, zero, suc, Bool, false, List, [], ◌∷◌, length, Option, Some, None, cond, is_some, option_map}
 use Rattle.std.specs.Prelude.{option_and_then}
 use Rattle.std.specs.Option.{option_map_or}
@@ -7,7 +7,7 @@ use Rattle.i_regexp.specs.Patterns.{Mark, Pattern, IsText, IsFound}
 use Rattle.i_regexp.specs.PatternFronts.{mark_front}
 use Rattle.i_regexp.specs.PatternMachine.{PatternState, initial, no_levels, pattern_in, run_marks, pattern_form}
 
--- The first text is a pattern that is found in the second.
+-- The first text is a pattern that matches a part of the second.
 pub record PatternFound (ps cs : List ℕ) : Type 0 where
   pub pattern : Pattern
   pub text : IsText ps pattern
@@ -16,14 +16,14 @@ pub record PatternFound (ps cs : List ℕ) : Type 0 where
 abbrev pub with_mark : Mark → List Mark → List Mark
 with_mark m ms = m ∷ ms
 
--- the marks of a text of at most n characters
+-- the marks of a text with at most n characters
 abbrev pub marks_in : ℕ → List ℕ → Option (List Mark)
 marks_in zero [] = Some []
 marks_in zero (c ∷ cs) = None
 marks_in (suc n) [] = Some []
 marks_in (suc n) (c ∷ cs) = option_and_then (λ p. option_map (with_mark p.0) (marks_in n p.1)) (mark_front (c ∷ cs))
 
--- what was read, if no group is open
+-- the pattern that was parsed, if no group is open
 abbrev pub whole_pattern : PatternState → Option Pattern
 whole_pattern s = cond (no_levels s.state.1) (Some (pattern_in s)) None
 
@@ -31,10 +31,10 @@ whole_pattern s = cond (no_levels s.state.1) (Some (pattern_in s)) None
 abbrev pub pattern_of : List ℕ → Option Pattern
 pattern_of cs = option_and_then whole_pattern (option_and_then (run_marks initial) (marks_in (length cs) cs))
 
--- whether the text is a pattern
+-- the text is a pattern
 abbrev pub is_pattern : List ℕ → Bool
 is_pattern ps = is_some (pattern_of ps)
 
--- whether the first text is a pattern that is found in the second
+-- the first text is a pattern that matches a part of the second
 abbrev pub is_found : List ℕ → List ℕ → Bool
 is_found ps cs = option_map_or (λ p. matches (pattern_form p) cs) (pattern_of ps) false

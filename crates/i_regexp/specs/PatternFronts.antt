@@ -1,4 +1,4 @@
--- What stands at the front of a pattern's text, and what follows it; only private contracts use these words.
+-- The first part of a pattern's text, and the text after it; for private contracts.
 use Rattle.std.specs.Prelude.{◌≡◌, ℕ, zero, suc, ◌+◌, ◌*◌, Bool, true, false, ◌&&◌, ◌==◌, nat_le, cond, List, [], ◌∷◌, ◌++◌, length, Option}
 use Rattle.std.specs.Prelude.{Some, None}
 use Rattle.std.specs.Prelude.{option_map, option_and_then, Result, Ok, Err}
@@ -20,13 +20,13 @@ use Rattle.i_regexp.specs.Patterns.{dollar_sign, colon, letter_c, letter_x, lett
 use Rattle.i_regexp.specs.Patterns.{code_of, is_high, scalar, pair_of, control_of, begins_with_digit}
 use Rattle.i_regexp.specs.Patterns.{ends_class, is_dash, class_items, Mark, start, end, token, dot, is_normal, fits}
 
--- a mark of the code
+-- the view of the code's mark
 abbrev pub mark_of : CodeMark → Mark
 mark_of code.Start = start
 mark_of code.End = end
 mark_of (code.Token t) = token (token_of t)
 
--- a character that was read by its code
+-- a character by its code
 abbrev pub literal_front : List ℕ → Option ℕ → Option (Letter × List ℕ)
 literal_front cs o = option_map (λ n. (Literal n, cs)) o
 
@@ -43,42 +43,43 @@ four_front (a ∷ b ∷ []) = None
 four_front (a ∷ b ∷ c ∷ []) = None
 four_front (a ∷ b ∷ c ∷ d ∷ cs) = option_map (λ n. (n, cs)) (code_of a b c d)
 
--- the second half of a pair behind its first, m
+-- the low surrogate after the high one m
 abbrev pub low_front : ℕ → List ℕ → Option (Letter × List ℕ)
 low_front m [] = None
 low_front m (c ∷ []) = None
 low_front m (c ∷ d ∷ cs) =
     cond ((c == reverse_solidus) && (d == letter_u)) (option_and_then (λ p. literal_front p.1 (pair_of m p.0)) (four_front cs)) None
 
--- what a code begins
+-- what a code begins: a character, or a high surrogate
 abbrev pub half_front : ℕ × List ℕ → Option (Letter × List ℕ)
 half_front p = cond (is_high p.0) (low_front p.0 p.1) (literal_front p.1 (scalar p.0))
 
--- the value of the digits up to a brace, behind others that have the value n, if it is no greater than the last code
+-- the value of the digits up to a brace, whose first digits gave n, unless it is above the last
+-- character
 abbrev pub value_front : ℕ → List ℕ → Option (ℕ × List ℕ)
 value_front n [] = None
 value_front n (c ∷ cs) =
     cond (c == right_brace) (Some (n, cs))
     (option_and_then (λ x. cond (nat_le (16 * n + x) 1114111) (value_front (16 * n + x) cs) None) (hex_digit c))
 
--- a code behind a brace
+-- a code, after its brace
 abbrev pub braced_front : List ℕ → Option (ℕ × List ℕ)
 braced_front [] = None
 braced_front (c ∷ cs) = cond (c == right_brace) None (value_front 0 (c ∷ cs))
 
--- a code behind `\u`, by four digits or in braces
+-- a code after `\u`, of four digits or in braces
 abbrev pub code_front : List ℕ → Option (ℕ × List ℕ)
 code_front [] = None
 code_front (c ∷ cs) = cond (c == left_brace) (braced_front cs) (four_front (c ∷ cs))
 
--- what stands behind `\u`
+-- the letter after `\u`
 abbrev pub unit_front : List ℕ → Option (Letter × List ℕ)
 unit_front [] = None
 unit_front (c ∷ cs) =
     cond (c == left_brace) (option_and_then (λ p. literal_front p.1 (scalar p.0)) (braced_front cs))
     (option_and_then half_front (four_front (c ∷ cs)))
 
--- what stands behind `\c` and `\0`
+-- the letter after `\c` and `\0`
 abbrev pub control_front : List ℕ → Option (Letter × List ℕ)
 control_front [] = None
 control_front (c ∷ cs) = literal_front cs (control_of c)
@@ -86,7 +87,7 @@ control_front (c ∷ cs) = literal_front cs (control_of c)
 abbrev pub null_front : List ℕ → Option (Letter × List ℕ)
 null_front cs = cond (begins_with_digit cs) None (Some (Literal 0, cs))
 
--- what stands behind a backslash
+-- the letter after a backslash
 abbrev pub escape_front : List ℕ → Option (Letter × List ℕ)
 escape_front [] = None
 escape_front (l ∷ cs) =
@@ -97,7 +98,7 @@ abbrev pub letter_front : List ℕ → Option (Letter × List ℕ)
 letter_front [] = None
 letter_front (c ∷ cs) = cond (c == reverse_solidus) (escape_front cs) (Some (Plain c, cs))
 
--- what one step finds, with `go` for what follows
+-- one step of `letters_front`; `go` is for what follows
 abbrev pub letters_step : (List Letter → List ℕ → Option (List Letter × List ℕ)) → List Letter → Letter × List ℕ
     → Option (List Letter × List ℕ)
 letters_step go xs p = cond (ends_class p.0) (Some (xs, p.1)) (go (xs ++ p.0 ∷ []) p.1)
@@ -120,23 +121,23 @@ class_of negated p = option_map (λ is. (characters negated is, p.1)) (class_ite
 abbrev pub class_from : Bool × List ℕ → Option (Token × List ℕ)
 class_from p = option_and_then (class_of p.0) (letters_front (suc (length p.1)) [] p.1)
 
--- a class behind its bracket
+-- a class, after its bracket
 abbrev pub class_front : List ℕ → Option (Token × List ℕ)
 class_front cs = class_from (caret_front cs)
 
--- what follows the `-` of a range: its last letter, and the rest
+-- the last letter of a range, after its `-`, and the letters after it
 abbrev pub range_behind : List Letter → Option (Letter × List Letter)
 range_behind [] = None
 range_behind (y ∷ []) = None
 range_behind (y ∷ z ∷ xs) = cond (is_dash y) (Some (z, xs)) None
 
--- what follows `(`, without `?:`
+-- the text after `(`, without `?:`
 abbrev pub silent : List ℕ → List ℕ
 silent [] = []
 silent (c ∷ []) = c ∷ []
 silent (c ∷ d ∷ cs) = cond ((c == question_mark) && (d == colon)) cs (c ∷ d ∷ cs)
 
--- what follows a quantifier, without its `?`
+-- the text after a quantifier, without its `?`
 abbrev pub eager : List ℕ → List ℕ
 eager [] = []
 eager (c ∷ cs) = cond (c == question_mark) cs (c ∷ cs)
@@ -170,7 +171,7 @@ sign_front (c ∷ cs) =
     (cond (is_normal c) (Some (token (one c), cs))
     (option_and_then repeat_front (token_front (c ∷ cs)))))))))))
 
--- the same, if it may stand before what follows
+-- the mark, if it may be before the text that follows
 abbrev pub fitting : Mark × List ℕ → Option (Mark × List ℕ)
 fitting p = cond (fits p.0 p.1) (Some p) None
 
@@ -180,12 +181,12 @@ mark_front cs = option_and_then fitting (sign_front cs)
 
 -- ---- what the code returns
 
--- of the front of a text: the code that stands there, if one does
+-- the code at the front of a text, if there is one
 abbrev pub CodeFront : Option (ℕ × List ℕ) → Option (ℕ × Bor (List ℕ)) → Type 0
 CodeFront o None = o ≡ None
 CodeFront o (Some p) = o ≡ Some (p.0, p.1.now)
 
--- of the items of a class: if there are any, those
+-- the items of a class, if these letters have items
 abbrev pub ReadsItems : List Letter → Result (Vec Item Global) IRegexpErrorKind → Type 0
 ReadsItems xs (Ok v) = class_items xs ≡ Some v.items
 ReadsItems xs (Err kind.Invalid) = class_items xs ≡ None

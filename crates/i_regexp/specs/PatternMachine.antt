@@ -1,4 +1,4 @@
--- The machine that reads the marks of a pattern; only private contracts use these words.
+-- The machine that parses the marks of a pattern; for private contracts.
 use Rattle.std.specs.Prelude.{◌≡◌, ◌≤◌, ◌<◌, Bool, true, false, not, ◌&&◌, ◌||◌, cond, List, [], ◌∷◌, ◌++◌, length, map, Option, Some, None}
 use Rattle.std.specs.Prelude.{option_map, option_and_then, Result, Ok, Err}
 use Rattle.i_regexp.specs.declared.branches.Branches.{Branches}
@@ -13,23 +13,24 @@ use Rattle.i_regexp.specs.Limits.{depth_limit, size_limit}
 use Rattle.i_regexp.specs.Patterns as pattern
 use Rattle.i_regexp.specs.Patterns.{Mark, token, Part, Pattern, AreSmall}
 
--- The branches that have ended, whether the last one begins and ends where the text does, and what was read of it.
+-- The branches that have ended, whether the last one begins with `^` and ends with `$`, and what
+-- was parsed of it.
 pub record PatternState : Type 0 where
   pub parts : List Part
   pub starts : Bool
   pub ends : Bool
   pub state : State
 
--- nothing read
+-- the state before the first mark
 abbrev pub initial : PatternState
 initial = record { parts = []; starts = false; ends = false; state = (fresh, []) }
 
--- whether no group is open
+-- no group is open
 abbrev pub no_levels : List Level → Bool
 no_levels [] = true
 no_levels (l ∷ ls) = false
 
--- whether nothing was read
+-- nothing was parsed of it
 abbrev pub is_blank : Level → Bool
 is_blank (level [] [] None) = true
 is_blank l = false
@@ -63,7 +64,7 @@ with_state s u = record { parts = s.parts; starts = s.starts; ends = s.ends; sta
 abbrev pub take_token : PatternState → Token → Option PatternState
 take_token s t = cond (no_levels s.state.1 && is_bar t) (Some (next_part s)) (option_map (with_state s) (advance s.state t))
 
--- a mark is read; behind the end of the text there is only a bar
+-- a mark is read; after `$` only a bar may come
 abbrev pub advance_mark : PatternState → Mark → Option PatternState
 advance_mark s pattern.start =
     cond (s.ends || (s.starts || not (is_unread s.state))) None
@@ -89,7 +90,7 @@ is_bare l (o ∷ ls) = is_bare o ls
 
 -- ---- what is matched
 
--- any text, where it need not begin or end
+-- any text, unless this end is anchored
 abbrev pub open_form : Bool → Form
 open_form true = empty
 open_form false = repetition (class true []) 0 None
@@ -102,7 +103,7 @@ pattern_form p = choice (map part_form (p.before ++ p.last ∷ []))
 
 -- ---- the code
 
--- what the code holds is that state
+-- the code's state is that state
 pub record AgreesAt (b : Branches) (s : PatternState) : Type 0 where
   pub starts : b.starts ≡ s.starts
   pub ends : b.ends ≡ s.ends
@@ -138,7 +139,7 @@ EndsPart old ns =
     (s : PatternState) → AgreesAt old s → no_levels s.state.1 ≡ true
     → AllMean ns (map part_form (s.parts ++ part_in s ∷ [])) × AreSmall (s.parts ++ part_in s ∷ [])
 
--- a quantifier's counts are in order
+-- the first count of a quantifier is at most the second
 abbrev pub IsFitMark : Mark → Type 0
 IsFitMark pattern.start = Unit {0}
 IsFitMark pattern.end = Unit {0}

@@ -13,6 +13,6 @@ reason_message TooDeep = codes "the groups are too deep"
 reason_message TooLarge = codes "the pattern is too large"
 reason_message OutOfMemory = codes "out of memory"
 
--- the message of an error: that of its kind, and where it is
+-- the message of an error: that of its kind, and its place
 abbrev pub refusal_message : SchemaPatternError → List ℕ
 refusal_message e = reason_message e.kind ++ (codes " at character " ++ decimal e.place)

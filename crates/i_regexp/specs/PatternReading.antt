@@ -1,4 +1,4 @@
--- What is read of a pattern's text; `ReadsTree` and `Refused` are for private contracts.
+-- The result of parsing a pattern; `ReadsTree` and `Refused` are for private contracts.
 use Rattle.std.specs.Prelude.{◌≡◌, ℕ, ◌≤◌, ◌+◌, ◌↔◌, Bool, true, false, ◌&&◌, ◌||◌, ◌==◌, cond, List, [], ◌∷◌, ◌++◌, length, ◌⊎◌}
 use Rattle.std.specs.Prelude.{nat_le, Result, Ok, Err}
 use Rattle.std.specs.Option.{option_map_or}
@@ -40,7 +40,7 @@ abbrev pub ended_groups : List Mark → ℕ
 ended_groups [] = 0
 ended_groups (m ∷ ms) = ends_one m + ended_groups ms
 
--- A group begins the rest, and as many are open before it as may be.
+-- The rest begins with a group, and as many groups are open before it as may be nested.
 pub record OpensTooMany (marks : List Mark) (rest : List ℕ) : Type 0 where
   pub after : List ℕ
   pub begins : rest ≡ left_parenthesis ∷ after
@@ -50,18 +50,20 @@ pub record OpensTooMany (marks : List Mark) (rest : List ℕ) : Type 0 where
 abbrev pub IsNone : List ℕ → Type 0
 IsNone cs = (p : Pattern) → IsText cs p → ⊥
 
--- a count stands here that is too large, or each pattern that the text is has a branch that is
+-- the rest has a count that is too large, or each pattern that the text is has a branch that is too
+-- large
 abbrev pub IsLarge : List ℕ → List ℕ → Type 0
 IsLarge cs rest = LargeCount rest ⊎ ((p : Pattern) → IsText cs p → IsSmall p → ⊥)
 
--- what a kind of error says of a text that is these marks, and the rest
+-- what a kind of error means for a text that consists of these marks and the rest
 abbrev pub Says : List ℕ → List Mark → List ℕ → IRegexpErrorKind → Type 0
 Says cs marks rest kind.Invalid = IsNone cs
 Says cs marks rest kind.TooDeep = OpensTooMany marks rest
 Says cs marks rest kind.TooLarge = IsLarge cs rest
 Says cs marks rest kind.OutOfMemory = Unit {0}
 
--- What stands before the place is marks, and what follows is what the kind says.
+-- The text before the place consists of marks, and the kind of the error is right for the text
+-- after it.
 pub record Refused (cs : List ℕ) (e : IRegexpError) : Type 0 where
   pub front : List ℕ
   pub marks : List Mark
@@ -71,23 +73,24 @@ pub record Refused (cs : List ℕ) (e : IRegexpError) : Type 0 where
   pub spelled : Spelled front marks
   pub says : Says cs marks rest e.kind
 
--- what reading a text into a tree returns
+-- the result of parsing a text into a tree
 abbrev pub ReadsTree : List ℕ → Result Node IRegexpError → Type 0
 ReadsTree cs (Ok n) = (p : Pattern) × IsText cs p × IsSmall p × Means n (pattern_form p)
 ReadsTree cs (Err e) = Refused cs e
 
--- ---- patterns that were read
+-- ---- patterns that were parsed
 
--- the letters behind a backslash of what ECMA-262 has besides: \b \B \k \p \P and digits but `0`
+-- the letters after a backslash that only ECMA-262 has: \b \B \k \p \P, and digits except `0`
 abbrev pub is_other_escape : ℕ → Bool
 is_other_escape c = (nat_le 49 c && nat_le c 57) || is_one_of (98 ∷ 66 ∷ 107 ∷ letter_p ∷ capital_p ∷ []) c
 
--- whether the code of a half of a pair stands behind `\u`
+-- the code of a surrogate follows `\u`
 abbrev pub is_half : List ℕ → Bool
 is_half cs = option_map_or (λ p. is_surrogate p.0) (code_front cs) false
 
--- whether something begins the text that ECMA-262 has and these patterns have not, or not everywhere: `^`, `$`, a group that begins with
--- `(?`, as a look-around, or an escape, as a back-reference or half of a pair
+-- the text begins with something that ECMA-262 has, and that these patterns do not have, or not
+-- everywhere: `^`, `$`, a group that begins with `(?`, as a look-around, or an escape, as a
+-- back-reference or a surrogate
 abbrev pub is_outside : List ℕ → Bool
 is_outside [] = false
 is_outside (c ∷ []) = (c == circumflex) || (c == dollar_sign)
@@ -96,14 +99,14 @@ is_outside (c ∷ d ∷ cs) =
     || (((c == left_parenthesis) && (d == question_mark))
     || ((c == reverse_solidus) && (is_other_escape d || ((d == letter_u) && is_half cs))))
 
--- the kind of an error, by what stands at its place
+-- the kind of an error, which depends on the text at its place
 abbrev pub kind_at : List ℕ → IRegexpErrorKind → SchemaPatternErrorKind
 kind_at rest kind.Invalid = cond (is_outside rest) reason.Outside reason.Invalid
 kind_at rest kind.TooDeep = reason.TooDeep
 kind_at rest kind.TooLarge = reason.TooLarge
 kind_at rest kind.OutOfMemory = reason.OutOfMemory
 
--- what a kind of error says of a text that is these marks, and the rest
+-- what a kind of error means for a text that consists of these marks and the rest
 abbrev pub SaysOf : List ℕ → List Mark → List ℕ → SchemaPatternErrorKind → Type 0
 SaysOf cs marks rest reason.Invalid = IsNone cs
 SaysOf cs marks rest reason.Outside = IsNone cs × (is_outside rest ≡ true)
@@ -111,7 +114,8 @@ SaysOf cs marks rest reason.TooDeep = OpensTooMany marks rest
 SaysOf cs marks rest reason.TooLarge = IsLarge cs rest
 SaysOf cs marks rest reason.OutOfMemory = Unit {0}
 
--- What stands before the place is marks, and what follows is what the kind says.
+-- The text before the place consists of marks, and the kind of the error is right for the text
+-- after it.
 pub record IsRefused (cs : List ℕ) (e : SchemaPatternError) : Type 0 where
   pub front : List ℕ
   pub marks : List Mark
@@ -121,11 +125,12 @@ pub record IsRefused (cs : List ℕ) (e : SchemaPatternError) : Type 0 where
   pub spelled : Spelled front marks
   pub says : SaysOf cs marks rest e.kind
 
--- the texts in which the pattern is found, as a regular expression
+-- the texts that the pattern matches somewhere, as a regular expression
 abbrev pub texts_of : SchemaPattern → Form
 texts_of x = form_of x.root
 
--- The text is this pattern, and no other, none of whose branches is too large, and what was read is found in the same texts.
+-- The text is this pattern and no other, and none of its branches is too large. What was parsed
+-- matches in the same texts.
 pub record IsReading (cs : List ℕ) (x : SchemaPattern) : Type 0 where
   pub meant : Pattern
   pub text : IsText cs meant
@@ -133,7 +138,7 @@ pub record IsReading (cs : List ℕ) (x : SchemaPattern) : Type 0 where
   pub small : IsSmall meant
   pub same : (ds : List ℕ) → Matches (texts_of x) ds ↔ IsFound meant ds
 
--- what reading a text returns
+-- the result of parsing a text
 abbrev pub ReadsPattern : List ℕ → Result SchemaPattern SchemaPatternError → Type 0
 ReadsPattern cs (Ok x) = IsReading cs x
 ReadsPattern cs (Err e) = IsRefused cs e

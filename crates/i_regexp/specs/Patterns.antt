@@ -1,4 +1,5 @@
--- The grammar of the patterns of schemas (JSON Schema Core 2020-12, 6.4, with escapes of ECMA-262, 22.2.1): which text is which pattern.
+-- The grammar of the patterns of JSON Schema (Core 2020-12, 6.4, with the escapes of ECMA-262,
+-- 22.2.1): which text is which pattern.
 use Rattle.std.specs.Prelude.{◌≡◌, ℕ, ◌+◌, ◌-◌, ◌*◌, Bool, true, false, not, ◌&&◌, ◌||◌, ◌==◌, nat_le, cond, List, [], ◌∷◌, ◌++◌, ◌⊎◌}
 use Rattle.std.specs.Prelude.{Option, Some, None, option_map, option_and_then, map, ◌≤◌}
 use Rattle.i_regexp.specs.Characters.{left_parenthesis, right_parenthesis, vertical_bar, asterisk, plus_sign, question_mark, left_brace}
@@ -19,14 +20,14 @@ use Rattle.i_regexp.specs.Limits.{size_limit, branch_size}
 
 -- ---- characters
 
--- where a text begins, and where it ends
+-- the signs of the beginning and the end of a text
 abbrev pub dollar_sign : ℕ
 dollar_sign = 36
 
 abbrev pub colon : ℕ
 colon = 58
 
--- the letters of escapes that give the code of a character
+-- the letters of escapes that have the code of a character
 abbrev pub letter_c : ℕ
 letter_c = 99
 
@@ -36,7 +37,8 @@ letter_x = 120
 abbrev pub letter_u : ℕ
 letter_u = 117
 
--- the characters of a set that has a name: digits, what stands in words, white space with the ends of lines, and all others
+-- the characters of a named set: digits, word characters, white space with the ends of lines, or
+-- all others
 abbrev pub set_items : Set → List Item
 set_items set.Digits = Range 48 57 ∷ []
 set_items set.NoDigits = Range 0 47 ∷ Range 58 1114111 ∷ []
@@ -49,18 +51,19 @@ set_items set.NoSpaces =
     Range 0 8 ∷ Range 14 31 ∷ Range 33 159 ∷ Range 161 5759 ∷ Range 5761 8191 ∷ Range 8203 8231 ∷ Range 8234 8238 ∷ Range 8240 8286
     ∷ Range 8288 12287 ∷ Range 12289 65278 ∷ Range 65280 1114111 ∷ []
 
--- the characters that a letter of a pattern stands for
+-- the characters of a letter of a pattern
 abbrev pub letter_items : Letter → List Item
 letter_items (Plain c) = Range c c ∷ []
 letter_items (Literal c) = Range c c ∷ []
 letter_items (Named s) = set_items s
 
--- the signs of ASCII, which are neither letters nor digits
+-- ASCII punctuation
 abbrev pub is_sign : ℕ → Bool
 is_sign c =
     (nat_le 33 c && nat_le c 47) || ((nat_le 58 c && nat_le c 64) || ((nat_le 91 c && nat_le c 96) || (nat_le 123 c && nat_le c 126)))
 
--- what the character behind a backslash stands for: \d \D \w \W \s \S, \t \n \v \f \r, and each sign for itself
+-- the meaning of a character after a backslash: \d \D \w \W \s \S, \t
+--  \v \f \r, and each sign as itself
 abbrev pub named_letter : ℕ → Option Letter
 named_letter c =
     cond (c == 100) (Some (Named set.Digits)) (cond (c == 68) (Some (Named set.NoDigits)) (cond (c == 119) (Some (Named set.Words))
@@ -75,20 +78,20 @@ hex_digit c =
     cond (nat_le 48 c && nat_le c 57) (Some (c - 48)) (cond (nat_le 97 c && nat_le c 102) (Some (c - 87))
     (cond (nat_le 65 c && nat_le c 70) (Some (c - 55)) None))
 
--- the value of two of them
+-- the value of two hexadecimal digits
 abbrev pub byte_of : ℕ → ℕ → Option ℕ
 byte_of a b = option_and_then (λ x. option_map (λ y. 16 * x + y) (hex_digit b)) (hex_digit a)
 
--- the value of four of them
+-- the value of four hexadecimal digits
 abbrev pub code_of : ℕ → ℕ → ℕ → ℕ → Option ℕ
 code_of a b c d = option_and_then (λ x. option_map (λ y. 256 * x + y) (byte_of c d)) (byte_of a b)
 
--- the value of any number of them, behind others that have the value n
+-- the value of any number of hexadecimal digits, after others with the value n
 abbrev pub value_of : ℕ → List ℕ → Option ℕ
 value_of n [] = Some n
 value_of n (c ∷ cs) = option_and_then (λ x. value_of (16 * n + x) cs) (hex_digit c)
 
--- the first or the second half of a pair of UTF-16, or either, which is no character
+-- a high surrogate, a low surrogate, or either, which is no character
 abbrev pub is_high : ℕ → Bool
 is_high n = nat_le 55296 n && nat_le n 56319
 
@@ -98,19 +101,19 @@ is_low n = nat_le 56320 n && nat_le n 57343
 abbrev pub is_surrogate : ℕ → Bool
 is_surrogate n = nat_le 55296 n && nat_le n 57343
 
--- the character of which this is the code
+-- the character with this code
 abbrev pub scalar : ℕ → Option ℕ
 scalar n = cond (is_surrogate n || not (nat_le n 1114111)) None (Some n)
 
--- the character of which two codes are the halves
+-- the character of a pair of surrogates
 abbrev pub pair_of : ℕ → ℕ → Option ℕ
 pair_of m n = cond (is_high m && is_low n) (Some (1024 * (m - 55296) + (n - 56320) + 65536)) None
 
--- the control character of a letter of ASCII, by the last five bits of the letter
+-- the control character of an ASCII letter: the last five bits of the letter
 abbrev pub control_of : ℕ → Option ℕ
 control_of c = cond (nat_le 65 c && nat_le c 90) (Some (c - 64)) (cond (nat_le 97 c && nat_le c 122) (Some (c - 96)) None)
 
--- the text is this letter: a character that stands for itself, or an escape
+-- the text is this letter: a plain character, or an escape
 pub data LetterText : List ℕ → Letter → Type 0 where
   plain : (c : ℕ) → (c == reverse_solidus) ≡ false → LetterText (c ∷ []) (Plain c)
   named : (c : ℕ) (x : Letter) → named_letter c ≡ Some x → LetterText (reverse_solidus ∷ c ∷ []) x
@@ -128,36 +131,36 @@ abbrev pub begins_with_digit : List ℕ → Bool
 begins_with_digit [] = false
 begins_with_digit (c ∷ cs) = is_digit c
 
--- whether the text is `\0`
+-- the text is `\0`
 abbrev pub is_null : List ℕ → Bool
 is_null (c ∷ d ∷ []) = (c == reverse_solidus) && (d == digit_zero)
 is_null cs = false
 
--- whether the second text may follow the first: no digit follows `\0`
+-- the second text may follow the first: no digit follows `\0`
 abbrev pub follows : List ℕ → List ℕ → Bool
 follows cs ds = not (is_null cs && begins_with_digit ds)
 
 -- ---- classes
 
--- whether the letter ends a class
+-- the letter ends a class
 abbrev pub ends_class : Letter → Bool
 ends_class (Plain c) = c == right_bracket
 ends_class (Literal c) = false
 ends_class (Named s) = false
 
--- whether it is the `-` of a range
+-- the letter is the `-` of a range
 abbrev pub is_dash : Letter → Bool
 is_dash (Plain c) = c == hyphen
 is_dash (Literal c) = false
 is_dash (Named s) = false
 
--- letters of a class, one after the other
+-- the letters of a class, in sequence
 pub data LettersText : List ℕ → List Letter → Type 0 where
   none : LettersText [] []
   more : {cs ds : List ℕ} {x : Letter} {xs : List Letter} → LetterText cs x → ends_class x ≡ false → follows cs ds ≡ true
       → LettersText ds xs → LettersText (cs ++ ds) (x ∷ xs)
 
--- the one character that a letter stands for, if it is no set
+-- the character of a letter, unless it is a set
 abbrev pub character_of : Letter → Option ℕ
 character_of (Plain c) = Some c
 character_of (Literal c) = Some c
@@ -170,7 +173,8 @@ ordered c d = cond (nat_le c d) (Some (Range c d)) None
 abbrev pub range_of : Letter → Letter → Option Item
 range_of x y = option_and_then (λ c. option_and_then (ordered c) (character_of y)) (character_of x)
 
--- The items of a class: a `-` between two letters makes a range of them, which both are to be characters; each other letter stands alone.
+-- The items of a class. A `-` between two letters makes a range, and both have to be characters.
+-- Each other letter is an item by itself.
 abbrev pub class_items : List Letter → Option (List Item)
 class_items [] = Some []
 class_items (x ∷ []) = Some (letter_items x)
@@ -181,7 +185,7 @@ class_items (x ∷ y ∷ z ∷ xs) =
 
 -- ---- marks
 
--- what a pattern is made of: the beginning of the text, its end, or a token
+-- a mark: `^`, `$` or a token
 pub data Mark : Type 0 where
   start : Mark
   end : Mark
@@ -196,7 +200,7 @@ abbrev pub is_normal : ℕ → Bool
 is_normal c = not (is_one_of (circumflex ∷ dollar_sign ∷ left_parenthesis ∷ right_parenthesis ∷ vertical_bar ∷ full_stop
     ∷ reverse_solidus ∷ left_bracket ∷ asterisk ∷ plus_sign ∷ question_mark ∷ left_brace ∷ right_bracket ∷ right_brace ∷ []) c)
 
--- The text is this mark. The lazy form of a quantifier is the same token as the other.
+-- The text is this mark. The lazy form of a quantifier is the same token as the greedy one.
 pub data Spells : List ℕ → Mark → Type 0 where
   begins : Spells (circumflex ∷ []) start
   finishes : Spells (dollar_sign ∷ []) end
@@ -216,7 +220,7 @@ pub data Spells : List ℕ → Mark → Type 0 where
   lazy : {cs : List ℕ} {least : ℕ} {most : Option ℕ} → regexp.Spells cs (quantifier least most)
       → Spells (cs ++ question_mark ∷ []) (token (quantifier least most))
 
--- whether a `?` behind it would belong to it
+-- a `?` after the mark would belong to it
 abbrev pub takes_question : Mark → Bool
 takes_question (token opened) = true
 takes_question (token (quantifier least most)) = true
@@ -226,18 +230,19 @@ abbrev pub begins_with_question : List ℕ → Bool
 begins_with_question [] = false
 begins_with_question (c ∷ cs) = c == question_mark
 
--- whether a branch may end before the text
+-- a branch may end before the text
 abbrev pub ends_branch : List ℕ → Bool
 ends_branch [] = true
 ends_branch (c ∷ cs) = c == vertical_bar
 
--- whether the mark may stand before the text: behind `(` and behind a quantifier no `?` stands but their own, and behind `$` a branch ends
+-- the text may follow the mark: after `(` and after a quantifier no further `?`, and after `$` the
+-- end of a branch
 abbrev pub fits : Mark → List ℕ → Bool
 fits start cs = true
 fits end cs = ends_branch cs
 fits (token t) cs = not (takes_question (token t) && begins_with_question cs)
 
--- the text is these marks, one after the other
+-- the text consists of these marks
 pub data Spelled : List ℕ → List Mark → Type 0 where
   none : Spelled [] []
   more : {cs ds : List ℕ} {m : Mark} {ms : List Mark} → Spells cs m → fits m ds ≡ true → follows cs ds ≡ true → Spelled ds ms
@@ -245,13 +250,13 @@ pub data Spelled : List ℕ → List Mark → Type 0 where
 
 -- ---- patterns
 
--- A branch of the outermost choice, and whether it begins where the text begins, and ends where it ends.
+-- An outermost branch, and whether it begins with `^` and ends with `$`.
 pub record Part : Type 0 where
   pub starts : Bool
   pub branch : Branch
   pub ends : Bool
 
--- the branches of the outermost choice
+-- the outermost branches
 pub record Pattern : Type 0 where
   pub before : List Part
   pub last : Part
@@ -263,7 +268,7 @@ mark_if false m = []
 abbrev pub part_marks : Part → List Mark
 part_marks q = mark_if q.starts start ++ (map token (branch_tokens q.branch) ++ mark_if q.ends end)
 
--- branches, each with the bar behind it
+-- branches, each with the bar after it
 abbrev pub barred_marks : List Part → List Mark
 barred_marks [] = []
 barred_marks (q ∷ qs) = part_marks q ++ token bar ∷ barred_marks qs
@@ -275,7 +280,8 @@ pattern_marks p = barred_marks p.before ++ part_marks p.last
 pub record IsText (cs : List ℕ) (p : Pattern) : Type 0 where
   pub spelled : Spelled cs (pattern_marks p)
 
--- the branch matches a part of the text, which begins where the text begins, and ends where it ends, if the branch says so
+-- the branch matches a part of the text; with `^` only at the beginning, and with `$` only at the
+-- end
 pub record Finds (q : Part) (cs : List ℕ) : Type 0 where
   pub before : List ℕ
   pub part : List ℕ
@@ -285,16 +291,16 @@ pub record Finds (q : Part) (cs : List ℕ) : Type 0 where
   pub starts : q.starts ≡ true → before ≡ []
   pub ends : q.ends ≡ true → after ≡ []
 
--- one of the branches does
+-- one of the branches does so
 abbrev pub FindsOne : List Part → List ℕ → Type 0
 FindsOne [] cs = ⊥
 FindsOne (q ∷ qs) cs = Finds q cs ⊎ FindsOne qs cs
 
--- the pattern is found in the text
+-- the pattern matches a part of the text
 abbrev pub IsFound : Pattern → List ℕ → Type 0
 IsFound p cs = FindsOne (p.before ++ p.last ∷ []) cs
 
--- each branch is not too large
+-- no branch is too large
 abbrev pub AreSmall : List Part → Type 0
 AreSmall [] = Unit {0}
 AreSmall (q ∷ qs) = (branch_size q.branch ≤ size_limit) × AreSmall qs

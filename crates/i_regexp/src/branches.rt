@@ -1,4 +1,4 @@
-//! Reading the marks of a schema's pattern into a tree.
+//! Parses the marks of a schema's pattern into a tree.
 ghost use Rattle.std.specs.Prelude.{◌≡◌, ◌<◌, OnOk, IfOk, true, vec_len};
 ghost use Rattle.i_regexp.specs.Building.{Means};
 ghost use Rattle.i_regexp.specs.Fronts.{token_of};
@@ -20,8 +20,8 @@ use crate::token::Token;
 use std::alloc::{AllocError, Global};
 use std::mem;
 
-/// What was read of a pattern: the branches that have ended, whether the last one begins and ends
-/// where the text does, and what was read of it.
+/// What was parsed of a pattern: the branches that have ended, whether the last one begins with `^`
+/// and ends with `$`, and the rest of it.
 #[derive(Drop)]
 pub(crate) struct Branches {
     parts: Vec<Node>,
@@ -32,7 +32,7 @@ pub(crate) struct Branches {
 }
 
 impl Branches {
-    /// Nothing read.
+    /// The state before the first mark.
     fn new(alloc: Global) -> Branches
         ensures { AgreesAt result initial }
     {
@@ -45,7 +45,7 @@ impl Branches {
         }
     }
 
-    /// Ends a branch, which is a node with what stands before and after it in a text.
+    /// Ends a branch: a node, with any text before and after it where the branch is not anchored.
     fn end_part(&mut self, alloc: Global) -> Result<(), AllocError>
         ensures part { OnOk result (EndsPart self.old self.new.parts.items) }
         ensures some { OnOk result (0 < vec_len self.new.parts) }
@@ -57,7 +57,7 @@ impl Branches {
         Ok(())
     }
 
-    /// Takes a bar outside of groups.
+    /// Accepts a bar outside of groups.
     fn take_bar(&mut self, alloc: Global) -> Result<(), AllocError>
         ensures { OnOk result ((s : PatternState) → AgreesAt self.old s
             → no_levels s.state.1 ≡ true → AgreesAt self.new (next_part s)) }
@@ -70,7 +70,7 @@ impl Branches {
         Ok(())
     }
 
-    /// Takes a `^`.
+    /// Accepts a `^`.
     fn take_start(&mut self) -> Result<(), IRegexpErrorKind>
         ensures { TakesMark self.old start result self.new }
     {
@@ -90,7 +90,7 @@ impl Branches {
         Ok(())
     }
 
-    /// Takes a `$`.
+    /// Accepts a `$`.
     fn take_end(&mut self) -> Result<(), IRegexpErrorKind>
         ensures { TakesMark self.old end result self.new }
     {
@@ -104,7 +104,7 @@ impl Branches {
         Ok(())
     }
 
-    /// Takes a token.
+    /// Accepts a token.
     fn take_token(&mut self, alloc: Global, taken: Token) -> Result<(), IRegexpErrorKind>
         requires { IsFit (token_of taken) }
         ensures { TakesMark self.old (token (token_of taken)) result self.new }
@@ -120,7 +120,7 @@ impl Branches {
         take(alloc, &mut self.outer, &mut self.here, taken)
     }
 
-    /// Takes a mark.
+    /// Accepts a mark.
     fn take_mark(&mut self, alloc: Global, mark: Mark) -> Result<(), IRegexpErrorKind>
         requires { IsFitMark (mark_of mark) }
         ensures { TakesMark self.old (mark_of mark) result self.new }
@@ -132,7 +132,7 @@ impl Branches {
         }
     }
 
-    /// The whole.
+    /// The tree of the whole pattern.
     fn finish(&mut self, alloc: Global) -> Result<Node, IRegexpErrorKind>
         ensures { Finishes self.old result }
     {
@@ -152,7 +152,7 @@ fn is_bar(token: &Token) -> bool
     matches!(token, Token::Bar)
 }
 
-/// Any text, where a branch need not begin or end with the text.
+/// Any text, unless this end of a branch is anchored.
 fn open_end(alloc: Global, closed: bool) -> Result<Node, AllocError>
     ensures { IfOk result (λ n. Means n (open_form closed)) }
 {
@@ -168,7 +168,7 @@ fn open_end(alloc: Global, closed: bool) -> Result<Node, AllocError>
     )
 }
 
-/// Reads a whole text.
+/// Parses a whole pattern.
 pub(crate) fn read_pattern(alloc: Global, text: &[char]) -> Result<Node, IRegexpError>
     ensures { ReadsTree text.now result }
 {

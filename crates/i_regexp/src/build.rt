@@ -1,4 +1,4 @@
-//! Building the tree of a regular expression, with no marks.
+//! Builds the tree of a regular expression, without marks.
 ghost use Rattle.std.specs.Prelude.{◌≡◌, ◌≤◌, ◌<◌, List, IfOk, vec_len};
 ghost use Rattle.i_regexp.specs.Forms.{Form, class, concat, alternation, repetition, AtMost};
 ghost use Rattle.i_regexp.specs.Building.{Means, IsCopy, AllMean, sequence, choice};
@@ -19,7 +19,7 @@ pub(crate) fn one_of(members: Class) -> Node
 }
 
 impl Node {
-    /// Whether it is the empty tree.
+    /// Whether it is the tree that matches only the empty text.
     fn is_empty(&self) -> bool
         ensures { result ≡ is_empty self.now }
     {
@@ -63,7 +63,7 @@ impl Node {
     }
 }
 
-/// One after the other.
+/// A sequence of two.
 pub(crate) fn concat(alloc: Global, left: Node, right: Node) -> Result<Node, AllocError>
     ensures { IfOk result (λ n. (f g : Form) → Means left f → Means right g
         → Means n (concat f g)) }
@@ -87,7 +87,7 @@ pub(crate) fn concat(alloc: Global, left: Node, right: Node) -> Result<Node, All
     })
 }
 
-/// One or the other.
+/// A choice between two.
 pub(crate) fn alternation(alloc: Global, left: Node, right: Node) -> Result<Node, AllocError>
     ensures { IfOk result (λ n. (f g : Form) → Means left f → Means right g
         → Means n (alternation f g)) }
@@ -98,7 +98,7 @@ pub(crate) fn alternation(alloc: Global, left: Node, right: Node) -> Result<Node
     })
 }
 
-/// Any number of times.
+/// Any number of repetitions.
 pub(crate) fn star(alloc: Global, body: Node) -> Result<Node, AllocError>
     ensures { IfOk result (λ n. (f : Form) → Means body f → Means n (repetition f 0 None)) }
 {
@@ -108,15 +108,15 @@ pub(crate) fn star(alloc: Global, body: Node) -> Result<Node, AllocError>
     })
 }
 
-/// Once or not at all.
+/// The body once, or the empty text.
 pub(crate) fn optional(alloc: Global, body: Node) -> Result<Node, AllocError>
     ensures { IfOk result (λ n. (f : Form) → Means body f → Means n (repetition f 0 (Some 1))) }
 {
     alternation(alloc, Node::Empty, body)
 }
 
-/// Takes the last nodes, of which there are `count`, and puts them one after the other, as a tree
-/// whose depth is the logarithm of the count.
+/// Removes the last `count` nodes, and returns their sequence. Its depth is the logarithm of the
+/// count.
 pub(crate) fn take_sequence(
     alloc: Global,
     nodes: &mut Vec<Node>,
@@ -137,7 +137,7 @@ pub(crate) fn take_sequence(
     concat(alloc, left, right)
 }
 
-/// Takes the last nodes, of which there are `count`, as a choice among them.
+/// Removes the last `count` nodes, and returns a choice among them.
 pub(crate) fn take_choice(
     alloc: Global,
     nodes: &mut Vec<Node>,
@@ -156,7 +156,7 @@ pub(crate) fn take_choice(
     alternation(alloc, left, right)
 }
 
-/// All of them, one after the other.
+/// The sequence of all nodes.
 pub(crate) fn sequence_of(alloc: Global, mut nodes: Vec<Node>) -> Result<Node, AllocError>
     ensures { IfOk result (λ n. (fs : List Form) → AllMean nodes.items fs → Means n (sequence fs)) }
 {
@@ -164,7 +164,7 @@ pub(crate) fn sequence_of(alloc: Global, mut nodes: Vec<Node>) -> Result<Node, A
     take_sequence(alloc, &mut nodes, count)
 }
 
-/// A choice among all of them.
+/// A choice among all nodes.
 pub(crate) fn choice_of(alloc: Global, mut nodes: Vec<Node>) -> Result<Node, AllocError>
     requires { 0 < vec_len nodes }
     ensures { IfOk result (λ n. (fs : List Form) → AllMean nodes.items fs → Means n (choice fs)) }
@@ -173,7 +173,7 @@ pub(crate) fn choice_of(alloc: Global, mut nodes: Vec<Node>) -> Result<Node, All
     take_choice(alloc, &mut nodes, count)
 }
 
-/// At least and at most so many times.
+/// At least `least` and at most `most` repetitions.
 pub(crate) fn repeat(
     alloc: Global,
     node: &Node,

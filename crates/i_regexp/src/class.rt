@@ -7,8 +7,7 @@ ghost use Rattle.i_regexp.specs.declared.class.Item.TheVariants.{Range};
 use general_category::Category;
 use std::alloc::{AllocError, Global};
 
-/// What a class has: the characters from the first to the last, those of a category, or all that are
-/// not of one.
+/// An item of a class: a range of characters, a category, or all characters but a category's.
 #[derive(Clone, Copy)]
 pub(crate) enum Item {
     Range(char, char),
@@ -29,7 +28,7 @@ impl Item {
     }
 }
 
-/// Characters: those that an item stands for, or, where it is negated, the others.
+/// A class: the characters of its items or, if it is negated, all others.
 #[derive(Drop)]
 pub(crate) struct Class {
     pub(crate) negated: bool,
@@ -37,7 +36,7 @@ pub(crate) struct Class {
 }
 
 impl Class {
-    /// The characters of one item.
+    /// The class of one item.
     pub(crate) fn single(alloc: Global, item: Item) -> Result<Class, AllocError>
         ensures negated { IfOk result (λ k. k.negated ≡ false) }
         ensures items { IfOk result (λ k. k.items.items ≡ item ∷ []) }
@@ -50,7 +49,7 @@ impl Class {
         })
     }
 
-    /// Every character but the ends of lines.
+    /// The class of every character but line feed and carriage return.
     pub(crate) fn dot(alloc: Global) -> Result<Class, AllocError>
         ensures negated { IfOk result (λ k. k.negated ≡ true) }
         ensures items { IfOk result (λ k. k.items.items
@@ -84,7 +83,7 @@ impl Class {
     }
 }
 
-/// Whether one of the items stands for the character.
+/// Whether one of the items has the character.
 fn is_within(items: &[Item], c: char) -> bool
     ensures { result ≡ is_within items.now c }
 {

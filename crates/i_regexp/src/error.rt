@@ -7,7 +7,7 @@ use std::alloc::{AllocError, AllocFailed};
 use std::error::Error;
 use std::fmt;
 
-/// Why a text is refused.
+/// Why a text is rejected.
 ///
 /// ```
 /// let error = IRegexp::parse(alloc, "a{3,2}").err();
@@ -15,13 +15,13 @@ use std::fmt;
 /// ```
 #[derive(Clone, Copy, Debug, PartialEq, Eq)]
 pub enum IRegexpErrorKind {
-    /// The text is not in the grammar (RFC 9485, section 3), or a range or a quantifier ends before
-    /// it begins.
+    /// The text is not in the grammar (RFC 9485, section 3). Or a range or a quantifier has its
+    /// bounds in the wrong order.
     Invalid,
-    /// More than 200 groups are open at once.
+    /// More than 200 groups are nested.
     TooDeep,
-    /// With each repetition written out, there are more than 10,000 characters, classes, groups and
-    /// bars; or a count is greater than 10,000.
+    /// With each repetition written out, it has more than 10,000 characters, classes, groups and
+    /// bars. Or a count is greater than 10,000.
     TooLarge,
     /// An allocation failed.
     OutOfMemory,
@@ -56,7 +56,7 @@ impl fmt::Display for IRegexpErrorKind {
     }
 }
 
-/// Why a text is refused, and where.
+/// Why a text is rejected, and where.
 ///
 /// ```
 /// if let Err(error) = IRegexp::parse(alloc, "ab[c-a]") {
@@ -70,8 +70,9 @@ impl fmt::Display for IRegexpErrorKind {
 #[derive(Clone, Copy, Debug, PartialEq, Eq)]
 pub struct IRegexpError {
     pub kind: IRegexpErrorKind,
-    /// How many characters stand before the token that is refused, which is a character, an escape, a
-    /// class, a parenthesis, a bar or a quantifier. All of them, where the text ends in a group.
+    /// The number of characters before the token that is rejected: a character, an escape, a class,
+    /// a parenthesis, a bar or a quantifier. It is the length of the text if the text ends within a
+    /// group.
     pub place: usize,
 }
 

@@ -1,4 +1,4 @@
-//! The letters of a schema's pattern: characters, escapes, and sets that have a name.
+//! The letters of a schema's pattern: characters, escapes, and named sets.
 ghost use Rattle.std.specs.Prelude.{◌≡◌, ◌++◌, ◌<◌, [], OnOk, IfSome, length};
 ghost use Rattle.i_regexp.specs.Fronts.{Fronts};
 ghost use Rattle.i_regexp.specs.Patterns.{set_items, letter_items, is_sign, named_letter, hex_digit};
@@ -15,7 +15,7 @@ use crate::error::IRegexpErrorKind;
 use crate::token::is_digit;
 use std::alloc::AllocError;
 
-/// A set of characters that has a name (ECMA-262, 22.2.2.9).
+/// A named set of characters (ECMA-262, 22.2.2.9).
 #[derive(Clone, Copy)]
 pub(crate) enum Set {
     Digits,
@@ -27,7 +27,7 @@ pub(crate) enum Set {
 }
 
 impl Set {
-    /// Adds its characters.
+    /// Appends its characters.
     fn add_to(self, items: &mut Vec<Item>) -> Result<(), AllocError>
         ensures { OnOk result (items.new.items ≡ items.old.items ++ set_items self) }
     {
@@ -88,7 +88,7 @@ const NO_SPACES: [Item; 11] = [
     Item::Range('\u{ff00}', '\u{10ffff}'),
 ];
 
-/// A letter: a character that stands for itself, one that an escape stands for, or a set.
+/// A letter: a character, an escaped character, or a set.
 #[derive(Clone, Copy)]
 pub(crate) enum Letter {
     Plain(char),
@@ -97,7 +97,7 @@ pub(crate) enum Letter {
 }
 
 impl Letter {
-    /// Adds the characters that it stands for.
+    /// Appends its characters.
     pub(crate) fn add_to(self, items: &mut Vec<Item>) -> Result<(), AllocError>
         ensures { OnOk result (items.new.items ≡ items.old.items ++ letter_items self) }
     {
@@ -130,7 +130,7 @@ impl Letter {
         }
     }
 
-    /// The one character that it stands for.
+    /// Its character, unless it is a set.
     pub(crate) fn character(self) -> Option<char>
         ensures { result ≡ character_of self }
     {
@@ -142,14 +142,14 @@ impl Letter {
     }
 }
 
-/// Whether it is a sign of ASCII.
+/// Whether it is ASCII punctuation.
 fn is_sign(c: char) -> bool
     ensures { result ≡ is_sign c }
 {
     '!' <= c && c <= '/' || ':' <= c && c <= '@' || '[' <= c && c <= '`' || '{' <= c && c <= '~'
 }
 
-/// What this character stands for behind a backslash.
+/// The meaning of this character after a backslash.
 fn named(letter: char) -> Option<Letter>
     ensures { result ≡ named_letter letter }
 {
@@ -201,28 +201,28 @@ fn byte_of(first: char, second: char) -> Option<u32>
     Some(16 * high + low)
 }
 
-/// Whether it is the code of the first half of a pair.
+/// Whether it is a high surrogate.
 fn is_high(code: u32) -> bool
     ensures { result ≡ is_high code }
 {
     0xd800 <= code && code <= 0xdbff
 }
 
-/// Whether it is the code of the second half of a pair.
+/// Whether it is a low surrogate.
 fn is_low(code: u32) -> bool
     ensures { result ≡ is_low code }
 {
     0xdc00 <= code && code <= 0xdfff
 }
 
-/// The character of which this is the code.
+/// The character with this code.
 fn scalar(code: u32) -> Option<char>
     ensures { result ≡ scalar code }
 {
     char::from_u32(code)
 }
 
-/// The character of which these are the halves.
+/// The character of these two surrogates.
 fn pair_of(first: u32, second: u32) -> Option<char>
     ensures { result ≡ pair_of first second }
 {
@@ -244,7 +244,7 @@ fn code_of(a: char, b: char, c: char, d: char) -> Option<u32>
     Some(256 * high + low)
 }
 
-/// The control character of this letter.
+/// The control character of this letter, as in `\c`.
 fn control_of(letter: char) -> Option<char>
     ensures { result ≡ control_of letter }
 {
@@ -257,7 +257,7 @@ fn control_of(letter: char) -> Option<char>
     None
 }
 
-/// The character of which the code stands here, by two digits.
+/// The character at the front, by a code of two digits.
 fn byte(text: &[char]) -> Result<(Letter, &[char]), IRegexpErrorKind>
     ensures { Fronts ⊥ (λ x. x) (byte_front text.now) result }
 {
@@ -270,7 +270,7 @@ fn byte(text: &[char]) -> Result<(Letter, &[char]), IRegexpErrorKind>
     }
 }
 
-/// The code that stands here by four digits.
+/// The code at the front, of four digits.
 fn four_digits(text: &[char]) -> Option<(u32, &[char])>
     ensures { CodeFront (four_front text.now) result }
 {
@@ -281,7 +281,7 @@ fn four_digits(text: &[char]) -> Option<(u32, &[char])>
     Some((code, rest))
 }
 
-/// The value of the digits up to a brace, if it is no greater than that of the last character.
+/// The code at the front, of digits up to a brace, unless it is above the last character.
 fn value(text: &[char]) -> Option<(u32, &[char])>
     ensures { CodeFront (value_front 0 text.now) result }
 {
@@ -300,7 +300,7 @@ fn value(text: &[char]) -> Option<(u32, &[char])>
     None
 }
 
-/// The code that stands here, behind a brace.
+/// The code at the front, after a brace.
 fn braced(text: &[char]) -> Option<(u32, &[char])>
     ensures { CodeFront (braced_front text.now) result }
 {
@@ -310,7 +310,7 @@ fn braced(text: &[char]) -> Option<(u32, &[char])>
     }
 }
 
-/// The code that stands here, by four digits or in braces.
+/// The code at the front, of four digits or in braces.
 pub(crate) fn code(text: &[char]) -> Option<(u32, &[char])>
     ensures { CodeFront (code_front text.now) result }
 {
@@ -320,7 +320,7 @@ pub(crate) fn code(text: &[char]) -> Option<(u32, &[char])>
     }
 }
 
-/// The character of which the second half stands here, behind the first.
+/// The character of a high surrogate and the low one at the front.
 fn low(first: u32, text: &[char]) -> Result<(Letter, &[char]), IRegexpErrorKind>
     ensures { Fronts ⊥ (λ x. x) (low_front first text.now) result }
 {
@@ -333,7 +333,7 @@ fn low(first: u32, text: &[char]) -> Result<(Letter, &[char]), IRegexpErrorKind>
     }
 }
 
-/// The character, which the text follows.
+/// The character, as a letter, and the text after it.
 fn literal(c: Option<char>, text: &[char]) -> Result<(Letter, &[char]), IRegexpErrorKind>
     ensures { Fronts ⊥ (λ x. x) (literal_front text.now c) result }
 {
@@ -343,8 +343,7 @@ fn literal(c: Option<char>, text: &[char]) -> Result<(Letter, &[char]), IRegexpE
     }
 }
 
-/// The character of which this is the code, or the first half, if the text that follows has the
-/// second.
+/// The character with this code. If it is a high surrogate, the text has to begin with a low one.
 fn half(code: u32, text: &[char]) -> Result<(Letter, &[char]), IRegexpErrorKind>
     ensures { Fronts ⊥ (λ x. x) (half_front (code, text.now)) result }
 {
@@ -354,7 +353,7 @@ fn half(code: u32, text: &[char]) -> Result<(Letter, &[char]), IRegexpErrorKind>
     literal(scalar(code), text)
 }
 
-/// The character of which the code stands here, by four digits, by two times four, or in braces.
+/// The character at the front, by a code of four digits, by two such codes, or by one in braces.
 fn unit(text: &[char]) -> Result<(Letter, &[char]), IRegexpErrorKind>
     ensures { Fronts ⊥ (λ x. x) (unit_front text.now) result }
 {
@@ -370,7 +369,7 @@ fn unit(text: &[char]) -> Result<(Letter, &[char]), IRegexpErrorKind>
     }
 }
 
-/// The control character of the letter that stands here.
+/// The control character of the letter at the front.
 fn control(text: &[char]) -> Result<(Letter, &[char]), IRegexpErrorKind>
     ensures { Fronts ⊥ (λ x. x) (control_front text.now) result }
 {
@@ -380,7 +379,7 @@ fn control(text: &[char]) -> Result<(Letter, &[char]), IRegexpErrorKind>
     literal(control_of(*letter), rest)
 }
 
-/// Whether a digit stands here.
+/// Whether the text begins with a digit.
 fn begins_with_digit(text: &[char]) -> bool
     ensures { result ≡ begins_with_digit text.now }
 {
@@ -390,7 +389,7 @@ fn begins_with_digit(text: &[char]) -> bool
     }
 }
 
-/// The character of code 0, if no digit stands here.
+/// The character U+0000, unless a digit follows.
 fn null(text: &[char]) -> Result<(Letter, &[char]), IRegexpErrorKind>
     ensures { Fronts ⊥ (λ x. x) (null_front text.now) result }
 {
@@ -400,7 +399,7 @@ fn null(text: &[char]) -> Result<(Letter, &[char]), IRegexpErrorKind>
     Ok((Letter::Literal('\0'), text))
 }
 
-/// What stands behind a backslash.
+/// The letter that follows a backslash.
 pub(crate) fn escape(text: &[char]) -> Result<(Letter, &[char]), IRegexpErrorKind>
     ensures { Fronts ⊥ (λ x. x) (escape_front text.now) result }
 {
@@ -417,7 +416,7 @@ pub(crate) fn escape(text: &[char]) -> Result<(Letter, &[char]), IRegexpErrorKin
     }
 }
 
-/// The letter that stands here.
+/// The letter at the front of the text.
 pub(crate) fn next_letter(text: &[char]) -> Result<(Letter, &[char]), IRegexpErrorKind>
     ensures { Fronts ⊥ (λ x. x) (letter_front text.now) result }
 {

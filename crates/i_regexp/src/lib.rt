@@ -1,5 +1,5 @@
-//! Regular expressions of RFC 9485 (I-Regexp), matched in one pass over a text, and the patterns that
-//! JSON Schema asks schemas to keep to.
+//! Regular expressions of RFC 9485 (I-Regexp), and the patterns that JSON Schema recommends. Both
+//! are matched in a single pass over the text, without memory.
 //!
 //! ```
 //! let mut months = IRegexp::parse(alloc, "[0-9]{4}-[0-9]{2}")?;

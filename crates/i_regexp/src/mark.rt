@@ -1,4 +1,4 @@
-//! The marks of a schema's pattern.
+//! The marks of a schema's pattern: `^`, `$` and tokens.
 ghost use Rattle.std.specs.Prelude.{◌≡◌, ℕ, ◌<◌, [], IfOk, length, option_map, option_and_then};
 ghost use Rattle.i_regexp.specs.Limits.{LargeCount};
 ghost use Rattle.i_regexp.specs.Fronts.{Fronts, token_of, token_front};
@@ -17,8 +17,7 @@ use crate::letter::{Letter, escape, next_letter};
 use crate::token::{Token, next_token};
 use std::alloc::{AllocError, Global};
 
-/// A part of a pattern's text that has a meaning of its own: the beginning of the text that is
-/// searched, its end, or a token.
+/// The smallest part of a pattern's text with a meaning: `^`, `$` or a token.
 #[derive(Drop)]
 pub(crate) enum Mark {
     Start,
@@ -27,7 +26,7 @@ pub(crate) enum Mark {
 }
 
 impl Mark {
-    /// Whether it may stand before the text.
+    /// Whether the text may follow the mark.
     fn fits(&self, text: &[char]) -> bool
         ensures { result ≡ fits (mark_of self.now) text.now }
     {
@@ -39,7 +38,7 @@ impl Mark {
     }
 }
 
-/// The first mark of a text, and what stands after it.
+/// The first mark of a text, and the text after it.
 pub(crate) fn next_mark<'t>(
     alloc: Global,
     text: &'t [char],
@@ -53,28 +52,28 @@ pub(crate) fn next_mark<'t>(
     Ok((mark, rest))
 }
 
-/// Whether a `?` behind the token would belong to it.
+/// Whether a `?` after the token would belong to it.
 fn takes_question(token: &Token) -> bool
     ensures { result ≡ takes_question (with_token (token_of token.now)) }
 {
     matches!(token, Token::Open | Token::Quantifier { .. })
 }
 
-/// Whether a branch may end here.
+/// Whether a branch may end before this text.
 fn ends_branch(text: &[char]) -> bool
     ensures { result ≡ ends_branch text.now }
 {
     matches!(text, ['|', ..] | [])
 }
 
-/// Whether a `?` stands here.
+/// Whether the text begins with `?`.
 fn begins_with_question(text: &[char]) -> bool
     ensures { result ≡ begins_with_question text.now }
 {
     matches!(text, ['?', ..])
 }
 
-/// The first mark of a text, whatever stands after it.
+/// The first mark of a text, whatever follows it.
 fn sign<'t>(alloc: Global, text: &'t [char]) -> Result<(Mark, &'t [char]), IRegexpErrorKind>
     ensures { Fronts (LargeCount text.now) mark_of (sign_front text.now) result }
 {
@@ -113,7 +112,7 @@ fn is_normal(c: char) -> bool
     )
 }
 
-/// What stands behind an opening parenthesis, without `?:`.
+/// The text after an opening parenthesis, without `?:`.
 fn silent(text: &[char]) -> &[char]
     ensures { result.now ≡ silent text.now }
 {
@@ -123,7 +122,7 @@ fn silent(text: &[char]) -> &[char]
     }
 }
 
-/// What stands behind a quantifier, without its `?`.
+/// The text after a quantifier, without its `?`.
 fn eager(text: &[char]) -> &[char]
     ensures { result.now ≡ eager text.now }
 {
@@ -133,7 +132,7 @@ fn eager(text: &[char]) -> &[char]
     }
 }
 
-/// Every character but the ends of lines.
+/// The class of every character but the ends of lines.
 fn dot(alloc: Global) -> Result<Class, AllocError>
     ensures { IfOk result (λ k. token_of (Characters k) ≡ dot) }
 {
@@ -147,7 +146,7 @@ fn dot(alloc: Global) -> Result<Class, AllocError>
     })
 }
 
-/// The characters of an escape, behind its backslash.
+/// The characters of the escape after a backslash.
 fn escaped<'t>(alloc: Global, text: &'t [char]) -> Result<(Mark, &'t [char]), IRegexpErrorKind>
     ensures { Fronts ⊥ mark_of (option_map letter_mark (escape_front text.now)) result }
 {
@@ -161,7 +160,7 @@ fn escaped<'t>(alloc: Global, text: &'t [char]) -> Result<(Mark, &'t [char]), IR
     Ok((Mark::Token(Token::Characters(class)), after))
 }
 
-/// A quantifier, with a `?` behind it that makes it lazy.
+/// A quantifier, with the `?` after it that makes it lazy.
 fn repeated<'t>(alloc: Global, text: &'t [char]) -> Result<(Mark, &'t [char]), IRegexpErrorKind>
     ensures { Fronts (LargeCount text.now) mark_of
         (option_and_then repeat_front (token_front text.now)) result }
@@ -176,7 +175,7 @@ fn repeated<'t>(alloc: Global, text: &'t [char]) -> Result<(Mark, &'t [char]), I
     }
 }
 
-/// The class that stands behind an opening bracket.
+/// The class after an opening bracket.
 fn class<'t>(alloc: Global, text: &'t [char]) -> Result<(Token, &'t [char]), IRegexpErrorKind>
     ensures { Fronts ⊥ token_of (class_front text.now) result }
 {
@@ -186,7 +185,7 @@ fn class<'t>(alloc: Global, text: &'t [char]) -> Result<(Token, &'t [char]), IRe
     Ok((Token::Characters(Class { negated, items }), rest))
 }
 
-/// Whether a `^` stands here, and what stands after it.
+/// Whether the text begins with `^`, and the text after that.
 fn caret(text: &[char]) -> (bool, &[char])
     ensures negated { result.0 ≡ (caret_front text.now).0 }
     ensures rest { result.1.now ≡ (caret_front text.now).1 }
@@ -218,7 +217,7 @@ fn letters<'t>(
     Err(IRegexpErrorKind::Invalid)
 }
 
-/// The items of a class that has these letters.
+/// The items of a class with these letters.
 fn items(alloc: Global, letters: &[Letter]) -> Result<Vec<Item>, IRegexpErrorKind>
     ensures { ReadsItems letters.now result }
 {
@@ -236,7 +235,7 @@ fn items(alloc: Global, letters: &[Letter]) -> Result<Vec<Item>, IRegexpErrorKin
     Ok(all)
 }
 
-/// The last letter of a range of which the `-` stands here, and what stands after it.
+/// The last letter of a range, if its `-` is at the front, and the letters after it.
 fn range_behind(letters: &[Letter]) -> Option<(Letter, &[Letter])>
     ensures { RangeBehind letters.now result }
 {

@@ -1,11 +1,11 @@
-//! The tree of a regular expression, marked at the places that a text has reached.
+//! The tree of a regular expression, with marks where the text read so far can end.
 ghost use Rattle.std.specs.Prelude.{◌≡◌};
 ghost use Rattle.i_regexp.specs.Marked.{IsKept, shifted, cleared, skips, is_marked, ends_here};
 
 use crate::class::Class;
 
-/// A regular expression. The mark of a class says that the text read so far can end with a
-/// character of this class, so that what may come next is what may follow here.
+/// A regular expression. A class is marked if the text read so far can end with a character of it.
+/// The next character then has to follow in the regular expression.
 #[derive(Drop)]
 pub(crate) enum Node {
     Empty,
@@ -16,11 +16,11 @@ pub(crate) enum Node {
     Concat {
         left: Box<Node>,
         right: Box<Node>,
-        // whether each matches the empty text, and whether the left one can end here
+        // whether each part matches the empty text, and whether the left part can end here
         left_empty: bool,
         right_empty: bool,
         left_ends: bool,
-        // whether there is a mark in either
+        // whether either part has a mark
         marked: bool,
     },
     Alternation {
@@ -35,7 +35,7 @@ pub(crate) enum Node {
 }
 
 impl Node {
-    /// Whether this matches the empty text.
+    /// Whether it matches the empty text.
     pub(crate) fn skips(&self) -> bool
         ensures { result ≡ skips self.now }
     {
@@ -48,7 +48,7 @@ impl Node {
         }
     }
 
-    /// Whether there is a mark.
+    /// Whether it has a mark.
     pub(crate) fn is_marked(&self) -> bool
         ensures { result ≡ is_marked self.now }
     {
@@ -61,7 +61,7 @@ impl Node {
         }
     }
 
-    /// Takes all marks away.
+    /// Removes all marks.
     pub(crate) fn clear(&mut self)
         ensures { self.new ≡ cleared self.old }
     {
@@ -91,9 +91,9 @@ impl Node {
         }
     }
 
-    /// Moves the marks over a character: each to the places that it leads to. With `start`, the
-    /// text may also begin with this character. Returns whether the text can end after it, and whether
-    /// there is a mark.
+    /// Moves the marks over a character, each to the classes that may follow. With `start`, the
+    /// text may also begin with this character. Returns whether the text can end after it, and
+    /// whether there is a mark.
     pub(crate) fn shift(&mut self, start: bool, c: char) -> (bool, bool)
         requires { IsKept self.old }
         ensures marks { self.new ≡ shifted start c self.old }

@@ -1,4 +1,4 @@
-//! A pattern of a schema that is ready to be searched for.
+//! A parsed pattern of JSON Schema.
 ghost use Rattle.std.specs.Prelude.{◌≡◌, ◌↔◌, true, IsTrue};
 ghost use Rattle.std.specs.Str.{chars};
 ghost use Rattle.i_regexp.specs.Forms.{Matches};
@@ -12,9 +12,9 @@ use crate::regexp::characters;
 use crate::run::matches_whole;
 use std::alloc::Global;
 
-/// A pattern of JSON Schema, in the dialect that the standard asks schemas to keep to (Core 2020-12,
-/// 6.4), with the escapes of ECMA-262. It is mutable for the marks that move over a text; between two
-/// calls they have no meaning.
+/// A pattern of JSON Schema, in the dialect that the standard recommends (Core 2020-12, 6.4), with
+/// the escapes of ECMA-262. Matching borrows it mutably, for marks that move over the text. They
+/// have no meaning between calls.
 ///
 /// ```
 /// let mut code = SchemaPattern::parse(alloc, "^[A-Z]{2}\\d+$")?;
@@ -30,8 +30,8 @@ pub struct SchemaPattern {
 impl SchemaPattern {
     ghost use Rattle.i_regexp.specs.PatternReading.{ReadsPattern, texts_of};
 
-    /// Reads a pattern: a text of the grammar (`specs/Patterns.antt`). After an error nothing is left
-    /// of what was read.
+    /// Parses a pattern; its grammar is in `specs/Patterns.antt`. After an error everything is
+    /// freed.
     ///
     /// ```
     /// let mut name = SchemaPattern::parse(alloc, "^x-")?;
@@ -52,9 +52,9 @@ impl SchemaPattern {
         }
     }
 
-    /// Whether the pattern is found in the text: a branch of it matches a part, which begins where the
-    /// text begins if the branch begins with `^`, and ends where it ends if the branch ends with `$`. It
-    /// takes time by the product of the two sizes, and no memory.
+    /// Whether the pattern matches a part of the text. A branch that begins with `^` matches only
+    /// at the beginning, and one that ends with `$` only at the end. The time is at most
+    /// proportional to the product of the two sizes. It takes no memory.
     ///
     /// ```
     /// let mut digits = SchemaPattern::parse(alloc, "\\d{3}")?;

@@ -1,11 +1,11 @@
-//! Why a text is no pattern of a schema.
+//! Why a text is no pattern.
 ghost use Rattle.std.specs.Prelude.{◌≡◌, Some};
 ghost use Rattle.i_regexp.specs.PatternMessage.{reason_message, refusal_message};
 
 use std::error::Error;
 use std::fmt;
 
-/// Why a pattern is refused.
+/// Why a pattern is rejected.
 ///
 /// ```
 /// let error = SchemaPattern::parse(alloc, "a{3,2}").err();
@@ -15,15 +15,15 @@ use std::fmt;
 pub enum SchemaPatternErrorKind {
     /// The text is not in the grammar.
     Invalid,
-    /// Nor is it, and at the place stands something that ECMA-262 has and these patterns have not: a
-    /// group that begins with `(?` and not with `(?:`, an escape such as `\b` or `\1`, half of a pair
-    /// of UTF-16, or a `^` or `$` that is not at the beginning or the end of a branch outside of all
-    /// groups.
+    /// The text is not in the grammar, and at the place is something that ECMA-262 has and these
+    /// patterns do not: a group that begins with `(?` but not with `(?:`, an escape such as `\b` or
+    /// `\1`, a surrogate without its pair, or a `^` or `$` elsewhere than at the beginning or the
+    /// end of an outermost branch.
     Outside,
-    /// More than 200 groups are open at once.
+    /// More than 200 groups are nested.
     TooDeep,
-    /// With each repetition written out, there are more than 10,000 characters, classes, groups and
-    /// bars in a branch; or a count is greater than 10,000.
+    /// With each repetition written out, a branch has more than 10,000 characters, classes, groups
+    /// and bars. Or a count is greater than 10,000.
     TooLarge,
     /// An allocation failed.
     OutOfMemory,
@@ -43,7 +43,7 @@ impl fmt::Display for SchemaPatternErrorKind {
     }
 }
 
-/// Why a pattern is refused, and where.
+/// Why a pattern is rejected, and where.
 ///
 /// ```
 /// if let Err(error) = SchemaPattern::parse(alloc, "ab(?=c)") {
@@ -54,8 +54,9 @@ impl fmt::Display for SchemaPatternErrorKind {
 #[derive(Clone, Copy, Debug, PartialEq, Eq)]
 pub struct SchemaPatternError {
     pub kind: SchemaPatternErrorKind,
-    /// How many characters stand before what is refused, which is a character, an escape, a class, a
-    /// parenthesis, a bar, a quantifier, `^` or `$`. All of them, where the text ends in a group.
+    /// The number of characters before what is rejected: a character, an escape, a class, a
+    /// parenthesis, a bar, a quantifier, `^` or `$`. It is the length of the text if the text ends
+    /// within a group.
     pub place: usize,
 }
 

@@ -1,4 +1,4 @@
-//! Reading the tokens of a text into a tree.
+//! Parses the tokens of a text into a tree.
 ghost use Rattle.std.specs.Prelude.{◌≡◌, ◌-◌, List, [], ◌∷◌, ◌<◌, IfOk, OnOk, vec_len};
 ghost use Rattle.i_regexp.specs.Forms.{AtMost};
 ghost use Rattle.i_regexp.specs.Building.{Means};
@@ -18,20 +18,20 @@ use crate::token::{Token, next_token};
 use std::alloc::{AllocError, Global};
 use std::mem;
 
-/// What was read of a group, or of the whole: the branches that have ended, the pieces of the last
-/// one, and the atom after these, which may yet be repeated.
+/// What was parsed of a group, or of the whole: the branches that have ended, the pieces of the
+/// last one, and the atom after these, which may be repeated yet.
 #[derive(Drop)]
 pub(crate) struct Level {
     branches: Vec<Node>,
     pieces: Vec<Node>,
     last: Option<Node>,
-    // how large what was read up to here is, with the groups around it, and how large the atom is
+    // the size of all that was parsed up to here, with the groups around it, and that of the atom
     size: usize,
     last_size: usize,
 }
 
 impl Level {
-    /// A group in which nothing was read, where so much stands before.
+    /// An empty group, where all before it has this size.
     pub(crate) fn new(alloc: Global, size: usize) -> Level
         ensures read { StandsAt result fresh }
         ensures size { result.size ≡ size }
@@ -45,7 +45,7 @@ impl Level {
         }
     }
 
-    /// How large what was read is with so much more, unless that is too large.
+    /// The size with this much more, or `None` if that is too large.
     fn grown(&self, more: usize) -> Option<usize>
         ensures { Grows self.now.size more result }
     {
@@ -56,7 +56,7 @@ impl Level {
         Some(size)
     }
 
-    /// Puts an atom at the end, up to which so much was read.
+    /// Appends an atom; all that was parsed has the given size then.
     fn put(&mut self, node: Node, size: usize) -> Result<(), AllocError>
         ensures read { OnOk result ((l : Read) (a : Atom) → StandsAt self.old l
             → Means node (atom_form a) → StandsAt self.new (with_atom l a)) }
@@ -70,7 +70,7 @@ impl Level {
         Ok(())
     }
 
-    /// The last atom is not repeated.
+    /// Moves the last atom to the pieces, as it is not repeated.
     fn settle(&mut self) -> Result<(), AllocError>
         ensures read { OnOk result ((l : Read) → StandsAt self.old l
             → StandsAt self.new (settle l)) }
@@ -95,7 +95,7 @@ impl Level {
         Ok(())
     }
 
-    /// The whole.
+    /// The tree of the whole.
     pub(crate) fn finish(&mut self, alloc: Global) -> Result<Node, AllocError>
         ensures { IfOk result (λ n. (l : Read) → StandsAt self.old l
             → Means n (regexp_form (regexp_of l))) }
@@ -105,7 +105,7 @@ impl Level {
         choice_of(alloc, branches)
     }
 
-    /// Whether nothing was read.
+    /// Whether it is still empty.
     pub(crate) fn is_blank(&self) -> bool
         ensures { (l : Read) → StandsAt self.now l → result ≡ is_blank l }
     {
@@ -141,7 +141,7 @@ impl Level {
     }
 }
 
-/// How many times more a part is written out that is repeated.
+/// How often a repeated part is written out in addition.
 fn repeated(least: usize, most: Option<usize>) -> usize
     ensures { result ≡ repeated least most }
 {
@@ -151,7 +151,7 @@ fn repeated(least: usize, most: Option<usize>) -> usize
     }
 }
 
-/// Takes a token: `here` is the innermost group, and `outer` are those around it.
+/// Accepts a token. `here` is the innermost group, and `outer` has those around it.
 pub(crate) fn take(
     alloc: Global,
     outer: &mut Vec<Level>,
@@ -201,7 +201,7 @@ pub(crate) fn take(
     }
 }
 
-/// Reads a whole text.
+/// Parses a whole text.
 pub(crate) fn read(alloc: Global, text: &[char]) -> Result<Node, IRegexpError>
     ensures { Reads text.now result }
 {

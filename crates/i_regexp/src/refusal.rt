@@ -1,4 +1,4 @@
-//! What is said of a schema's pattern that is refused.
+//! The errors of a schema's pattern.
 ghost use Rattle.std.specs.Prelude.{◌≡◌};
 ghost use Rattle.i_regexp.specs.PatternReading.{Refused, IsRefused, kind_at, is_outside};
 ghost use Rattle.i_regexp.specs.PatternReading.{is_other_escape, is_half};
@@ -8,7 +8,7 @@ use crate::error::{IRegexpError, IRegexpErrorKind};
 use crate::letter::code;
 use crate::pattern_error::{SchemaPatternError, SchemaPatternErrorKind};
 
-/// The error, by what stands at its place.
+/// The error of a pattern, which depends on the text at its place.
 pub(crate) fn refusal(text: &[char], error: IRegexpError) -> SchemaPatternError
     requires { Refused text.now error }
     ensures { IsRefused text.now result }
@@ -19,7 +19,7 @@ pub(crate) fn refusal(text: &[char], error: IRegexpError) -> SchemaPatternError
     }
 }
 
-/// The kind of an error, by what stands at its place.
+/// The kind of the error, which depends on the text at its place.
 fn kind_at(rest: &[char], kind: IRegexpErrorKind) -> SchemaPatternErrorKind
     ensures { result ≡ kind_at rest.now kind }
 {
@@ -36,7 +36,8 @@ fn kind_at(rest: &[char], kind: IRegexpErrorKind) -> SchemaPatternErrorKind
     }
 }
 
-/// Whether something stands here that ECMA-262 has and these patterns have not, or not everywhere.
+/// Whether the text begins with something that ECMA-262 has, and that these patterns do not have,
+/// or not everywhere.
 fn is_outside(text: &[char]) -> bool
     ensures { result ≡ is_outside text.now }
 {
@@ -52,14 +53,14 @@ fn is_outside(text: &[char]) -> bool
         || *first == '\\' && (is_other_escape(*second) || *second == 'u' && is_half(after))
 }
 
-/// Whether ECMA-262 has another meaning for this character behind a backslash.
+/// Whether ECMA-262 gives this character another meaning after a backslash.
 fn is_other_escape(c: char) -> bool
     ensures { result ≡ is_other_escape c }
 {
     '1' <= c && c <= '9' || matches!(c, 'b' | 'B' | 'k' | 'p' | 'P')
 }
 
-/// Whether the code of a half of a pair stands here.
+/// Whether the text begins with the code of a surrogate.
 fn is_half(text: &[char]) -> bool
     ensures { result ≡ is_half text.now }
 {
@@ -69,7 +70,7 @@ fn is_half(text: &[char]) -> bool
     }
 }
 
-/// Whether it is the code of a half of a pair.
+/// Whether it is the code of a surrogate.
 fn is_surrogate(code: u32) -> bool
     ensures { result ≡ is_surrogate code }
 {

@@ -1,4 +1,4 @@
-//! A regular expression that is ready to be matched.
+//! A parsed regular expression of RFC 9485.
 ghost use Rattle.std.specs.Prelude.{◌≡◌, ◌↔◌, true, IfOk, IsTrue};
 ghost use Rattle.std.specs.Str.{chars};
 ghost use Rattle.i_regexp.specs.Forms.{Matches, Searches};
@@ -10,8 +10,8 @@ use crate::reader::read;
 use crate::run::{matches_part, matches_whole};
 use std::alloc::{AllocError, Global};
 
-/// A regular expression of RFC 9485 that is ready to be matched. It is mutable for the marks that move
-/// over a text; between two calls they have no meaning.
+/// A regular expression of RFC 9485. Matching borrows it mutably, for marks that move over the
+/// text. They have no meaning between calls.
 ///
 /// ```
 /// let mut word = IRegexp::parse(alloc, "[a-z]+(-[a-z]+)*")?;
@@ -27,9 +27,8 @@ pub struct IRegexp {
 impl IRegexp {
     ghost use Rattle.i_regexp.specs.Regexps.{form_in, ReadsRegexp};
 
-    /// Reads a regular expression: a text of the grammar (RFC 9485, section 3). `^` and `$` stand for
-    /// themselves, but for a `^` behind `[`, which negates. After an error nothing is left of what was
-    /// read.
+    /// Parses a regular expression (RFC 9485, section 3). `^` and `$` are ordinary characters,
+    /// except for a `^` after `[`, which negates. After an error everything is freed.
     ///
     /// ```
     /// let mut month = IRegexp::parse(alloc, "[0-9]{4}-[0-9]{2}")?;
@@ -50,8 +49,8 @@ impl IRegexp {
         }
     }
 
-    /// Whether the whole text is matched (RFC 9485, section 4). It takes time by the product of the
-    /// two sizes, and no memory.
+    /// Whether it matches the whole text (RFC 9485, section 4). The time is at most proportional to
+    /// the product of the two sizes. It takes no memory.
     ///
     /// ```
     /// let mut even = IRegexp::parse(alloc, "(aa)*")?;
@@ -65,8 +64,8 @@ impl IRegexp {
         matches_whole(&mut self.root, text)
     }
 
-    /// Whether a part of the text is matched: some of its characters in a row, or none. It takes time
-    /// by the product of the two sizes, and no memory.
+    /// Whether it matches a part of the text: some consecutive characters, or none. The time is at
+    /// most proportional to the product of the two sizes. It takes no memory.
     ///
     /// ```
     /// let mut month = IRegexp::parse(alloc, "[0-9]{4}-[0-9]{2}")?;

@@ -15,7 +15,7 @@ use crate::limits::SIZE;
 use general_category::Category;
 use std::alloc::Global;
 
-/// A part of a text that has a meaning of its own.
+/// The smallest part of a text with a meaning.
 #[derive(Drop)]
 pub(crate) enum Token {
     /// One character of a class.
@@ -26,7 +26,7 @@ pub(crate) enum Token {
     Quantifier { least: usize, most: Option<usize> },
 }
 
-/// The first token of a text, and what stands after it.
+/// The first token of a text, and the text after it.
 pub(crate) fn next_token<'t>(
     alloc: Global,
     text: &'t [char],
@@ -95,7 +95,7 @@ fn is_plain(c: char) -> bool
     !matches!(c, '-' | '[' | '\\' | ']')
 }
 
-/// The character that this one stands for behind a backslash.
+/// The character that this one stands for after a backslash.
 fn escape(letter: char) -> Option<char>
     ensures { result ≡ escape_of letter }
 {
@@ -110,7 +110,7 @@ fn escape(letter: char) -> Option<char>
     }
 }
 
-/// The character that stands behind a backslash.
+/// The character after a backslash.
 fn escaped(text: &[char]) -> Result<(char, &[char]), IRegexpErrorKind>
     ensures { Fronts ⊥ (λ c. c) (escape_front text.now) result }
 {
@@ -123,7 +123,7 @@ fn escaped(text: &[char]) -> Result<(char, &[char]), IRegexpErrorKind>
     }
 }
 
-/// The category or the character that stands behind a backslash.
+/// The category or the character after a backslash.
 fn escape_token<'t>(
     alloc: Global,
     text: &'t [char],
@@ -141,14 +141,14 @@ fn escape_token<'t>(
     ))
 }
 
-/// Whether the letter of a category stands here.
+/// Whether the text begins with the letter of a category.
 fn is_category_letter(text: &[char]) -> bool
     ensures { result ≡ is_category_letter text.now }
 {
     matches!(text, ['p' | 'P', ..])
 }
 
-/// The category that stands behind a backslash.
+/// The category after a backslash.
 fn category(text: &[char]) -> Result<(Item, &[char]), IRegexpErrorKind>
     ensures { Fronts ⊥ (λ i. i) (category_front text.now) result }
 {
@@ -165,7 +165,7 @@ fn category(text: &[char]) -> Result<(Item, &[char]), IRegexpErrorKind>
     }
 }
 
-/// The category of which the name stands in braces here.
+/// The category whose name is at the front, in braces.
 fn name(text: &[char]) -> Result<(Category, &[char]), IRegexpErrorKind>
     ensures { Fronts ⊥ (λ k. k) (name_front text.now) result }
 {
@@ -193,7 +193,7 @@ fn name(text: &[char]) -> Result<(Category, &[char]), IRegexpErrorKind>
     named(*group, Some(*letter), after)
 }
 
-/// The category of this name, which the text follows.
+/// The category with this name, and the text after it.
 fn named(
     group: char,
     letter: Option<char>,
@@ -207,7 +207,7 @@ fn named(
     }
 }
 
-/// The quantifier of which the counts stand behind a brace.
+/// The quantifier whose counts follow a brace.
 fn counts(text: &[char]) -> Result<(Token, &[char]), IRegexpErrorKind>
     ensures { Fronts (LargeCount (left_brace ∷ text.now)) token_of (counts_front text.now) result }
 {
@@ -249,7 +249,7 @@ fn counts(text: &[char]) -> Result<(Token, &[char]), IRegexpErrorKind>
     ))
 }
 
-/// The number that the digits at the front are.
+/// The number at the front.
 fn number(text: &[char]) -> Result<(usize, &[char]), IRegexpErrorKind>
     ensures { Fronts (LargeNumber text.now) (λ n. n) (number_front text.now) result }
 {
@@ -281,7 +281,7 @@ pub(crate) fn is_digit(c: char) -> bool
     '0' <= c && c <= '9'
 }
 
-/// The class that stands behind an opening bracket.
+/// The class after an opening bracket.
 fn bracket<'t>(alloc: Global, text: &'t [char]) -> Result<(Token, &'t [char]), IRegexpErrorKind>
     ensures { Fronts ⊥ token_of (bracket_front text.now) result }
 {
@@ -294,7 +294,7 @@ fn bracket<'t>(alloc: Global, text: &'t [char]) -> Result<(Token, &'t [char]), I
     class(alloc, false, text)
 }
 
-/// The class of which the items stand here.
+/// The class whose items begin here.
 fn class<'t>(
     alloc: Global,
     negated: bool,
@@ -313,7 +313,7 @@ fn class<'t>(
     class_from(alloc, negated, first, after)
 }
 
-/// The class that begins with this item, and of which the others stand here.
+/// The class that begins with this item; its other items follow.
 fn class_from<'t>(
     alloc: Global,
     negated: bool,
@@ -360,7 +360,7 @@ fn item(text: &[char]) -> Result<(Item, &[char]), IRegexpErrorKind>
     category(rest)
 }
 
-/// Whether a category stands here.
+/// Whether the text begins with a category.
 fn begins_category(text: &[char]) -> bool
     ensures { result ≡ begins_category text.now }
 {
@@ -389,7 +389,7 @@ fn characters(text: &[char]) -> Result<(Item, &[char]), IRegexpErrorKind>
     }
 }
 
-/// A character of a class, as it stands or behind a backslash.
+/// A character of a class, plain or escaped.
 fn member(text: &[char]) -> Result<(char, &[char]), IRegexpErrorKind>
     ensures { Fronts ⊥ (λ c. c) (member_front text.now) result }
 {
