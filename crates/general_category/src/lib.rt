@@ -1,4 +1,4 @@
-//! General categories of characters, and their groups, by the names that RFC 9485 has for them.
+//! Unicode's general categories of characters and their groups, by the names that RFC 9485 uses.
 //!
 //! ```
 //! let capital = Category::named('L', Some('u'));
@@ -15,10 +15,10 @@ mod table;
 
 use table::RUNS;
 
-/// The number of the category of characters that stand for nothing yet.
+/// The number of the category of unassigned code points.
 const UNASSIGNED: u32 = 27;
 
-/// A general category, or a group of categories: those with the numbers from the first to the last.
+/// A general category or a group of categories: those with numbers from the first to the last.
 ///
 /// ```
 /// let digit = Category::named('N', Some('d'));
@@ -31,8 +31,8 @@ pub struct Category {
 }
 
 impl Category {
-    /// The category of a group with this letter, as `Lu`, or with no letter the whole group, as `L`;
-    /// nothing, if RFC 9485 has no such name (section 3, `IsCategory`).
+    /// The category in the group with this letter, as `Lu`; without a letter the whole group, as `L`. `None`
+    /// if RFC 9485 has no such name (section 3, `IsCategory`).
     ///
     /// ```
     /// assert!(rt; Category::named('N', Some('d')).is_some());
@@ -192,7 +192,7 @@ fn general_category(c: char) -> u32
     search(&RUNS, c as u32)
 }
 
-/// The category of a code point in the runs, by binary search.
+/// The category of a code point in the runs. It is found by binary search.
 fn search(runs: &[u32], c: u32) -> u32
     requires { IsPartition runs.now }
     ensures { result ≡ run_category runs.now c }

@@ -1,7 +1,7 @@
 //! The runs of characters of one general category, in Unicode 14.0.0.
 // Written by tools/general-category. Do not edit.
 
-/// Of each run the code point behind its end, times 32, and the number of its category.
+/// For each run: the code point after its end, times 32, plus the number of its category.
 #[rattlefmt::skip]
 pub(crate) static RUNS: [u32; 3968] = [
     0x00000419, 0x00000432, 0x00000491, 0x000004B6, 0x00000511, 0x0000052D, 0x0000054E, 0x00000571,

@@ -1,4 +1,4 @@
-//! Whether values differ from each other.
+//! Whether values are all different.
 ghost use Rattle.std.specs.Prelude.{◌≡◌, IfOk};
 ghost use Rattle.tinyjson.specs.Text.{compact};
 ghost use Rattle.tinyjson.specs.View.{view, text, items_view};
@@ -10,8 +10,8 @@ use tinyjson::JsonValue;
 
 /// Whether no two of the values are equal. The only error is out of memory.
 ///
-/// It keeps their normal texts in order, so the time grows with the texts, and not with the pairs of values, whichever
-/// they are.
+/// It sorts their normal texts, so the time is nearly linear in the size of all texts, whatever the values
+/// are.
 ///
 /// ```
 /// let values = JsonValue::from_str(alloc, r#"[1, 1.0, "1"]"#)?;

@@ -1,5 +1,5 @@
-//! The order of JSON numbers as exact decimals, and their multiples: of any size, with any number of digits. And
-//! whether values differ from each other.
+//! Compares JSON numbers as exact decimals of any size: their order, and multiples. Also: whether values are
+//! all different.
 //!
 //! ```
 //! is_less(&small, &large) // true of 1e400 and 1e401

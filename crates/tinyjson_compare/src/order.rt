@@ -4,9 +4,9 @@ ghost use Rattle.tinyjson_compare.specs.Order.{is_at_most, is_less, is_magnitude
 
 use tinyjson::JsonNumber;
 
-/// Whether a number is less than another, as exact decimals.
+/// Whether the first number is less than the second, as exact decimals.
 ///
-/// It takes the time of one comparison of their digits, and no memory.
+/// It compares their digits once, and takes no memory.
 ///
 /// ```
 /// let small = JsonNumber::from_text(alloc, "0.1")?;
@@ -19,7 +19,7 @@ pub fn is_less(number: &JsonNumber, other: &JsonNumber) -> bool
     !is_at_most(other, number)
 }
 
-/// Whether a number is at most another, as exact decimals.
+/// Whether the first number is at most the second, as exact decimals.
 ///
 /// ```
 /// let one = JsonNumber::from_text(alloc, "1.0")?;
@@ -36,8 +36,8 @@ pub fn is_at_most(number: &JsonNumber, other: &JsonNumber) -> bool
     }
 }
 
-/// Whether the number is at most the other, both without their signs. Where the first digits do not stand at one
-/// place, that decides.
+/// Whether the first number is at most the second, both without their signs. If their first digits have
+/// different powers of ten, these decide.
 fn is_magnitude_at_most(number: &JsonNumber, other: &JsonNumber) -> bool
     ensures { result ≡ is_magnitude_at_most number.now.decimal other.now.decimal }
 {
@@ -55,7 +55,7 @@ fn is_magnitude_at_most(number: &JsonNumber, other: &JsonNumber) -> bool
     number.digits() <= other.digits()
 }
 
-/// The least power of ten that is above a number without its sign, for one that is not zero.
+/// The least power of ten that is greater than the number without its sign. The number is not zero.
 fn first_place(number: &JsonNumber) -> i128
     ensures { result ≡ first_place number.now.decimal }
 {

@@ -1,4 +1,4 @@
--- What stands at the front of a text, and what follows it; only private contracts use these words.
+-- The first part of a text, and the text after it; for private contracts.
 use Rattle.std.specs.Prelude.{ℕ, zero, suc, ◌+◌, ◌-◌, ◌*◌, Bool, true, false, ◌&&◌, ◌||◌, ◌==◌, nat_le, cond, List, [], ◌∷◌}
 use Rattle.std.specs.Prelude.{length}
 use Rattle.std.specs.Prelude.{Option, Some, None, option_map, option_and_then, ℤ, pos, neg_ℤ}
@@ -97,7 +97,7 @@ character_front quote [] = None
 character_front quote (c ∷ cs) =
     cond (c == reverse_solidus) (escape_front quote cs) (cond (is_unescaped quote c) (Some (c, cs)) None)
 
--- a turn of a loop: it ends, or ends with one more, or goes on after one more
+-- a turn of a loop: it ends, or ends with one more element, or goes on after one more
 pub data Turn (A : Type 0) : Type 0 where
   end : List ℕ → Turn A
   last : A → List ℕ → Turn A
@@ -152,7 +152,7 @@ whole_slice start stop q = (slice start stop q.0, q.1)
 abbrev pub slice_end : Option ℤ → Option ℤ × List ℕ → Option (PlainSelector × List ℕ)
 slice_end start p = option_map (whole_slice start p.0) (step_front p.1)
 
--- a slice behind its first colon
+-- a slice, after its first colon
 abbrev pub slice_front : Option ℤ → List ℕ → Option (PlainSelector × List ℕ)
 slice_front start xs = option_and_then (slice_end start) (bound_front (after_blanks xs))
 
@@ -189,7 +189,7 @@ filtered p = (filter p.0, p.1)
 abbrev pub as_plain : {E : Type 0} → PlainSelector × List ℕ → Selector E × List ℕ
 as_plain p = (plain p.0, p.1)
 
--- F finds an expression
+-- F parses an expression
 abbrev pub selector_front : {E : Type 0} → FrontOf E → FrontOf (Selector E)
 selector_front F [] = None
 selector_front F (c ∷ cs) =
@@ -207,7 +207,7 @@ separated p = separator p.0 p.1
 abbrev pub selection_turn : {E : Type 0} → FrontOf E → List ℕ → Option (Turn (Selector E))
 selection_turn F xs = option_and_then separated (selector_front F (after_blanks xs))
 
--- bracketed-selection behind its bracket
+-- bracketed-selection, after its bracket
 abbrev pub selection_front : {E : Type 0} → FrontOf E → FrontOf (List (Selector E))
 selection_front F xs = all_turns (selection_turn F) xs
 
@@ -226,14 +226,14 @@ descendant_of p = (descendant p.0, p.1)
 abbrev pub alone : {E : Type 0} → PlainSelector × List ℕ → List (Selector E) × List ℕ
 alone p = (plain p.0 ∷ [], p.1)
 
--- a descendant segment behind its two points
+-- a descendant segment, after its two points
 abbrev pub descendant_front : {E : Type 0} → FrontOf E → FrontOf (Segment E)
 descendant_front F [] = None
 descendant_front F (c ∷ cs) =
     cond (c == begin_array) (option_map descendant_of (selection_front F cs))
     (option_map descendant_of (option_map alone (shorthand_front (c ∷ cs))))
 
--- a segment behind its first point
+-- a segment, after its first point
 abbrev pub dotted_front : {E : Type 0} → FrontOf E → FrontOf (Segment E)
 dotted_front F [] = None
 dotted_front F (c ∷ cs) =
@@ -258,7 +258,7 @@ segments_front F xs = all_turns (segments_turn F) xs
 
 -- ---- logical expressions, and the blanks after them
 
--- the rest, behind one sign
+-- the text after one sign
 abbrev pub behind : ℕ → List ℕ → Option (List ℕ)
 behind sign [] = None
 behind sign (c ∷ cs) = cond (c == sign) (Some cs) None
@@ -272,11 +272,11 @@ closing p = option_map (closed p.0) (behind right_parenthesis p.1)
 abbrev pub tested : {E C : Type 0} → Origin → List (Segment E) × List ℕ → Operand E C × List ℕ
 tested o p = (test o p.0, after_blanks p.1)
 
--- where a query in a filter begins, by its first character
+-- the root of a query in a filter that begins with this character
 abbrev pub origin_of : ℕ → Option Origin
 origin_of c = cond (c == current_node_identifier) (Some CurrentNode) (cond (c == root_identifier) (Some Root) None)
 
--- the rest, behind a word
+-- the text after a word
 abbrev pub behind_word : List ℕ → List ℕ → Option (List ℕ)
 behind_word [] xs = Some xs
 behind_word (w ∷ ws) xs = option_and_then (behind_word ws) (behind w xs)
@@ -284,7 +284,7 @@ behind_word (w ∷ ws) xs = option_and_then (behind_word ws) (behind w xs)
 abbrev pub held : {A : Type 0} → A → List ℕ → A × List ℕ
 held a ys = (a, ys)
 
--- before the parenthesis that ends it
+-- what ends with a closing parenthesis
 abbrev pub in_parentheses : {A : Type 0} → A × List ℕ → Option (A × List ℕ)
 in_parentheses p = option_map (held p.0) (behind right_parenthesis (after_blanks p.1))
 
@@ -294,19 +294,19 @@ closed_front G xs = option_and_then in_parentheses (G (after_blanks xs))
 abbrev pub as_pattern : {E C : Type 0} → PatternFunction → C → C × List ℕ → Operand E C × List ℕ
 as_pattern f v p = (form.pattern f v p.0, after_blanks p.1)
 
--- behind the comma after the value
+-- the second argument, after the comma
 abbrev pub second_front : {E C : Type 0} → FrontOf C → PatternFunction → C → FrontOf (Operand E C)
 second_front G f v ys = option_map (as_pattern f v) (closed_front G ys)
 
--- behind the value
+-- after the first argument
 abbrev pub first_end : {E C : Type 0} → FrontOf C → PatternFunction → C × List ℕ → Option (Operand E C × List ℕ)
 first_end G f p = option_and_then (second_front G f p.0) (behind value_separator (after_blanks p.1))
 
--- behind the name of a function of a value and a pattern, and its parenthesis
+-- the arguments of `match` or `search`, after the name and the parenthesis
 abbrev pub arguments_front : {E C : Type 0} → FrontOf C → PatternFunction → FrontOf (Operand E C)
 arguments_front G f xs = option_and_then (first_end G f) (G (after_blanks xs))
 
--- by whether the name of the function stands there
+-- whether the text begins with the name of the function
 abbrev pub search_end : {E C : Type 0} → FrontOf C → Option (List ℕ) → Option (Operand E C × List ℕ)
 search_end G None = None
 search_end G (Some ys) = arguments_front G Search ys
@@ -358,20 +358,20 @@ literal_front (c ∷ cs) =
     cond (is_quote c) (option_map as_string (quoted_front c cs))
     (cond (is_number_char c) (number_front (c ∷ cs)) (word_front (c ∷ cs)))
 
--- before the bracket that ends it
+-- what ends with a closing bracket
 abbrev pub name_before : List ℕ × List ℕ → Option (SingularSegment × List ℕ)
 name_before p = option_map (λ ys. (value.name p.0, ys)) (behind end_array p.1)
 
 abbrev pub index_before : ℤ × List ℕ → Option (SingularSegment × List ℕ)
 index_before p = option_map (λ ys. (value.index p.0, ys)) (behind end_array p.1)
 
--- a segment of one selector behind its bracket
+-- a segment with one selector, after its bracket
 abbrev pub bracketed_front : List ℕ → Option (SingularSegment × List ℕ)
 bracketed_front [] = None
 bracketed_front (c ∷ cs) =
     cond (is_quote c) (option_and_then name_before (quoted_front c cs)) (option_and_then index_before (int_front (c ∷ cs)))
 
--- and behind its point
+-- a segment with one selector, after its point
 abbrev pub name_front : List ℕ → Option (SingularSegment × List ℕ)
 name_front [] = None
 name_front (c ∷ cs) = cond (is_name_first c) (Some (value.name (c ∷ (name_chars cs).0), (name_chars cs).1)) None
@@ -381,7 +381,7 @@ singular_segment_front [] = None
 singular_segment_front (c ∷ cs) =
     cond (c == begin_array) (bracketed_front cs) (cond (c == decimal_point) (name_front cs) None)
 
--- one more segment, or the end where none stands
+-- one more segment, or the end if there is none
 abbrev pub singular_end : List ℕ → Option (SingularSegment × List ℕ) → Turn SingularSegment
 singular_end xs None = end xs
 singular_end xs (Some p) = more p.0 p.1
@@ -411,7 +411,7 @@ as_count p = (form.count p.0.0 p.0.1, p.1)
 abbrev pub as_value : {E C : Type 0} → (Origin × List (Segment E)) × List ℕ → Function E C × List ℕ
 as_value p = (form.value p.0.0 p.0.1, p.1)
 
--- by whether the name of the function stands there
+-- whether the text begins with the name of the function
 abbrev pub value_end : {E C : Type 0} → FrontOf E → Option (List ℕ) → Option (Function E C × List ℕ)
 value_end F None = None
 value_end F (Some ys) = option_map as_value (closed_front (filter_query_front F) ys)
@@ -427,11 +427,11 @@ length_end F G xs (Some ys) = option_map as_length (closed_front G ys)
 abbrev pub function_front : {E C : Type 0} → FrontOf E → FrontOf C → FrontOf (Function E C)
 function_front F G xs = length_end F G xs (behind_word length_call xs)
 
--- whether a name of a function begins with the character
+-- the character begins the name of a function
 abbrev pub begins_call : ℕ → Bool
 begins_call c = (c == 108) || ((c == 99) || (c == 118))
 
--- whether a name of a function of regular expressions begins with the character
+-- the character begins `match` or `search`
 abbrev pub begins_pattern : ℕ → Bool
 begins_pattern c = (c == 109) || (c == 115)
 
@@ -453,7 +453,7 @@ abbrev pub comparable_front : {E C : Type 0} → FrontOf E → FrontOf C → Fro
 comparable_front F G [] = None
 comparable_front F G (c ∷ cs) = compared_front F G c cs (origin_of c)
 
--- the operator, by whether "=" follows its first sign
+-- the operator; `=` after its first sign decides
 abbrev pub or_equal : ComparisonOperator → ComparisonOperator → List ℕ → Option (List ℕ) → ComparisonOperator × List ℕ
 or_equal strict loose ys None = (strict, ys)
 or_equal strict loose ys (Some zs) = (loose, zs)
@@ -480,7 +480,7 @@ as_negated p = (negated p.0, p.1)
 abbrev pub as_comparison : {E C : Type 0} → ComparisonOperator → Comparable E C → Comparable E C × List ℕ → Basic E C × List ℕ
 as_comparison op l p = (comparison op l p.0, after_blanks p.1)
 
--- behind what may stand on the left: an operator and the right, or no operator
+-- after the left operand: an operator and the right one, or no operator
 abbrev pub operated_front : {E C : Type 0} → FrontOf E → FrontOf C → List ℕ → Comparable E C → Option (ComparisonOperator × List ℕ)
     → Option (Basic E C × List ℕ)
 operated_front F G xs l None = option_map as_affirmed (operand_front F G xs)
@@ -497,11 +497,11 @@ basic_front F G (c ∷ cs) =
     (cond (begins_pattern c) (option_map as_affirmed (operand_front F G (c ∷ cs)))
     (option_and_then (left_end F G (c ∷ cs)) (comparable_front F G (c ∷ cs)))))
 
--- what follows a sign that is written twice, and the blanks after it
+-- the text after the sign, written twice, and the blanks after it
 abbrev pub behind_both : ℕ → List ℕ → Option (List ℕ)
 behind_both sign xs = option_map after_blanks (option_and_then (behind sign) (behind sign xs))
 
--- after one, the sign and more, or the end
+-- after one: the sign and more, or the end
 abbrev pub joint : {A : Type 0} → A → List ℕ → Option (List ℕ) → Turn A
 joint a ys None = last a ys
 joint a ys (Some zs) = more a zs
@@ -512,7 +512,7 @@ joined sign p = joint p.0 p.1 (behind_both sign p.1)
 abbrev pub joined_turn : {A : Type 0} → ℕ → FrontOf A → List ℕ → Option (Turn A)
 joined_turn sign F xs = option_map (joined sign) (F xs)
 
--- one or more, joined by the sign, written twice
+-- one or more, with the sign, written twice, between each two
 abbrev pub joined_front : {A : Type 0} → ℕ → FrontOf A → FrontOf (List A)
 joined_front sign F xs = all_turns (joined_turn sign F) xs
 

@@ -1,7 +1,8 @@
 -- The grammar of RFC 9535, with its five functions: which text is which query. A rule of the RFC's ABNF that
--- has parts is a type here: `Rule xs v ys` says that the characters xs begin with a text of the rule, which means v, and that ys follow
--- it. A run of blanks, of digits, or of the characters of a name or of a number is taken whole; what may follow it in the RFC's rules
--- never begins with one more of its characters.
+-- has parts is a type here. `Rule xs v ys` means that the characters xs begin with a text of the rule, that v
+-- is its value, and that ys follow it. A run of blanks, of digits, or of the characters of a name or of a
+-- number is as long as possible; in the RFC's rules such a run is never followed by one more of its
+-- characters.
 use Rattle.std.specs.Prelude.{◌≡◌, ℕ, zero, suc, ◌+◌, ◌-◌, ◌*◌, Bool, true, false, not, ◌&&◌, ◌||◌, ◌==◌, nat_le, cond, List, [], ◌∷◌}
 use Rattle.std.specs.Prelude.{◌++◌, codes, Option, Some, None, ℤ, pos, neg_ℤ}
 use Rattle.std.specs.Char.{digit_value}
@@ -65,9 +66,9 @@ equals_sign = 61
 abbrev pub greater_than_sign : ℕ
 greater_than_sign = 62
 
--- the runs
+-- runs of characters
 
--- S = *B: what follows the blanks
+-- S = *B: the text after the blanks
 abbrev pub after_blanks : List ℕ → List ℕ
 after_blanks [] = []
 after_blanks (c ∷ cs) = cond (is_white c) (after_blanks cs) (c ∷ cs)
@@ -92,22 +93,22 @@ is_digit1 c = nat_le 49 c && nat_le c 57
 abbrev pub is_name_char : ℕ → Bool
 is_name_char c = is_name_first c || is_digit c
 
--- *name-char: those at the front, and what follows them
+-- *name-char: the longest such front, and the text after it
 abbrev pub name_chars : List ℕ → List ℕ × List ℕ
 name_chars [] = ([], [])
 name_chars (c ∷ cs) = cond (is_name_char c) (c ∷ (name_chars cs).0, (name_chars cs).1) ([], c ∷ cs)
 
--- *DIGIT: the number of which the digits at the front are those after the digits of n, and what follows them
+-- *DIGIT: the number of the longest such front, after the digits of n, and the text after it
 abbrev pub digits_on : ℕ → List ℕ → ℕ × List ℕ
 digits_on n [] = (n, [])
 digits_on n (c ∷ cs) = cond (is_digit c) (digits_on (10 * n + (c - digit_zero)) cs) (n, c ∷ cs)
 
--- DIGIT, "-", "+", "." and "e", which stands for both cases
+-- DIGIT, "-", "+", "." and "e" in both cases
 abbrev pub is_number_char : ℕ → Bool
 is_number_char c =
     is_digit c || ((c == minus_sign) || ((c == plus_sign) || ((c == decimal_point) || ((c == letter_e) || (c == capital_e)))))
 
--- the characters of a number at the front, and what follows them
+-- the longest front of such characters, and the text after it
 abbrev pub number_chars : List ℕ → List ℕ × List ℕ
 number_chars [] = ([], [])
 number_chars (c ∷ cs) = cond (is_number_char c) (c ∷ (number_chars cs).0, (number_chars cs).1) ([], c ∷ cs)
@@ -121,7 +122,7 @@ false_word = codes "false"
 abbrev pub null_word : List ℕ
 null_word = codes "null"
 
--- function names, each with the parenthesis behind it
+-- function names, each with its parenthesis
 abbrev pub length_call : List ℕ
 length_call = codes "length("
 
@@ -135,7 +136,7 @@ abbrev pub pattern_call : PatternFunction → List ℕ
 pattern_call Match = codes "match("
 pattern_call Search = codes "search("
 
--- whether the text begins with the character
+-- the text begins with the character
 abbrev pub begins_with : ℕ → List ℕ → Bool
 begins_with c [] = false
 begins_with c (d ∷ ds) = d == c
@@ -159,11 +160,11 @@ pub data IntText : List ℕ → ℤ → List ℕ → Type 0 where
 
 -- ---- strings (2.3.1.1)
 
--- unescaped, and the quote that is not the string's own
+-- unescaped, and the other kind of quote
 abbrev pub is_unescaped : ℕ → ℕ → Bool
 is_unescaped quote c = nat_le space c && (not (c == quote) && not (c == reverse_solidus))
 
--- escapable, but for a code, and the string's own quote
+-- escapable, except for codes, and the string's own quote
 abbrev pub escape_of : ℕ → ℕ → Option ℕ
 escape_of quote c =
     cond (c == quote) (Some c)
@@ -220,7 +221,7 @@ pub data StepText : List ℕ → Option ℤ → List ℕ → Type 0 where
   empty : {xs : List ℕ} → StepText (name_separator ∷ xs) None xs
   present : {xs ys : List ℕ} {i : ℤ} → IntText (after_blanks xs) i ys → StepText (name_separator ∷ xs) (Some i) ys
 
--- selector, but for filter-selector
+-- selector, except filter-selector
 pub data PlainSelectorText : List ℕ → PlainSelector → List ℕ → Type 0 where
   name : {xs cs ys : List ℕ} → StringText xs cs ys → PlainSelectorText xs (form.name cs) ys
   wildcard : {xs : List ℕ} → PlainSelectorText (asterisk ∷ xs) form.wildcard xs
@@ -228,18 +229,18 @@ pub data PlainSelectorText : List ℕ → PlainSelector → List ℕ → Type 0 
       → BoundText (after_blanks ys) end zs → StepText zs step us → PlainSelectorText xs (form.slice start end step) us
   index : {xs ys : List ℕ} {i : ℤ} → IntText xs i ys → PlainSelectorText xs (form.index i) ys
 
--- the texts of something
+-- the texts of values of a type
 abbrev pub TextsOf : Type 0 → Type 1
 TextsOf A = List ℕ → A → List ℕ → Type 0
 
--- selector, where T are the texts of an expression
+-- selector; T are the texts of an expression
 pub data SelectorText {E : Type 0} (T : TextsOf E) : List ℕ → Selector E → List ℕ → Type 0 where
   plain : {xs ys : List ℕ} {v : PlainSelector} → PlainSelectorText xs v ys → SelectorText T xs (form.plain v) ys
   filter : {xs ys : List ℕ} {e : E} → T (after_blanks xs) e ys → SelectorText T (question_mark ∷ xs) (form.filter e) ys
 
 -- ---- segments (2.5)
 
--- bracketed-selection behind its bracket: S selector *(S "," S selector) S "]"
+-- bracketed-selection after its bracket: S selector *(S "," S selector) S "]"
 pub data SelectionText {E : Type 0} (T : TextsOf E) : List ℕ → List (Selector E) → List ℕ → Type 0 where
   last : {xs ys zs : List ℕ} {v : Selector E} → SelectorText T (after_blanks xs) v ys → after_blanks ys ≡ end_array ∷ zs
       → SelectionText T xs (v ∷ []) zs
@@ -270,7 +271,8 @@ pub data SegmentsText {E : Type 0} (T : TextsOf E) : List ℕ → List (Segment 
 
 -- ---- comparisons (2.3.5.1)
 
--- number: (int / "-0") [ frac ] [ exp ], which is the number of RFC 8259, section 6, with that exact decimal; its power of ten fits an i64
+-- number: (int / "-0") [ frac ] [ exp ]: a number of RFC 8259, section 6, as an exact decimal whose power of
+-- ten fits an i64
 pub data NumberText : List ℕ → Decimal → List ℕ → Type 0 where
   run : {xs ds ys : List ℕ} {d : Decimal} → number_chars xs ≡ (ds, ys) → IsNumberText ds d → NumberText xs d ys
 
@@ -306,7 +308,8 @@ pub data FilterQueryText {E : Type 0} (T : TextsOf E) : List ℕ → Origin × L
 pub data ClosedText {A : Type 0} (T : TextsOf A) : List ℕ → A → List ℕ → Type 0 where
   closed : {xs ys zs : List ℕ} {a : A} → T (after_blanks xs) a ys → after_blanks ys ≡ right_parenthesis ∷ zs → ClosedText T xs a zs
 
--- function-expr, as 2.4.3 to 2.4.8 have it, where A are the texts of a value: `length` takes a value, `count` and `value` take a query
+-- function-expr, as in 2.4.3 to 2.4.8; A are the texts of a value: `length` takes a value, `count` and
+-- `value` take a query
 pub data FunctionText {E C : Type 0} (T : TextsOf E) (A : TextsOf C) : List ℕ → Function E C → List ℕ → Type 0 where
   length_of : {xs ys : List ℕ} {c : C} → ClosedText A xs c ys → FunctionText T A (length_call ++ xs) (form.length c) ys
   count_of : {xs ys : List ℕ} {o : Origin} {ss : List (Segment E)} → ClosedText (FilterQueryText T) xs (o, ss) ys
@@ -334,7 +337,8 @@ pub data OperatorText : List ℕ → ComparisonOperator → List ℕ → Type 0 
 
 -- ---- logical expressions (2.3.5.1)
 
--- paren-expr and test-expr, but for their logical-not-op; of the functions `match` and `search` are tests, of two values (2.4.6, 2.4.7)
+-- paren-expr and test-expr, without their logical-not-op; of the functions, `match` and `search` are tests of
+-- two values (2.4.6, 2.4.7)
 pub data OperandText {E C : Type 0} (T : TextsOf E) (A : TextsOf C) : List ℕ → Operand E C → List ℕ → Type 0 where
   parenthesized : {xs ys zs : List ℕ} {e : E} → T (after_blanks xs) e ys → after_blanks ys ≡ right_parenthesis ∷ zs
       → OperandText T A (left_parenthesis ∷ xs) (form.parenthesized e) zs
@@ -353,7 +357,7 @@ pub data BasicText {E C : Type 0} (T : TextsOf E) (A : TextsOf C) : List ℕ →
   comparison : {xs ys zs us : List ℕ} {l r : Comparable E C} {op : ComparisonOperator} → ComparableText T A xs l ys
       → OperatorText (after_blanks ys) op zs → ComparableText T A (after_blanks zs) r us → BasicText T A xs (form.comparison op l r) us
 
--- one or more of what T are the texts of, with the sign, written twice, between each two: *(S sign sign S ..)
+-- one or more texts of T, with the sign, written twice, between each two: *(S sign sign S ..)
 pub data JoinedText {A : Type 0} (sign : ℕ) (T : TextsOf A) : List ℕ → List A → List ℕ → Type 0 where
   last : {xs ys : List ℕ} {a : A} → T xs a ys → JoinedText sign T xs (a ∷ []) ys
   more : {xs ys zs us : List ℕ} {a : A} {as' : List A} → T xs a ys → after_blanks ys ≡ sign ∷ sign ∷ zs
@@ -367,7 +371,7 @@ ConjunctionText T A = JoinedText ampersand (BasicText T A)
 abbrev pub DisjunctionText : {E C : Type 0} → TextsOf E → TextsOf C → TextsOf (List (List (Basic E C)))
 DisjunctionText T A = JoinedText vertical_line (ConjunctionText T A)
 
--- logical-expr, and a function-argument that is a value, of which fewer than n stand in each other
+-- logical-expr, and a function-argument that is a value, of which fewer than n are nested
 abbrev mutual
   pub ExpressionText : (n : ℕ) → TextsOf (Expression n)
   ExpressionText zero xs e ys = ⊥
@@ -377,7 +381,7 @@ abbrev mutual
   ArgumentText zero xs c ys = ⊥
   ArgumentText (suc n) xs c ys = ComparableText (ExpressionText n) (ArgumentText n) xs c ys
 
--- jsonpath-query (2.1), where at most n logical expressions stand in each other
+-- jsonpath-query (2.1), with at most n nested logical expressions
 pub data QueryText (n : ℕ) : List ℕ → List (Segment (Expression n)) → Type 0 where
   query : {xs : List ℕ} {ss : List (Segment (Expression n))} → SegmentsText (ExpressionText n) xs ss []
       → QueryText n (root_identifier ∷ xs) ss

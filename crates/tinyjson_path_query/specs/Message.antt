@@ -12,6 +12,6 @@ kind_message NumberOutOfRange = codes "a number whose power of ten is out of ran
 kind_message TooDeep = codes "more than 64 expressions in each other"
 kind_message OutOfMemory = codes "out of memory"
 
--- the message of an error: that of its kind, and where it is
+-- the message of an error: that of its kind, and its place
 abbrev pub error_message : ParseError → List ℕ
 error_message e = kind_message e.kind ++ (codes " at character " ++ decimal e.place)

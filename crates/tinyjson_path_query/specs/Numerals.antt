@@ -1,16 +1,16 @@
--- Which number a whole text is, found from left to right; only private contracts use these words.
+-- Which number a whole text is, from left to right; for private contracts.
 use Rattle.std.specs.Prelude.{ℕ, Bool, true, false, ◌==◌, cond, List, [], ◌∷◌, Option, Some, None, option_and_then}
 use Rattle.std.specs.Char.{is_ascii_digit}
 use Rattle.tinyjson.specs.Characters.{minus_sign, decimal_point}
 use Rattle.tinyjson.specs.Number.{Decimal}
 use Rattle.tinyjson.specs.Numeral.{Numeral, numeral, has_leading_zero, is_exponent_letter, is_sign, value, in_range}
 
--- the digits at the front, and what follows them
+-- the digits at the front, and the text after them
 abbrev pub digit_run : List ℕ → List ℕ × List ℕ
 digit_run [] = ([], [])
 digit_run (c ∷ cs) = cond (is_ascii_digit c) (c ∷ (digit_run cs).0, (digit_run cs).1) ([], c ∷ cs)
 
--- an exponent behind its letter l and its sign
+-- an exponent, after its letter l and its sign
 abbrev pub power_end : Bool → List ℕ → List ℕ → ℕ → Option ℕ → List ℕ × List ℕ → Option Numeral
 power_end b ds fs l s ([], rest) = None
 power_end b ds fs l s (e ∷ es, []) = Some (numeral b ds fs (Some (record { letter = l; sign = s; digits = e ∷ es })))
@@ -25,7 +25,7 @@ abbrev pub exponent_end : Bool → List ℕ → List ℕ → List ℕ → Option
 exponent_end b ds fs [] = Some (numeral b ds fs None)
 exponent_end b ds fs (c ∷ cs) = cond (is_exponent_letter c) (signed_end b ds fs c cs) None
 
--- behind the point
+-- a fraction, after the point
 abbrev pub fraction_end : Bool → List ℕ → List ℕ × List ℕ → Option Numeral
 fraction_end b ds ([], rest) = None
 fraction_end b ds (f ∷ fs, rest) = exponent_end b ds (f ∷ fs) rest
@@ -46,6 +46,6 @@ spelled_numeral (c ∷ cs) = cond (c == minus_sign) (whole_end true (digit_run c
 abbrev pub ranged : Numeral → Option Decimal
 ranged n = cond (in_range (value n)) (Some (value n)) None
 
--- the decimal of which the text is a number
+-- the decimal that the text spells
 abbrev pub spelled_decimal : List ℕ → Option Decimal
 spelled_decimal ds = option_and_then ranged (spelled_numeral ds)

@@ -1,4 +1,4 @@
-//! Literals, and queries that select one node at most.
+//! Literals, and queries that select at most one node.
 ghost use Rattle.std.specs.Prelude.{◌≡◌};
 ghost use Rattle.tinyjson_path_query.specs.Forms.{AreSingularSegmentsIn};
 ghost use Rattle.tinyjson_path_query.specs.Fronts.{number_front, word_front, literal_front, bracketed_front, name_front};
@@ -18,7 +18,7 @@ use crate::string::quoted;
 use std::alloc::Global;
 use tinyjson::{JsonNumber, JsonNumberError};
 
-/// Where a query inside a filter begins that begins with this character.
+/// The root of a query inside a filter that begins with this character.
 pub(crate) fn origin(first: char) -> Option<Origin>
     ensures { result ≡ origin_of first }
 {
@@ -29,21 +29,21 @@ pub(crate) fn origin(first: char) -> Option<Origin>
     }
 }
 
-/// Whether the name of a function begins with the character.
+/// Whether the character begins the name of a function.
 pub(crate) fn begins_call(first: char) -> bool
     ensures { result ≡ begins_call first }
 {
     first == 'l' || first == 'c' || first == 'v'
 }
 
-/// Whether `match` or `search` begins with the character, and no value.
+/// Whether the character begins `match` or `search`, and no value.
 pub(crate) fn begins_pattern(first: char) -> bool
     ensures { result ≡ begins_pattern first }
 {
     first == 'm' || first == 's'
 }
 
-/// Reads segments of one selector up to where none stands.
+/// Parses segments with one selector each, as many as there are.
 pub(crate) fn singular_segments(
     alloc: Global,
     text: &[char],
@@ -68,7 +68,7 @@ pub(crate) fn singular_segments(
     }
 }
 
-/// Reads a segment of one selector.
+/// Parses a segment with one selector.
 fn singular_segment(alloc: Global, text: &[char]) -> Result<(SingularSegment, &[char]), Refusal>
     ensures { Fronts IsSingularSegment (singular_segment_front text.now) result }
 {
@@ -84,7 +84,7 @@ fn singular_segment(alloc: Global, text: &[char]) -> Result<(SingularSegment, &[
     name(alloc, rest)
 }
 
-/// Reads the one name or index that stands behind a bracket, and the bracket that ends it.
+/// Parses the name or index after a bracket, and the closing bracket.
 fn bracketed(alloc: Global, text: &[char]) -> Result<(SingularSegment, &[char]), Refusal>
     ensures { Fronts IsSingularSegment (bracketed_front text.now) result }
 {
@@ -105,7 +105,7 @@ fn bracketed(alloc: Global, text: &[char]) -> Result<(SingularSegment, &[char]),
     Ok((SingularSegment::Index(index), behind))
 }
 
-/// Reads the name that stands behind a point.
+/// Parses the name after a point.
 fn name(alloc: Global, text: &[char]) -> Result<(SingularSegment, &[char]), Refusal>
     ensures { Fronts IsSingularSegment (name_front text.now) result }
 {
@@ -121,7 +121,7 @@ fn name(alloc: Global, text: &[char]) -> Result<(SingularSegment, &[char]), Refu
     Ok((SingularSegment::Name(name), after))
 }
 
-/// Reads a literal.
+/// Parses a literal.
 pub(crate) fn literal(alloc: Global, text: &[char]) -> Result<(Literal, &[char]), Refusal>
     ensures { Fronts IsLiteral (literal_front text.now) result }
 {
@@ -138,7 +138,7 @@ pub(crate) fn literal(alloc: Global, text: &[char]) -> Result<(Literal, &[char])
     word(text)
 }
 
-/// Reads a number.
+/// Parses a number.
 fn number(alloc: Global, text: &[char]) -> Result<(Literal, &[char]), Refusal>
     ensures { Fronts IsLiteral (number_front text.now) result }
 {
@@ -158,7 +158,7 @@ fn number(alloc: Global, text: &[char]) -> Result<(Literal, &[char]), Refusal>
     }
 }
 
-/// Reads `true`, `false` or `null`.
+/// Parses `true`, `false` or `null`.
 fn word(text: &[char]) -> Result<(Literal, &[char]), Refusal>
     ensures { Fronts IsLiteral (word_front text.now) result }
 {
@@ -174,7 +174,7 @@ fn word(text: &[char]) -> Result<(Literal, &[char]), Refusal>
     Err(Refusal::invalid(text))
 }
 
-/// The operator that stands here, and what follows it.
+/// The operator at the front, and the text after it.
 pub(crate) fn operator(text: &[char]) -> Option<(ComparisonOperator, &[char])>
     ensures { FoundAs (operator_front text.now) result }
 {
@@ -196,7 +196,7 @@ pub(crate) fn operator(text: &[char]) -> Option<(ComparisonOperator, &[char])>
     }
 }
 
-/// The one operator, or the other where `=` stands here, and what follows it.
+/// The first operator or, if the text begins with `=`, the second; and the text after it.
 fn or_equal(
     strict: ComparisonOperator,
     loose: ComparisonOperator,

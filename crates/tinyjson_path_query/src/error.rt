@@ -7,14 +7,14 @@ use std::alloc::{AllocError, AllocFailed};
 use std::error::Error;
 use std::fmt;
 
-/// Why a text is refused.
+/// Why a text is rejected.
 #[derive(Clone, Copy, Debug, PartialEq, Eq)]
 pub enum ParseErrorKind {
     /// The text is no query of RFC 9535.
     Invalid,
-    /// The power of ten of a number that is compared is out of the range of `i64`.
+    /// The power of ten of a number that is compared is outside the range of `i64`.
     NumberOutOfRange,
-    /// More than 64 logical expressions and values passed to functions stand in each other.
+    /// More than 64 logical expressions and function arguments are nested.
     TooDeep,
     /// An allocation failed.
     OutOfMemory,
@@ -33,7 +33,7 @@ impl fmt::Display for ParseErrorKind {
     }
 }
 
-/// Why a text is refused, and where.
+/// Why a text is rejected, and where.
 ///
 /// ```
 /// if let Err(error) = Query::parse(alloc, "$.a[01]") {
@@ -45,7 +45,7 @@ impl fmt::Display for ParseErrorKind {
 #[derive(Clone, Copy, Debug, PartialEq, Eq)]
 pub struct ParseError {
     pub kind: ParseErrorKind,
-    /// How many characters stand before what is refused.
+    /// The number of characters before what is rejected.
     pub place: usize,
 }
 
@@ -60,16 +60,16 @@ impl fmt::Display for ParseError {
 
 impl Error for ParseError {}
 
-/// Why what stands somewhere is refused.
+/// Why a text is rejected, and at which place.
 #[derive(Clone, Copy)]
 pub(crate) struct Refusal {
     pub(crate) kind: ParseErrorKind,
-    /// How many characters stand from there on.
+    /// The number of characters from there to the end.
     pub(crate) left: usize,
 }
 
 impl Refusal {
-    /// What stands here is not in the grammar.
+    /// The text at this place is not in the grammar.
     pub(crate) fn invalid(rest: &[char]) -> Refusal
         ensures { result.kind ≡ ParseErrorKind.Invalid }
     {

@@ -10,10 +10,11 @@ ghost use Rattle.tinyjson_path_query.specs.Reading.{FrontsAs, IsRest, PushesName
 use crate::error::Refusal;
 use std::alloc::AllocError;
 
-/// The greatest integer of which each smaller one is exact in a double (RFC 9535, 2.1).
+/// The greatest integer of the interoperable range: it and all smaller ones are exact in a double (RFC 9535,
+/// 2.1).
 const GREATEST_EXACT: u64 = 9_007_199_254_740_991;
 
-/// What follows the blanks.
+/// The text after the blanks.
 pub(crate) fn after_blanks(text: &[char]) -> &[char]
     ensures { result.now ≡ after_blanks text.now }
 {
@@ -33,7 +34,7 @@ fn is_blank(c: char) -> bool
     matches!(c, ' ' | '\t' | '\n' | '\r')
 }
 
-/// Whether a name may begin with the character where it stands without quotes.
+/// Whether the character may begin a name without quotes.
 pub(crate) fn is_name_first(c: char) -> bool
     ensures { result ≡ is_name_first c }
 {
@@ -52,7 +53,7 @@ fn is_digit(c: char) -> bool
     '0' <= c && c <= '9'
 }
 
-/// Whether the character stands in numbers.
+/// Whether the character occurs in numbers.
 pub(crate) fn is_number_char(c: char) -> bool
     ensures { result ≡ is_number_char c }
 {
@@ -65,7 +66,7 @@ pub(crate) fn is_quote(c: char) -> bool
     c == '"' || c == '\''
 }
 
-/// What follows the sign, if it stands here.
+/// The text after the sign, if it begins with it.
 pub(crate) fn behind(sign: char, text: &[char]) -> Option<&[char]>
     ensures { IsRest (behind sign text.now) result }
 {
@@ -73,7 +74,7 @@ pub(crate) fn behind(sign: char, text: &[char]) -> Option<&[char]>
     if *first == sign { Some(rest) } else { None }
 }
 
-/// What follows the sign, if it stands here twice, and the blanks after it.
+/// The text after the sign and blanks, if it begins with the sign twice.
 pub(crate) fn behind_both(sign: char, text: &[char]) -> Option<&[char]>
     ensures { IsRest (behind_both sign text.now) result }
 {
@@ -82,7 +83,7 @@ pub(crate) fn behind_both(sign: char, text: &[char]) -> Option<&[char]>
     Some(after_blanks(rest))
 }
 
-/// What follows the word, if it stands here.
+/// The text after the word, if it begins with it.
 pub(crate) fn behind_word<'t>(word: &[char], text: &'t [char]) -> Option<&'t [char]>
     ensures { IsRest (behind_word word.now text.now) result }
 {
@@ -95,7 +96,7 @@ pub(crate) fn behind_word<'t>(word: &[char], text: &'t [char]) -> Option<&'t [ch
     Some(rest)
 }
 
-/// Whether an integer begins here.
+/// Whether the text begins with an integer.
 pub(crate) fn begins_integer(text: &[char]) -> bool
     ensures { result ≡ begins_int text.now }
 {
@@ -112,7 +113,7 @@ pub(crate) fn push(string: &mut String, c: char) -> Result<(), AllocError>
     string.push(c)
 }
 
-/// Appends the characters of a name, and returns what follows them.
+/// Appends the characters of a name, and returns the text after them.
 pub(crate) fn push_name_chars<'t>(
     name: &mut String,
     all: &'t [char],
@@ -130,7 +131,7 @@ pub(crate) fn push_name_chars<'t>(
     Ok(rest)
 }
 
-/// Appends the characters of a number, and returns what follows them.
+/// Appends the characters of a number, and returns the text after them.
 pub(crate) fn push_number_chars<'t>(
     number: &mut String,
     all: &'t [char],
@@ -149,7 +150,7 @@ pub(crate) fn push_number_chars<'t>(
     Ok(rest)
 }
 
-/// Appends a character of one byte.
+/// Appends an ASCII character.
 fn push_ascii(string: &mut String, c: char) -> Result<(), AllocError>
     requires { c < 128 }
     ensures { IfOk result (λ _. string_bytes string.new ≡ string_bytes string.old ++ c ∷ []) }
@@ -157,7 +158,7 @@ fn push_ascii(string: &mut String, c: char) -> Result<(), AllocError>
     string.push(c)
 }
 
-/// Reads an integer.
+/// Parses an integer.
 pub(crate) fn integer(text: &[char]) -> Result<(i64, &[char]), Refusal>
     ensures { FrontsAs (int_front text.now) result }
 {
@@ -175,7 +176,7 @@ pub(crate) fn integer(text: &[char]) -> Result<(i64, &[char]), Refusal>
     Ok((magnitude as i64, after))
 }
 
-/// Reads an integer that has no sign and is not zero.
+/// Parses an integer without a sign, other than 0.
 fn magnitude(text: &[char]) -> Result<(u64, &[char]), Refusal>
     ensures read { FrontsAs (magnitude_front text.now) result }
     ensures exact { IfOk result (λ r. r.0 ≤ greatest_exact) }

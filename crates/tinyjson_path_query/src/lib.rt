@@ -1,4 +1,4 @@
-//! Queries of JSONPath (RFC 9535), as a text and as data.
+//! Queries of JSONPath (RFC 9535): the parser, and the types for a parsed query.
 //!
 //! ```
 //! let query = Query::parse(alloc, "$.store.book[*].author")?;

@@ -1,4 +1,4 @@
-//! Reading the text of a query.
+//! Parses the text of a query.
 ghost use Rattle.std.specs.Prelude.{◌≡◌, ◌∷◌, [], IfOk};
 ghost use Rattle.std.specs.Str.{chars};
 ghost use Rattle.tinyjson_path_query.specs.Forms.{IsPlain, IsOneSelector, IsSelector, AreSelectorsIn, IsSegment, AreSegmentsIn};
@@ -27,12 +27,12 @@ use crate::query::{
 use crate::string::quoted;
 use std::alloc::{AllocError, Global};
 
-/// How many logical expressions and values passed to functions may stand in each other.
+/// How many logical expressions and function arguments may be nested.
 const NESTING_LIMIT: usize = 64;
 
 impl Query {
-    /// Reads the text of a query (RFC 9535), with at most 64 logical expressions and values
-    /// passed to functions in each other. After an error nothing is left of what was read.
+    /// Parses the text of a query (RFC 9535), with at most 64 nested logical expressions and function
+    /// arguments. After an error everything is freed.
     ///
     /// ```
     /// let query = Query::parse(alloc, "$.store.book[*].author")?;
@@ -65,7 +65,7 @@ fn characters(alloc: Global, text: &str) -> Result<Vec<char>, AllocError>
     text.chars().collect(alloc)
 }
 
-/// Reads a whole query, in which so many expressions and values passed to functions may stand in each other.
+/// Parses a whole query, with at most `levels` nested expressions and function arguments.
 fn query(alloc: Global, levels: usize, text: &[char]) -> Result<Query, Refusal>
     ensures { ReadsQuery levels text.now result }
 {
@@ -82,7 +82,7 @@ fn query(alloc: Global, levels: usize, text: &[char]) -> Result<Query, Refusal>
     Ok(Query { segments })
 }
 
-/// Reads segments up to where none begins.
+/// Parses segments, as many as there are.
 #[cycle(reader)]
 fn segments<'t>(
     alloc: Global,
@@ -111,7 +111,7 @@ fn begins_segment(text: &[char]) -> bool
     *first == '[' || *first == '.'
 }
 
-/// Reads a segment.
+/// Parses a segment.
 #[cycle(reader)]
 fn segment<'t>(
     alloc: Global,
@@ -141,7 +141,7 @@ fn segment<'t>(
     Ok((Segment::Child(selectors), after))
 }
 
-/// Reads a descendant segment behind its two points.
+/// Parses a descendant segment after its two points.
 #[cycle(reader)]
 fn descendant<'t>(
     alloc: Global,
@@ -162,7 +162,7 @@ fn descendant<'t>(
     Ok((Segment::Descendant(selectors), after))
 }
 
-/// Reads the one selector that stands behind a point.
+/// Parses the single selector after a point.
 fn shorthand<'t>(alloc: Global, text: &'t [char]) -> Result<(Vec<Selector>, &'t [char]), Refusal>
     ensures { Fronts IsOneSelector (shorthand_front text.now) result }
 {
@@ -184,7 +184,7 @@ fn shorthand<'t>(alloc: Global, text: &'t [char]) -> Result<(Vec<Selector>, &'t 
     Ok((selectors, after))
 }
 
-/// Reads selectors behind a bracket, and the bracket that ends them.
+/// Parses selectors after a bracket, and the closing bracket.
 #[cycle(reader)]
 fn selection<'t>(
     alloc: Global,
@@ -212,7 +212,7 @@ fn selection<'t>(
     }
 }
 
-/// Reads a selector, and the blanks after it.
+/// Parses a selector, and the blanks after it.
 #[cycle(reader)]
 fn selector<'t>(
     alloc: Global,
@@ -232,7 +232,7 @@ fn selector<'t>(
     plain_selector(alloc, text)
 }
 
-/// Reads a logical expression, and the blanks after it, if so many may stand in each other here.
+/// Parses a logical expression and the blanks after it, if one more may be nested here.
 #[cycle(reader)]
 fn expression<'t>(
     alloc: Global,
@@ -259,7 +259,7 @@ fn expression<'t>(
     }
 }
 
-/// Reads what `&&` joins, and the blanks after it.
+/// Parses the operands of `&&`, and the blanks after them.
 #[cycle(reader)]
 fn conjunction<'t>(
     alloc: Global,
@@ -281,7 +281,7 @@ fn conjunction<'t>(
     }
 }
 
-/// Reads one condition, and the blanks after it.
+/// Parses one condition, and the blanks after it.
 #[cycle(reader)]
 fn basic<'t>(
     alloc: Global,
@@ -315,7 +315,7 @@ fn basic<'t>(
     ))
 }
 
-/// Reads a test by `match` or `search` (RFC 9535, 2.4.6 and 2.4.7), and the blanks after it.
+/// Parses a test by `match` or `search` (RFC 9535, 2.4.6 and 2.4.7), and the blanks after it.
 #[cycle(reader)]
 fn pattern_test<'t>(
     alloc: Global,
@@ -334,7 +334,7 @@ fn pattern_test<'t>(
     pattern_arguments(alloc, levels, PatternFunction::Search, rest)
 }
 
-/// Reads the two values that such a function takes, the parenthesis that ends it, and the blanks after it.
+/// Parses the two arguments of such a function, the closing parenthesis, and the blanks after it.
 #[cycle(reader)]
 fn pattern_arguments<'t>(
     alloc: Global,
@@ -357,7 +357,7 @@ fn pattern_arguments<'t>(
     ))
 }
 
-/// Reads what may stand beside an operator.
+/// Parses an operand of a comparison.
 #[cycle(reader)]
 fn comparable<'t>(
     alloc: Global,
@@ -383,7 +383,7 @@ fn comparable<'t>(
     Ok((Comparable::Literal(literal), after))
 }
 
-/// Reads a function with its argument (RFC 9535, 2.4.4, 2.4.5 and 2.4.8).
+/// Parses a function with its argument (RFC 9535, 2.4.4, 2.4.5 and 2.4.8).
 #[cycle(reader)]
 fn function<'t>(
     alloc: Global,
@@ -408,7 +408,7 @@ fn function<'t>(
     Ok((FunctionExpression::Value(query), after))
 }
 
-/// Reads the one argument of a function of a value, and the parenthesis that ends it.
+/// Parses the argument of a function of a value, and the closing parenthesis.
 #[cycle(reader)]
 fn value_argument<'t>(
     alloc: Global,
@@ -425,7 +425,7 @@ fn value_argument<'t>(
     Ok((value, behind))
 }
 
-/// Reads a value that is passed to a function, if one more may stand here in the others.
+/// Parses an argument that is a value, if one more may be nested here.
 #[cycle(reader)]
 fn argument<'t>(
     alloc: Global,
@@ -443,7 +443,7 @@ fn argument<'t>(
     comparable(alloc, levels - 1, text)
 }
 
-/// Reads the one argument of a function of nodes, and the parenthesis that ends it.
+/// Parses the argument of a function of nodes, and the closing parenthesis.
 #[cycle(reader)]
 fn query_argument<'t>(
     alloc: Global,
@@ -461,7 +461,7 @@ fn query_argument<'t>(
     Ok((query, behind))
 }
 
-/// Reads a query inside a filter.
+/// Parses a query inside a filter.
 #[cycle(reader)]
 fn filter_query<'t>(
     alloc: Global,
@@ -481,7 +481,7 @@ fn filter_query<'t>(
     Ok((FilterQuery { origin, segments }, after))
 }
 
-/// Reads an expression in parentheses or a test, and the blanks after it.
+/// Parses an expression in parentheses or a test, and the blanks after it.
 #[cycle(reader)]
 fn operand<'t>(
     alloc: Global,
@@ -511,7 +511,7 @@ fn operand<'t>(
     ))
 }
 
-/// Reads a selector that is no filter, and the blanks after it.
+/// Parses a selector other than a filter, and the blanks after it.
 fn plain_selector<'t>(alloc: Global, text: &'t [char]) -> Result<(Selector, &'t [char]), Refusal>
     ensures { Fronts IsPlain (plain_front text.now) result }
 {
@@ -529,7 +529,7 @@ fn plain_selector<'t>(alloc: Global, text: &'t [char]) -> Result<(Selector, &'t 
     }
 }
 
-/// Reads an index, or a slice that begins with its start.
+/// Parses an index, or a slice that begins with its start.
 fn index_or_slice(text: &[char]) -> Result<(Selector, &[char]), Refusal>
     ensures { Fronts IsPlain (int_selector_front text.now) result }
 {
@@ -544,7 +544,7 @@ fn index_or_slice(text: &[char]) -> Result<(Selector, &[char]), Refusal>
     slice(Some(index), behind)
 }
 
-/// Reads a slice behind its first colon.
+/// Parses a slice after its first colon.
 fn slice(start: Option<i64>, text: &[char]) -> Result<(Selector, &[char]), Refusal>
     ensures { Fronts IsPlain (slice_front start text.now) result }
 {
@@ -553,7 +553,7 @@ fn slice(start: Option<i64>, text: &[char]) -> Result<(Selector, &[char]), Refus
     Ok((Selector::Slice { start, end, step }, after))
 }
 
-/// Reads the end or the step of a slice, if one stands here, and the blanks after it.
+/// Parses the end or the step of a slice, if there is one, and the blanks after it.
 fn bound(text: &[char]) -> Result<(Option<i64>, &[char]), Refusal>
     ensures { FrontsAs (bound_front text.now) result }
 {
@@ -564,7 +564,7 @@ fn bound(text: &[char]) -> Result<(Option<i64>, &[char]), Refusal>
     Ok((Some(bound), after_blanks(rest)))
 }
 
-/// Reads the step of a slice, if its colon stands here, and the blanks after it.
+/// Parses the step of a slice, if there is a colon, and the blanks after it.
 fn step(text: &[char]) -> Result<(Option<i64>, &[char]), Refusal>
     ensures { FrontsAs (step_front text.now) result }
 {

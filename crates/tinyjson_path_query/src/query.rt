@@ -1,20 +1,20 @@
-//! What a query of JSONPath (RFC 9535) says.
+//! A parsed query of JSONPath (RFC 9535).
 
 use tinyjson::JsonNumber;
 
-/// A query: its segments, one after the other, from the root on (RFC 9535, 2.1).
+/// A query: its segments in order, from the root on (RFC 9535, 2.1).
 #[derive(Drop)]
 pub struct Query {
     pub segments: Vec<Segment>,
 }
 
-/// A segment (RFC 9535, 2.5), which has one selector at least.
+/// A segment (RFC 9535, 2.5). It has at least one selector.
 #[derive(Drop)]
 #[cycle(segments)]
 pub enum Segment {
-    /// Selects among the children of a node.
+    /// Selects children of a node.
     Child(Vec<Selector>),
-    /// `..`: selects among the children of a node and of each of its descendants.
+    /// `..`: selects children of a node and of each of its descendants.
     Descendant(Vec<Selector>),
 }
 
@@ -24,7 +24,7 @@ pub enum Segment {
 pub enum Selector {
     Name(String),
     Wildcard,
-    /// An index, counted from the end if it is below zero.
+    /// An index; below zero it counts from the end.
     Index(i64),
     /// `start:end:step`.
     Slice {
@@ -32,36 +32,36 @@ pub enum Selector {
         end: Option<i64>,
         step: Option<i64>,
     },
-    /// `?`: the children of which the expression holds.
+    /// `?`: the children for which the expression is true.
     Filter(Expression),
 }
 
-/// A logical expression (RFC 9535, 2.3.5.1). How deep expressions, functions and the queries in them stand
-/// in each other is bounded in a query that was read from a text.
-// What is compared stands in boxes, for the stack that calls take which recurse over expressions.
+/// A logical expression (RFC 9535, 2.3.5.1). In a parsed query at most 64 expressions and function arguments
+/// are nested.
+// The operands of comparisons are in boxes, so that functions which recurse over expressions take less stack.
 #[derive(Drop)]
 #[cycle(segments)]
 pub enum Expression {
-    /// `||`: holds if one of these holds. It has one at least.
+    /// `||`: true if one of these is. There is at least one.
     Or(Vec<Expression>),
-    /// `&&`: holds if each of these holds. It has one at least.
+    /// `&&`: true if each of these is. There is at least one.
     And(Vec<Expression>),
-    /// `!`: holds if this one does not.
+    /// `!`: true if this one is false.
     Not(Box<Expression>),
-    /// The value on the left beside the one on the right (RFC 9535, 2.3.5.2.2).
+    /// A comparison of the left value and the right one (RFC 9535, 2.3.5.2.2).
     Comparison(ComparisonOperator, Box<Comparable>, Box<Comparable>),
-    /// Holds if the query selects some node.
+    /// True if the query selects a node.
     Test(FilterQuery),
-    /// `match` or `search` (RFC 9535, 2.4.6 and 2.4.7) of a value and, behind it, a regular expression.
+    /// `match` or `search` (RFC 9535, 2.4.6 and 2.4.7) of a value and a regular expression.
     Pattern(PatternFunction, Box<Comparable>, Box<Comparable>),
 }
 
-/// A function of regular expressions (RFC 9485), which is a test.
+/// A function of regular expressions (RFC 9485); it is a test.
 #[derive(Clone, Copy)]
 pub enum PatternFunction {
-    /// `match`: holds if the whole of a string is matched.
+    /// `match`: true if the regular expression matches the whole string.
     Match,
-    /// `search`: holds if a part of it is.
+    /// `search`: true if it matches a part of the string.
     Search,
 }
 
@@ -81,7 +81,7 @@ pub enum ComparisonOperator {
     GreaterOrEqual,
 }
 
-/// What is compared: a value, or nothing.
+/// An operand of a comparison, which yields a value or nothing.
 #[derive(Drop)]
 #[cycle(segments)]
 pub enum Comparable {
@@ -90,7 +90,7 @@ pub enum Comparable {
     Function(FunctionExpression),
 }
 
-/// A value that stands in the query itself.
+/// A literal of the query.
 #[derive(Drop)]
 pub enum Literal {
     Null,
@@ -101,15 +101,16 @@ pub enum Literal {
     String(String),
 }
 
-/// A function whose result is a value or nothing, with an argument of the type that it takes (RFC 9535, 2.4).
+/// A function that returns a value or nothing, with its argument (RFC 9535, 2.4).
 #[derive(Drop)]
 #[cycle(segments)]
 pub enum FunctionExpression {
-    /// `length`: how many characters a string, items an array or members an object has; of anything else nothing.
+    /// `length`: the number of characters of a string, of items of an array or of members of an object; else
+    /// nothing.
     Length(Box<Comparable>),
-    /// `count`: how many nodes the query selects, with duplicates.
+    /// `count`: the number of nodes that the query selects, with duplicates.
     Count(FilterQuery),
-    /// `value`: that of the one node that the query selects; nothing if it selects none, or more than one.
+    /// `value`: the value of the only node that the query selects; nothing if it selects none or several.
     Value(FilterQuery),
 }
 
@@ -121,18 +122,18 @@ pub struct FilterQuery {
     pub segments: Vec<Segment>,
 }
 
-/// A query that selects one node at most: its value, or nothing.
+/// A query that selects at most one node: its value, or nothing.
 #[derive(Drop)]
 pub struct SingularQuery {
     pub origin: Origin,
     pub segments: Vec<SingularSegment>,
 }
 
-/// A segment of one selector (RFC 9535, 2.3.5.1).
+/// A segment with one selector (RFC 9535, 2.3.5.1).
 #[derive(Drop)]
 pub enum SingularSegment {
     Name(String),
-    /// An index, counted from the end if it is below zero.
+    /// An index; below zero it counts from the end.
     Index(i64),
 }
 

@@ -10,7 +10,7 @@ use crate::error::Refusal;
 use crate::lexical::push;
 use std::alloc::Global;
 
-/// The string that stands behind its quote.
+/// The string after its opening quote.
 pub(crate) fn quoted<'t>(
     alloc: Global,
     quote: char,
@@ -47,14 +47,14 @@ fn character(quote: char, text: &[char]) -> Result<(char, &[char]), Refusal>
     Ok((*first, rest))
 }
 
-/// Whether the character stands for itself.
+/// Whether the character needs no escape.
 fn is_unescaped(quote: char, c: char) -> bool
     ensures { result ≡ is_unescaped quote c }
 {
     ' ' <= c && c != quote && c != '\\'
 }
 
-/// The character that stands behind a backslash.
+/// The character after a backslash.
 fn escaped(quote: char, text: &[char]) -> Result<(char, &[char]), Refusal>
     ensures { FrontsAs (escape_front quote text.now) result }
 {
@@ -70,7 +70,7 @@ fn escaped(quote: char, text: &[char]) -> Result<(char, &[char]), Refusal>
     }
 }
 
-/// The character that this one stands for behind a backslash.
+/// The character that this one stands for after a backslash.
 fn escape(quote: char, letter: char) -> Option<char>
     ensures { result ≡ escape_of quote letter }
 {
@@ -88,7 +88,7 @@ fn escape(quote: char, letter: char) -> Option<char>
     }
 }
 
-/// The character of which the code stands behind `\u`.
+/// The character whose code follows `\u`.
 fn unicode(text: &[char]) -> Result<(char, &[char]), Refusal>
     ensures { FrontsAs (unicode_front text.now) result }
 {
@@ -102,7 +102,7 @@ fn unicode(text: &[char]) -> Result<(char, &[char]), Refusal>
     Ok((c, rest))
 }
 
-/// The character of a high surrogate and the low one that stands behind it.
+/// The character of a high surrogate and the low one after it.
 fn low_surrogate(high: u32, text: &[char]) -> Result<(char, &[char]), Refusal>
     requires { is_high high ≡ true }
     ensures { FrontsAs (pair_front high text.now) result }
@@ -132,7 +132,7 @@ fn is_low(unit: u32) -> bool
     unit >= 0xdc00 && unit < 0xe000
 }
 
-/// The character that two surrogates are.
+/// The character of two surrogates.
 fn pair(high: u32, low: u32) -> char
     requires high { is_high high ≡ true }
     requires low { is_low low ≡ true }
@@ -141,7 +141,7 @@ fn pair(high: u32, low: u32) -> char
     char::from_u32(0x10000 + (high - 0xd800) * 1024 + (low - 0xdc00)).unwrap()
 }
 
-/// The number that four hexadecimal digits are.
+/// The value of the four hexadecimal digits at the front.
 fn code(text: &[char]) -> Result<(u32, &[char]), Refusal>
     ensures read { FrontsAs (code_front text.now) result }
     ensures small { IfOk result (λ r. r.0 < 65536) }
@@ -153,7 +153,7 @@ fn code(text: &[char]) -> Result<(u32, &[char]), Refusal>
     Ok((((first * 16 + second) * 16 + third) * 16 + fourth, rest))
 }
 
-/// The value of a hexadecimal digit.
+/// The value of the hexadecimal digit at the front.
 fn hex_digit(text: &[char]) -> Result<(u32, &[char]), Refusal>
     ensures read { FrontsAs (hex_front text.now) result }
     ensures small { IfOk result (λ r. r.0 < 16) }

@@ -1,23 +1,23 @@
--- The segments `.` and `..` of a path (RFC 3986, section 5.2.4), by its steps A to E.
+-- Removes the segments `.` and `..` of a path by the steps A to E of RFC 3986, section 5.2.4.
 use Rattle.std.specs.Prelude.{ℕ, zero, suc, Bool, ◌||◌, List, [], ◌∷◌, ◌++◌, length, Option, Some, None, cond, codes}
 use Rattle.std.specs.Option.{option_map_or}
 use Rattle.std.specs.Str.{bytes_eq}
 use Rattle.uri_reference.specs.Letters.{is_slash, before, from, after, before_last_slash}
 
--- what follows a whole segment: a `/` and more, or nothing, for which a `/` is put
+-- what follows a whole segment: a `/` and more; or nothing, which becomes `/`
 abbrev pub slash_for : Option (List ℕ) → Option (List ℕ)
 slash_for None = None
 slash_for (Some []) = Some (codes "/")
 slash_for (Some (c ∷ cs)) = cond (is_slash c) (Some (c ∷ cs)) None
 
--- the input with a `/` in the place of the front, if it begins with that, which ends with a whole segment
+-- the input with its front replaced by `/`, if it begins with it and a segment ends there
 abbrev pub after_segment : List ℕ → List ℕ → Option (List ℕ)
 after_segment front input = slash_for (after front input)
 
 abbrev pub is_dots : List ℕ → Bool
 is_dots input = bytes_eq input (codes ".") || bytes_eq input (codes "..")
 
--- the first segment, with the `/` before it if there is one, and what follows it
+-- the first segment, with the `/` before it if there is one, and the rest
 abbrev pub first_segment : List ℕ → List ℕ
 first_segment [] = []
 first_segment (c ∷ cs) = c ∷ before is_slash cs
@@ -30,7 +30,7 @@ after_first_segment (c ∷ cs) = from is_slash cs
 abbrev pub Buffers : Type 0
 Buffers = List ℕ × List ℕ
 
--- the buffers after the first step that fits: A, of which there are two, B, C, D or else E
+-- the buffers after the first step that applies: A, which has two cases, B, C, D or else E
 abbrev pub step : List ℕ → List ℕ → Buffers
 step output input =
     option_map_or {U = Buffers} (λ rest. (output, rest)) (after (codes "../") input)
@@ -43,7 +43,7 @@ abbrev pub steps : ℕ → Buffers → Buffers
 steps zero b = b
 steps (suc n) b = steps n (step b.0 b.1)
 
--- The steps go on until the input is empty. Each takes one byte of it at least, and on an empty one E changes nothing, so
--- as many are made as the path has bytes.
+-- The steps go on until the input is empty. Each removes at least one byte, and E changes nothing on an empty
+-- input. So there are as many steps as the path has bytes.
 abbrev pub without_dots : List ℕ → List ℕ
 without_dots path = (steps (length path) ([], path)).0

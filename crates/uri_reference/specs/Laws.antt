@@ -3,10 +3,10 @@ use Rattle.std.specs.Prelude.{◌≡◌, ℕ, List}
 use Rattle.uri_reference.specs.Parts.{split, composed}
 use Rattle.uri_reference.specs.Resolving.{fragment_of}
 
--- each text is that of its parts
+-- each text is composed of its parts
 abbrev pub TextOfParts : Type 0
 TextOfParts = (text : List ℕ) → composed (split text) ≡ text
 
--- the fragment among the parts is what stands behind the first `#`
+-- the fragment is all after the first `#`
 abbrev pub FragmentOfParts : Type 0
 FragmentOfParts = (text : List ℕ) → (split text).fragment ≡ fragment_of text

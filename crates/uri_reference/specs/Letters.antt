@@ -1,4 +1,4 @@
--- Texts, as lists of bytes, and where they are cut. Each byte at which one is cut is ASCII.
+-- Texts as lists of bytes, and where they are cut: only at ASCII bytes.
 use Rattle.std.specs.Prelude.{ℕ, Bool, false, ◌||◌, ◌==◌, List, [], ◌∷◌, Option, Some, None, cond}
 
 abbrev pub number_sign : ℕ
@@ -19,17 +19,17 @@ is_number_sign c = c == number_sign
 abbrev pub is_slash : ℕ → Bool
 is_slash c = c == slash
 
--- what stands before the first byte that passes the test, or all where none does
+-- the bytes before the first that passes the test; all if none does
 abbrev pub before : (ℕ → Bool) → List ℕ → List ℕ
 before p [] = []
 before p (c ∷ cs) = cond (p c) [] (c ∷ before p cs)
 
--- that byte and what follows it, or nothing
+-- that byte and the bytes after it; nothing if there is none
 abbrev pub from : (ℕ → Bool) → List ℕ → List ℕ
 from p [] = []
 from p (c ∷ cs) = cond (p c) (c ∷ cs) (from p cs)
 
--- what follows the front, if the text begins with it
+-- the text after the front, if it begins with it
 abbrev pub after : List ℕ → List ℕ → Option (List ℕ)
 after [] cs = Some cs
 after (d ∷ ds) [] = None
@@ -39,7 +39,7 @@ abbrev pub has_slash : List ℕ → Bool
 has_slash [] = false
 has_slash (c ∷ cs) = is_slash c || has_slash cs
 
--- what stands before the last `/`, and up to it; nothing where there is none
+-- the text before its last `/`, and the text up to and with it; nothing if there is none
 abbrev pub before_last_slash : List ℕ → List ℕ
 before_last_slash [] = []
 before_last_slash (c ∷ cs) = cond (has_slash cs) (c ∷ before_last_slash cs) []

@@ -1,9 +1,9 @@
--- The parts of a URI reference (RFC 3986, section 3 and appendix B), and its text (section 5.3).
+-- The parts of a URI reference (RFC 3986, section 3 and appendix B), and the text of the parts (section 5.3).
 use Rattle.std.specs.Prelude.{ℕ, Bool, false, ◌&&◌, ◌||◌, ◌==◌, nat_le, List, [], ◌∷◌, ◌++◌, Option, Some, None, cond, codes}
 use Rattle.std.specs.Option.{option_map_or}
 use Rattle.uri_reference.specs.Letters.{colon, slash, question_mark, number_sign, is_number_sign, before, from, after}
 
--- A part that is not there differs from one that is empty.
+-- A part that is absent differs from an empty one.
 pub record Parts : Type 0 where
   pub scheme : Option (List ℕ)
   pub authority : Option (List ℕ)
@@ -11,7 +11,7 @@ pub record Parts : Type 0 where
   pub query : Option (List ℕ)
   pub fragment : Option (List ℕ)
 
--- where a path ends, where an authority does, and where a scheme does
+-- where a path, an authority and a scheme end
 abbrev pub ends_path : ℕ → Bool
 ends_path c = (c == question_mark) || (c == number_sign)
 
@@ -36,11 +36,11 @@ abbrev pub is_scheme : List ℕ → Bool
 is_scheme [] = false
 is_scheme (c ∷ cs) = is_letter c && are_scheme_letters cs
 
--- a part, if it is there, and what follows it
+-- a part, if it is present, and the rest
 abbrev pub Cut : Type 0
 Cut = Option (List ℕ) × List ℕ
 
--- a scheme stands before a `:`
+-- a scheme is before a `:`
 abbrev pub cut_at_colon : List ℕ → List ℕ → Option (List ℕ) → Cut
 cut_at_colon text front None = (None, text)
 cut_at_colon text front (Some rest) = cond (is_scheme front) (Some front, rest) (None, text)
@@ -48,7 +48,7 @@ cut_at_colon text front (Some rest) = cond (is_scheme front) (Some front, rest) 
 abbrev pub cut_scheme : List ℕ → Cut
 cut_scheme text = cut_at_colon text (before ends_scheme text) (after (codes ":") (from ends_scheme text))
 
--- a part that follows a mark stands before the first byte that passes the test
+-- a part after a mark ends before the first byte that passes the test
 abbrev pub cut_marked : List ℕ → (ℕ → Bool) → List ℕ → Cut
 cut_marked mark ends text = option_map_or {U = Cut} (λ rest. (Some (before ends rest), from ends rest)) (after mark text) (None, text)
 
@@ -58,7 +58,7 @@ cut_authority text = cut_marked (codes "//") ends_authority text
 abbrev pub cut_query : List ℕ → Cut
 cut_query text = cut_marked (codes "?") is_number_sign text
 
--- the parts of a text, one after the other
+-- the parts of a text
 abbrev pub split : List ℕ → Parts
 split text =
     let scheme = cut_scheme text in
@@ -72,7 +72,7 @@ split text =
       fragment = after (codes "#") query.1;
     }
 
--- a part behind its mark, if it is there
+-- a part after its mark, if it is present
 abbrev pub marked : List ℕ → Option (List ℕ) → List ℕ
 marked mark None = []
 marked mark (Some part) = mark ++ part

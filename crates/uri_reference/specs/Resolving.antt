@@ -1,11 +1,11 @@
--- The URI that a reference leads to from a base (RFC 3986, section 5.2, strict).
+-- Resolving a reference against a base (RFC 3986, section 5.2, strict).
 use Rattle.std.specs.Prelude.{ℕ, Bool, ◌&&◌, List, [], ◌∷◌, ◌++◌, Option, is_some, cond, codes}
 use Rattle.std.specs.Option.{option_or}
 use Rattle.uri_reference.specs.Dots.{without_dots}
 use Rattle.uri_reference.specs.Letters.{is_number_sign, before, from, after, through_last_slash}
 use Rattle.uri_reference.specs.Parts.{Parts, split, composed}
 
--- whether a text is empty, and whether it begins with `/`
+-- the text is empty, or begins with `/`
 abbrev pub is_empty : List ℕ → Bool
 is_empty [] = Bool.true
 is_empty (c ∷ cs) = Bool.false
@@ -13,15 +13,15 @@ is_empty (c ∷ cs) = Bool.false
 abbrev pub begins_with_slash : List ℕ → Bool
 begins_with_slash text = is_some (after (codes "/") text)
 
--- a path with the base's before it, up to the last `/` there (5.2.3)
+-- a path after the base's, which is cut after its last `/` (5.2.3)
 abbrev pub merged : Parts → List ℕ → List ℕ
 merged base path = cond (is_some base.authority && is_empty base.path) (codes "/" ++ path) (through_last_slash base.path ++ path)
 
--- the target's path, where the reference has a path, and neither scheme nor authority
+-- the path of the target, if the reference has a path, but neither scheme nor authority
 abbrev pub path_from : Parts → List ℕ → List ℕ
 path_from base path = without_dots (cond (begins_with_slash path) path (merged base path))
 
--- the target of a reference with neither scheme nor authority. The base's fragment is in none.
+-- the target of a reference without scheme and authority; the base's fragment is never part of it
 abbrev pub target_by_path : Parts → Parts → Parts
 target_by_path base r = cond (is_empty r.path)
     (record base { query = option_or r.query base.query; fragment = r.fragment })
@@ -36,7 +36,7 @@ target base r = cond (is_some r.scheme) (record r { path = without_dots r.path }
 abbrev pub resolved : List ℕ → List ℕ → List ℕ
 resolved base reference = composed (target (split base) (split reference))
 
--- all before the first `#`, and all behind it
+-- the text before the first `#`, and the text after it
 abbrev pub without_fragment : List ℕ → List ℕ
 without_fragment text = before is_number_sign text
 

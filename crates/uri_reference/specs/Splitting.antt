@@ -1,4 +1,4 @@
--- Words of private contracts.
+-- For private contracts.
 use Rattle.std.specs.Prelude.{ℕ, Bool, List, Option, option_map}
 use denote.Ref.{Bor}
 use Rattle.uri_reference.specs.Letters.{is_slash, is_number_sign}
@@ -7,7 +7,7 @@ use Rattle.uri_reference.specs.declared.parts.Reference.{Reference}
 use Rattle.uri_reference.specs.declared.cutting.End.{End}
 use Rattle.uri_reference.specs.declared.cutting.End.TheVariants as at
 
--- whether a part ends at the byte
+-- the part ends at the byte
 abbrev pub ends : End → ℕ → Bool
 ends at.Scheme = ends_scheme
 ends at.Authority = ends_authority
@@ -18,7 +18,7 @@ ends at.Segment = is_slash
 abbrev pub now : Option (Bor (List ℕ)) → Option (List ℕ)
 now part = option_map (λ x. x.now) part
 
--- the part and what follows it
+-- the part and the rest
 abbrev pub cut_now : Option (Bor (List ℕ)) × Bor (List ℕ) → Cut
 cut_now cut = (now cut.0, cut.1.now)
 

@@ -5,7 +5,7 @@ ghost use Rattle.uri_reference.specs.Letters.{before, from, after};
 ghost use Rattle.uri_reference.specs.Letters.{before_last_slash, through_last_slash};
 ghost use Rattle.uri_reference.specs.Splitting.{ends, now};
 
-/// What ends where a text is cut.
+/// Where a part of a text ends.
 #[derive(Clone, Copy)]
 pub(crate) enum End {
     Scheme,
@@ -15,7 +15,7 @@ pub(crate) enum End {
     Segment,
 }
 
-/// What stands before the end, and what follows from it on.
+/// The part before the end, and the rest from there on.
 pub(crate) fn cut(text: &str, end: End) -> (&str, &str)
     ensures front { result.0.now ≡ before (ends end) text.now }
     ensures rest { result.1.now ≡ from (ends end) text.now }
@@ -47,14 +47,14 @@ fn ends(end: End, byte: u8) -> bool
     }
 }
 
-/// What follows the front, if the text begins with it.
+/// The text after the front, if it begins with it.
 pub(crate) fn after<'t>(front: &str, text: &'t str) -> Option<&'t str>
     ensures { now result ≡ after front.now text.now }
 {
     text.strip_prefix(front)
 }
 
-/// All up to the last `/`, or nothing.
+/// The text up to and with its last `/`; empty if it has none.
 pub(crate) fn through_last_slash(text: &str) -> &str
     ensures { result.now ≡ through_last_slash text.now }
 {
@@ -64,7 +64,7 @@ pub(crate) fn through_last_slash(text: &str) -> &str
     }
 }
 
-/// Removes the last `/` and what follows it, or all.
+/// Removes the last `/` and all after it; or all, if there is none.
 pub(crate) fn remove_last_segment(text: &mut String)
     ensures { string_bytes text.new ≡ before_last_slash (string_bytes text.old) }
 {

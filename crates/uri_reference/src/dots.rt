@@ -20,7 +20,7 @@ pub(crate) fn without_dots(alloc: Global, path: &str) -> Result<String, AllocErr
     Ok(output)
 }
 
-/// One of the RFC's steps A to E; what is left of the input.
+/// Makes one of the steps A to E of the RFC, and returns the rest of the input.
 fn step<'t>(output: &mut String, input: &'t str) -> Result<&'t str, AllocError>
     ensures input { IfOk result (λ rest. rest.now ≡ (step (string_bytes output.old) input.now).1) }
     ensures output { IfOk result (λ rest.
@@ -47,7 +47,7 @@ fn step<'t>(output: &mut String, input: &'t str) -> Result<&'t str, AllocError>
     Ok(rest)
 }
 
-/// The input with a `/` in the place of the front, if it begins with that, which ends with a whole segment.
+/// The input with its front replaced by `/`, if it begins with it and a segment ends there.
 fn after_segment<'t>(front: &str, input: &'t str) -> Option<&'t str>
     ensures { now result ≡ after_segment front.now input.now }
 {
@@ -65,7 +65,7 @@ fn is_dots(input: &str) -> bool
     input == "." || input == ".."
 }
 
-/// The first segment, with the `/` before it if there is one, and what follows it.
+/// The first segment, with the `/` before it if there is one, and the rest.
 fn cut_segment(input: &str) -> (&str, &str)
     ensures segment { result.0.now ≡ first_segment input.now }
     ensures rest { result.1.now ≡ after_first_segment input.now }

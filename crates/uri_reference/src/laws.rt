@@ -1,7 +1,7 @@
 //! Laws of the parts of texts.
 ghost use Rattle.uri_reference.specs.Laws.{TextOfParts, FragmentOfParts};
 
-/// Each text is that of its parts, whatever its letters.
+/// A text is composed of its parts again, whatever its characters are.
 ///
 /// ```
 /// text_of_parts(); // of `a?#b` too, whose query is there and empty
@@ -10,7 +10,7 @@ pub fn text_of_parts()
     ensures { TextOfParts }
 {}
 
-/// The fragment among a text's parts is what stands behind its first `#`.
+/// The fragment of a text is all after its first `#`.
 ///
 /// ```
 /// fragment_of_parts(); // of `a#b#c` it is `b#c`

@@ -1,4 +1,4 @@
-//! URI references (RFC 3986), split and resolved on their letters alone.
+//! URI references (RFC 3986), split and resolved without decoding or validating them.
 //!
 //! ```
 //! let target = resolve(alloc, "http://example.com/a/b", "../c#d")?;

@@ -48,7 +48,7 @@ fn cut_scheme(text: &str) -> (Option<&str>, &str)
     }
 }
 
-/// A letter, and then letters, digits, `+`, `-` and `.`.
+/// Whether it is a letter, and then letters, digits, `+`, `-` and `.`.
 fn is_scheme(front: &[u8]) -> bool
     ensures { result ≡ is_scheme front.now }
 {
@@ -81,7 +81,7 @@ fn is_scheme_letter(byte: u8) -> bool
     is_letter(byte) || matches!(byte, b'0'..=b'9' | b'+' | b'-' | b'.')
 }
 
-/// The part behind a mark, if the mark is there, and what follows.
+/// The part after a mark, if the text begins with the mark, and the rest.
 fn cut_marked<'t>(mark: &str, text: &'t str, end: End) -> (Option<&'t str>, &'t str)
     ensures { cut_now result ≡ cut_marked mark.now (ends end) text.now }
 {

@@ -1,4 +1,4 @@
-//! References resolved from a base.
+//! Resolving a reference against a base.
 ghost use Rattle.std.specs.Prelude.{◌≡◌, IfOk, option_map};
 ghost use Rattle.std.specs.String.{string_bytes};
 ghost use Rattle.uri_reference.specs.Resolving.{resolved, without_fragment, fragment_of};
@@ -10,10 +10,11 @@ use crate::dots::without_dots;
 use crate::parts::{Reference, composed, split};
 use std::alloc::{AllocError, Global};
 
-/// The URI that the reference leads to from the base (RFC 3986, section 5.2, strict), with its fragment if it has one.
-/// The only error is out of memory.
+/// Resolves the reference against the base (RFC 3986, section 5.2, strict). The result keeps the fragment of
+/// the reference. The only error is out of memory.
 ///
-/// Any two texts do: nothing is decoded and no letter refused, and where neither has a scheme, the target has none.
+/// Any two texts are accepted: nothing is decoded, and no character is rejected. If neither has a scheme, the
+/// result has none.
 ///
 /// ```
 /// let target = resolve(alloc, "http://example.com/a/b?c", "../d")?;
@@ -58,7 +59,7 @@ pub fn resolve(alloc: Global, base: &str, reference: &str) -> Result<String, All
     )
 }
 
-/// The target's path, where the reference has a path, and neither scheme nor authority.
+/// The path of the result, if the reference has a path, but neither scheme nor authority.
 fn path_from(alloc: Global, base: Reference<'_>, path: &str) -> Result<String, AllocError>
     ensures { IfOk result (λ s. string_bytes s ≡ path_from (parts_of base.entry) path.now) }
 {
@@ -69,7 +70,7 @@ fn path_from(alloc: Global, base: Reference<'_>, path: &str) -> Result<String, A
     without_dots(alloc, merged.as_str())
 }
 
-/// The path with the base's before it, up to the last `/` there.
+/// The path after the base's, which is cut after its last `/` (section 5.2.3).
 fn merged(alloc: Global, base: Reference<'_>, path: &str) -> Result<String, AllocError>
     ensures { IfOk result (λ s. string_bytes s ≡ merged (parts_of base.entry) path.now) }
 {
@@ -83,7 +84,7 @@ fn merged(alloc: Global, base: Reference<'_>, path: &str) -> Result<String, Allo
     Ok(merged)
 }
 
-/// All before the first `#`.
+/// The text before the first `#`.
 ///
 /// ```
 /// assert_eq!(rt; without_fragment("a/b#c"), "a/b");
@@ -94,7 +95,7 @@ pub fn without_fragment(text: &str) -> &str
     cut(text, End::Query).0
 }
 
-/// All behind the first `#`, if there is one.
+/// The text after the first `#`, or `None` if there is none.
 ///
 /// ```
 /// assert!(rt; fragment("a/b#c") == Some("c"));
