@@ -1,4 +1,4 @@
--- The lines of an input, and a run over them.
+-- The lines of an input, and runs over them.
 use Rattle.std.specs.Prelude.{◌≡◌, ℕ, suc, ◌==◌, Bool, true, false, List, [], ◌∷◌, ◌++◌, cond, Option, None, Some, IfSome}
 use Rattle.std.specs.Prelude.{Result, Ok, Err, ⊤}
 use Rattle.std.specs.Io.BufRead.{strip_last}
@@ -17,46 +17,46 @@ abbrev pub lines : List ℕ → List (List ℕ)
 lines [] = []
 lines (b ∷ bs) = cond (b == line_feed) ((b ∷ []) ∷ lines bs) (onto_first b (lines bs))
 
--- a line without its line feed
+-- the line without its line feed
 abbrev pub content : List ℕ → List ℕ
 content line = strip_last line_feed line
 
--- of the known bytes these lines are read
+-- these lines are read from the input, as far as its bytes are known
 abbrev pub LinesRead : Option (List ℕ) → Option (List ℕ) → List (List ℕ) → Type 0
 LinesRead None left read = ⊤
 LinesRead (Some xs) None read = ⊥
 LinesRead (Some xs) (Some ys) read = lines xs ≡ read ++ lines ys
 
--- these lines are all, and nothing is left
+-- these are all the lines, and nothing is left
 abbrev pub AllRead : Option (List ℕ) → Option (List ℕ) → List (List ℕ) → Type 0
 AllRead unread left read = IfSome unread (λ xs. (lines xs ≡ read) × (left ≡ Some []))
 
--- One line is read, or there is none.
+-- One line is read, or the input is at its end.
 abbrev pub ReadsLine : Option (List ℕ) → Option (List ℕ) → List ℕ → Result Bool Error → Type 0
 ReadsLine unread left line (Ok true) = LinesRead unread left (line ∷ [])
 ReadsLine unread left line (Ok false) = AllRead unread left []
 ReadsLine unread left line (Err e) = ⊤
 
--- The next line is taken, or nothing is. For a private contract.
+-- The next line is read, or nothing is. For a private contract.
 abbrev pub TakesShown : Option (List ℕ) → Option (List ℕ) → List ℕ → Result Bool Error → Type 0
 TakesShown unread left line (Ok true) = LinesRead unread left (line ∷ [])
 TakesShown unread left line (Ok false) = Keeps unread left × (line ≡ [])
 TakesShown unread left line (Err e) = ⊤
 
--- ---- what lines give
+-- ---- the results of lines
 
--- each line gives what stands at its place
+-- each line has the result at its position
 abbrev pub AllGive : {F : Type 0} → (List ℕ → F → Type 0) → List (List ℕ) → List F → Type 0
 AllGive gives [] [] = ⊤
 AllGive gives (line ∷ more) (f ∷ fs) = gives line f × AllGive gives more fs
 AllGive gives _ _ = ⊥
 
--- what is said of each, by its number and what it gives, of lines that are counted from this number
+-- the texts for the results of lines, whose first has this number
 abbrev pub said : {F : Type 0} → (ℕ → F → List ℕ) → ℕ → List F → List ℕ
 said says n [] = []
 said says n (f ∷ fs) = says n f ++ said says (suc n) fs
 
--- Each line was read; in order, what is to be written of it was written, and what is to be told of it was told, and nothing else.
+-- Each line was read. In order, its output was written and its message was printed, and nothing else.
 pub record AnswersAll {F : Type 0} (gives : List ℕ → F → Type 0) (output telling : ℕ → F → List ℕ)
     (unread left held holds told tells : Option (List ℕ)) (fs : List F) : Type 0 where
   pub read : List (List ℕ)
@@ -65,7 +65,7 @@ pub record AnswersAll {F : Type 0} (gives : List ℕ → F → Type 0) (output t
   pub written : Appends held holds (said output 1 fs)
   pub told_of : Appends told tells (said telling 1 fs)
 
--- Of what is to be written of some first lines, and of what is to be told of them, a prefix was.
+-- A prefix was written of the output for some first lines, and of the messages for them.
 pub record StopsAmong {F : Type 0} (gives : List ℕ → F → Type 0) (output telling : ℕ → F → List ℕ)
     (unread held holds told tells : Option (List ℕ)) : Type 0 where
   pub read : List (List ℕ)

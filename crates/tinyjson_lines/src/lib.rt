@@ -1,4 +1,4 @@
-//! Lines over any reader and any writer: one is read, and where a write fails, a prefix was written.
+//! Lines of JSON for any reader and any writer. If a write fails, a prefix was written.
 //!
 //! ```
 //! write_line(alloc, &value, &mut output)?; // {"a":1} and a line feed

@@ -1,4 +1,4 @@
-//! The line of a value.
+//! Writes a value as a line.
 ghost use Rattle.tinyjson.specs.View.{view};
 ghost use Rattle.tinyjson.specs.Written.{WritesPrefix};
 ghost use Rattle.tinyjson_lines.specs.Line.{line_of};
@@ -10,7 +10,7 @@ use tinyjson_output::write_all;
 
 /// Writes the compact text of the value, and a line feed.
 ///
-/// The first error ends it, and a prefix of the line was written then. Nothing is flushed.
+/// It stops at the first error, and then a prefix of the line was written. It does not flush.
 pub fn write_line<W: Write>(alloc: Global, value: &JsonValue, output: &mut W) -> io::Result<()>
     ensures { WritesPrefix (W.contents output.old) (W.contents output.new)
         (line_of (view value.now)) result }

@@ -1,14 +1,15 @@
-//! The lines of an input.
+//! Reads the lines of an input.
 ghost use Rattle.std.specs.Prelude.{◌≡◌};
 ghost use Rattle.tinyjson_lines.specs.Lines.{ReadsLine, TakesShown, content as content_of};
 
 use std::io::{self, BufRead, ErrorKind};
 use tinyjson_bytes::line_end;
 
-/// Reads one line with its line feed, in place of what `line` held; `false` where the input is at its end.
+/// Reads one line with its line feed into `line`, which is cleared first. Returns `false` at the end of
+/// the input.
 ///
-/// The last line may lack the line feed. After an error, which may be an interruption, a part of the line may have
-/// been read.
+/// The last line may lack the line feed. After an error, which may be an interruption, `line` may have a
+/// part of the line.
 ///
 /// ```
 /// let mut input = b"[1.0]\n{".as_slice();
@@ -27,8 +28,8 @@ pub fn read_line<R: BufRead>(input: &mut R, line: &mut Vec<u8>) -> io::Result<bo
     Ok(true)
 }
 
-/// Takes the next line, in place of what `line` held, if all of it stands in the reader's buffer. Otherwise nothing
-/// is taken, and what interrupted the reader is left to the next call.
+/// Reads the next line into `line`, which is cleared first, if all of it is in the reader's buffer.
+/// Otherwise it reads nothing, and leaves an interruption of the reader to the next call.
 fn shown_line<R: BufRead>(input: &mut R, line: &mut Vec<u8>) -> io::Result<bool>
     ensures { TakesShown (R.remaining input.old) (R.remaining input.new) line.new.items result }
 {

@@ -1,26 +1,26 @@
-//! Why a line is refused.
+//! Why a line is rejected.
 ghost use Rattle.std.specs.Prelude.{Some};
 ghost use Rattle.tinyjson_lines.specs.Refusal.{refusal_message};
 
 use std::fmt;
 use tinyjson::JsonParseError;
 
-/// Why a line is refused.
+/// Why a line is rejected.
 #[derive(Clone, Copy, Debug, PartialEq, Eq)]
 pub enum Cause {
     /// The line is not UTF-8.
     NotUtf8,
-    /// The line is no JSON text, or is nested deeper than the limit, where there is one. The column of the error is that
+    /// The line is no JSON text, or is nested deeper than the limit. The column of the error is that
     /// within the line.
     NotJson(JsonParseError),
 }
 
-/// A line that is refused.
+/// A line that is rejected.
 #[derive(Clone, Copy, Debug, PartialEq, Eq)]
 pub struct Refusal {
-    /// Which line of the input it is, from 1.
+    /// The number of the line in the input, from 1.
     pub number: u64,
-    /// Why it is refused.
+    /// Why it is rejected.
     pub cause: Cause,
 }
 

@@ -1,4 +1,4 @@
--- For which open containers compact text that is being built stands. For private contracts.
+-- Which open containers compact text has that is being built. For private contracts.
 use Rattle.std.specs.Prelude.{◌≡◌, ℕ, ◌+◌, List, [], ◌∷◌, ◌++◌, length, encode_utf8_all, ⊤}
 use Rattle.tinyjson.specs.Events.{Open, in_array, at_key, at_value}
 use Rattle.tinyjson_grammar.specs.Characters.{begin_array, begin_object, name_separator, value_separator}
@@ -15,7 +15,7 @@ use Rattle.tinyjson_document.specs.declared.store.Cell.{Cell}
 use Rattle.tinyjson_document.specs.declared.store.Cell.TheVariants as node
 use Rattle.tinyjson_document.specs.declared.store.Store.{Store}
 
--- ---- a comma stands behind each complete value
+-- ---- each complete value has a comma after it
 
 abbrev pub value_bytes : Tree → List ℕ
 value_bytes t = encode_utf8_all (compact t) ++ value_separator ∷ []
@@ -40,18 +40,18 @@ members_bytes (member k t ms) = entry_bytes k t ++ members_bytes ms
 
 -- ---- the members of an open object
 
--- where the next one begins, or the text ends
+-- where the next one begins, or where the text ends
 abbrev pub next_from : List Begun → ℕ → ℕ
 next_from [] end = end
 next_from (b ∷ bs) end = b.from
 
--- each with its place in the text
+-- the members, each with its range in the text
 abbrev pub members_of : List Begun → ℕ → List Member
 members_of [] end = []
 members_of (b ∷ bs) end =
     record { key = b.key; value = node.String (record { from = b.from; to = next_from bs end }) } ∷ members_of bs end
 
--- what stands in the text at the place of a member
+-- the text of a member
 abbrev pub placed : List ℕ → Cell → List ℕ
 placed text (node.String p) = part text p
 placed text _ = []
@@ -60,7 +60,7 @@ abbrev pub all_placed : List ℕ → List Member → List ℕ
 all_placed text [] = []
 all_placed text (m ∷ ms) = placed text m.value ++ all_placed text ms
 
--- from the place `at` on in the text
+-- the members begun, from the place `at` of the text on
 abbrev pub AreBegun : Store → ℕ → List Entry → List Begun → Type 0
 AreBegun s at [] [] = ⊤
 AreBegun s at [] (b ∷ bs) = ⊥
@@ -69,14 +69,14 @@ AreBegun s at (e ∷ es) (b ∷ bs) = IsText s e.0 b.key × (b.from ≡ at) × A
 
 -- ---- open containers
 
--- an object in which a key is awaited: its members, and what is written of it, which begins at the place `start`
+-- an object in which a key is awaited: its members, and its text so far, which begins at `start`
 pub record Has (s : Store) (start : ℕ) (ms : Members) (bs : List Begun) (own : List ℕ) : Type 0 where
   pub entries : List Entry
   pub members : ms ≡ put_all no_members entries
   pub written : own ≡ begin_object ∷ entries_bytes entries
   pub begun : AreBegun s (start + 1) entries bs
 
--- one in which the value of the key k is awaited
+-- an object in which the value of the key k is awaited
 pub record HasKey (s : Store) (start : ℕ) (ms : Members) (k : List ℕ) (bs : List Begun) (own : List ℕ) : Type 0 where
   pub before : List Begun
   pub last : Begun
@@ -92,13 +92,13 @@ IsOpen s start (in_array ts) bs own = (bs ≡ []) × (own ≡ begin_array ∷ it
 IsOpen s start (at_key ms) bs own = Has s start ms bs own
 IsOpen s start (at_value ms k) bs own = HasKey s start ms k bs own
 
--- what stands: the places where the open containers begin, their members, and the text
+-- what is pending: the places where the open containers begin, their members, and the text
 pub record Standing : Type 0 where
   pub places : List Start
   pub begun : List Begun
   pub text : List ℕ
 
--- the last of it belongs to the innermost container
+-- the last of what is pending belongs to the innermost container
 pub record Splits (all outer : Standing) (bs : List Begun) (own : List ℕ) : Type 0 where
   pub place : Start
   pub places : all.places ≡ outer.places ++ place ∷ []
@@ -115,10 +115,10 @@ HoldsIn s w (o ∷ os) = (outer : Standing) × (bs : List Begun) × (own : List 
 abbrev pub standing : Compact → Standing
 standing c = record { places = c.opened.items; begun = c.begun.items; text = c.text.items }
 
--- the text stands for these open containers, the innermost first
+-- the text has these open containers, the innermost first
 abbrev pub Holds : Compact → List Open → Type 0
 Holds c os = HoldsIn c.store (standing c) os
 
--- it is that of the tree, and a comma
+-- the text is that of the tree, and a comma
 abbrev pub IsOf : Compact → Tree → Type 0
 IsOf c t = c.text.items ≡ value_bytes t

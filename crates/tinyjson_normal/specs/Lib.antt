@@ -1,4 +1,4 @@
--- What public contracts say.
+-- For public contracts.
 pub mod Normal
--- For which open containers compact text stands.
+-- Which open containers compact text has. For private contracts.
 pub mod Compacting

@@ -1,4 +1,4 @@
-//! Compact text that is built by the events of a text, with no tree.
+//! Builds compact text from a text's events, without a tree.
 ghost use Rattle.std.specs.Prelude.{◌≡◌, ◌==◌, ◌++◌, ◌∷◌, [], ℕ, List, false, OnOk, take};
 ghost use Rattle.std.specs.Prelude.{encode_utf8_all};
 ghost use Rattle.std.specs.Str.{chars};
@@ -20,7 +20,7 @@ use tinyjson_document::sorting::rise;
 use tinyjson_document::store::{Cell, Member, Span, Store, part};
 use tinyjson_output::{Buffer, flush, quote, write_number};
 
-/// Where an open container begins: what is inside of it in the text, and its members among those of all.
+/// Where an open container begins: its contents in the text, and its members in the list of all.
 #[derive(Clone, Copy)]
 pub(crate) struct Start {
     pub(crate) inside: usize,
@@ -34,8 +34,8 @@ pub(crate) struct Begun {
     pub(crate) from: usize,
 }
 
-/// Compact text as far as a text was read, with a comma behind each complete value. The members of an object
-/// are put in order when it is closed.
+/// Compact text, as far as the text was parsed, with a comma after each complete value. The members of an
+/// object are put in order when it is closed.
 #[derive(Drop)]
 pub(crate) struct Compact {
     /// The characters of keys.
@@ -43,13 +43,13 @@ pub(crate) struct Compact {
     pub(crate) text: Vec<u8>,
     opened: Vec<Start>,
     begun: Vec<Begun>,
-    /// The members of the object that is being closed, what they are ordered by, those of them that stay, and
-    /// their texts.
+    /// For the object that is being closed: its members, their ranks, those that are kept, and their
+    /// texts.
     members: Vec<Member>,
     ranks: Vec<u64>,
     kept: Vec<Member>,
     moved: Vec<u8>,
-    /// What is quoted or written piece by piece.
+    /// For strings and numbers that are written in pieces.
     buffer: Buffer,
     /// How many bytes may still be moved.
     left: usize,
@@ -71,8 +71,8 @@ impl Compact {
         }
     }
 
-    /// Begins anew with no text, room for so many bytes if there is memory for them, and so many bytes that
-    /// may be moved. The memory of the text before is kept, and the order of its last members.
+    /// Starts a new text, with room for `room` bytes if there is memory, and `left` bytes that may be
+    /// moved. It keeps the memory of the text before, and the order of its last members.
     pub(crate) fn begin(&mut self, room: usize, left: usize)
         ensures { Holds self.new [] }
     {
@@ -84,8 +84,8 @@ impl Compact {
         self.left = left;
     }
 
-    /// Puts the members of the object that is being closed in order, of those with one key the last. What
-    /// they have been written as begins at `inside`.
+    /// Puts the members of the object that is being closed in order; of equal keys only the last is kept.
+    /// Their texts begin at `inside`.
     fn order(&mut self, inside: usize) -> Result<(), AllocError>
         ensures text { self.old.text.items ≡ take inside self.old.text.items
             ++ all_placed self.old.text.items self.old.members.items →
@@ -199,7 +199,7 @@ fn literal_word(literal: Option<bool>) -> &'static [u8]
     }
 }
 
-/// Appends a closing bracket, in place of a comma that comes last, and a comma.
+/// Appends a closing bracket and a comma. The bracket replaces the comma at the end, if there is one.
 fn push_closing(text: &mut Vec<u8>, bracket: u8) -> Result<(), AllocError>
     ensures some { (xs : List ℕ) → text.old.items ≡ xs ++ value_separator ∷ [] →
         OnOk result (text.new.items ≡ xs ++ bracket ∷ value_separator ∷ []) }
@@ -215,7 +215,7 @@ fn push_closing(text: &mut Vec<u8>, bracket: u8) -> Result<(), AllocError>
     Ok(())
 }
 
-/// Appends the characters between quotes, and a byte behind them.
+/// Appends the string in quotes, and a byte after it.
 fn push_quoted(
     text: &mut Vec<u8>,
     buffer: &mut Buffer,
@@ -234,7 +234,7 @@ fn push_quoted(
     append_quoted(text, bytes, behind)
 }
 
-/// Appends the characters between quotes, with escapes.
+/// Appends the string in quotes, with escapes.
 #[inline(never)]
 fn push_escaped(text: &mut Vec<u8>, buffer: &mut Buffer, value: &str) -> Result<(), AllocError>
     ensures { OnOk result (text.new.items
@@ -280,7 +280,8 @@ fn push_long(text: &mut Vec<u8>, buffer: &mut Buffer, number: &JsonNumber) -> Re
     Ok(())
 }
 
-/// Makes a member of each that was begun, with its place in the text, which ends at `end`.
+/// Turns each started key into a `Member` with the range of its key and value in the text. The last one
+/// ends at `end`.
 fn pair_begun(members: &mut Vec<Member>, begun: &[Begun], end: usize) -> Result<(), AllocError>
     ensures { OnOk result (members.new.items ≡ members_of begun.now end) }
 {
@@ -301,7 +302,7 @@ fn pair_begun(members: &mut Vec<Member>, begun: &[Begun], end: usize) -> Result<
     Ok(())
 }
 
-/// Where the first one begins, or the text ends.
+/// Where the next member begins; `end` if there is none.
 fn next_from(begun: &[Begun], end: usize) -> usize
     ensures { result ≡ next_from begun.now end }
 {
@@ -311,7 +312,7 @@ fn next_from(begun: &[Begun], end: usize) -> usize
     }
 }
 
-/// Appends what stands in the text at the places of the members, one after the other.
+/// Appends the texts of the members, one after the other.
 fn copy_placed(text: &[u8], moved: &mut Vec<u8>, members: &[Member]) -> Result<(), AllocError>
     ensures { OnOk result (moved.new.items ≡ moved.old.items ++ all_placed text.now members.now) }
 {
@@ -323,7 +324,7 @@ fn copy_placed(text: &[u8], moved: &mut Vec<u8>, members: &[Member]) -> Result<(
     Ok(())
 }
 
-/// What stands in the text at the place of a member.
+/// The text of a member.
 fn placed(text: &[u8], value: Cell) -> &[u8]
     ensures { result.now ≡ placed text.now value }
 {

@@ -1,5 +1,5 @@
-//! Normal text, with no value built: the one compact text of a text's tree is made while the text is read, or of
-//! an arena of nodes where members would be moved too often.
+//! Normalizes a text without building a value. Its normal text is made while it is parsed; if members
+//! would be moved too often, it is written from an arena instead.
 #![tactic(auto)]
 
 mod compact;

@@ -1,4 +1,4 @@
-//! A text whose normal text is asked for.
+//! A parsed text, ready to be written in normal form.
 ghost use Rattle.std.specs.Prelude.{◌≡◌, ◌↔◌, ◌++◌, ◌∷◌, [], None, Some, IfOk, IfSome, IsTrue, codes};
 ghost use Rattle.std.specs.Prelude.{encode_utf8_all, string_bytes};
 ghost use Rattle.std.specs.Str.{all_scalars, chars};
@@ -22,17 +22,17 @@ use tinyjson_output::write_all;
 /// The indent of [`NormalText::format`].
 const INDENT: &str = "  ";
 
-/// What is kept of a text.
+/// How the tree of a text is kept.
 #[derive(Drop)]
 pub(crate) enum Content {
-    /// The compact text of the tree.
+    /// As its compact text.
     Text(Vec<u8>),
-    /// Nodes, where the objects with members out of order are so large and so deep that their texts would be
-    /// moved too often.
+    /// As an arena. So large and nested are the objects whose members are out of order that their texts
+    /// would be moved too often.
     Arena(Arena),
 }
 
-/// The tree of a text, kept for its normal text, with no value built.
+/// The tree of a parsed text, kept to be written in normal form. No value is built.
 ///
 /// ```
 /// let normal = NormalText::read(alloc, r#"{"bool": true, "arr": [1, null]}"#)?;
@@ -45,8 +45,8 @@ pub struct NormalText {
 }
 
 impl NormalText {
-    /// Reads a text, as `JsonValue::from_str` does: a tree exactly where that gives a value, and else its error,
-    /// unless memory runs out.
+    /// Parses a text as `JsonValue::from_str` does: into the tree of the same value, or with the same
+    /// error. Only memory may run out for one of the two alone.
     ///
     /// ```
     /// let result = NormalText::read(alloc, "01");
@@ -58,8 +58,8 @@ impl NormalText {
         NormalReader::new(alloc).read(text, None)
     }
 
-    /// Reads a text in which at most `limit` containers are open at once, as
-    /// `JsonValue::from_str_with_depth_limit` does.
+    /// Parses a text with at most `limit` nested containers, as `JsonValue::from_str_with_depth_limit`
+    /// does.
     ///
     /// ```
     /// assert!(rt; NormalText::read_with_depth_limit(alloc, "[[1]]", 2).is_ok());
@@ -76,12 +76,12 @@ impl NormalText {
         NormalReader::new(alloc).read(text, Some(limit))
     }
 
-    /// Writes the compact text of the tree, in UTF-8, and flushes nothing: the bytes that `JsonValue::write_to`
-    /// of the text's value writes.
+    /// Writes the compact text in UTF-8: the bytes that `JsonValue::write_to` writes for the text's
+    /// value. It does not flush.
     ///
-    /// It ends with the first error: the writer's own, an interruption too; one of kind `WriteZero` where the
-    /// writer takes nothing; or one of kind `OutOfMemory` where there is no memory for the open containers. Then
-    /// a prefix of the text is written.
+    /// It stops at the first error: the writer's own, also an interruption; one of kind `WriteZero` if
+    /// the writer accepts no byte; or one of kind `OutOfMemory` if there is no memory for the open
+    /// containers. Then a prefix of the text is written.
     ///
     /// ```
     /// let mut bytes = Vec::new(alloc);
@@ -95,8 +95,8 @@ impl NormalText {
         self.write(alloc, None, b"", out)
     }
 
-    /// Writes what [`NormalText::write_to`] writes and a line feed: a text that is kept as its compact text by one
-    /// call of the writer, if that takes all. The text is still the same afterwards.
+    /// Writes what [`NormalText::write_to`] writes and a line feed. If the tree is kept as compact text,
+    /// it calls the writer once, if the writer accepts all. The `NormalText` is unchanged afterwards.
     ///
     /// ```
     /// let mut bytes = Vec::new(alloc);
@@ -115,8 +115,8 @@ impl NormalText {
         self.write(alloc, None, b"\n", out)
     }
 
-    /// Writes the text of the tree indented with two spaces, in UTF-8, and flushes nothing: the bytes that
-    /// `JsonValue::format_to` of the text's value writes. The errors are those of [`NormalText::write_to`].
+    /// Writes the text indented with two spaces, in UTF-8: the bytes that `JsonValue::format_to` writes
+    /// for the text's value. It does not flush. The errors are those of [`NormalText::write_to`].
     ///
     /// ```
     /// let mut bytes = Vec::new(alloc);
@@ -146,7 +146,7 @@ impl NormalText {
         self.write(alloc, Some(INDENT), b"\n", out)
     }
 
-    /// The compact text of the tree: what `stringify` of the text's value returns.
+    /// The compact text: what `JsonValue::stringify` returns for the text's value.
     ///
     /// ```
     /// let normal = NormalText::read(alloc, "[1.50e1, null]")?;
@@ -159,7 +159,7 @@ impl NormalText {
         self.written(alloc, None)
     }
 
-    /// The text of the tree indented with two spaces: what `format` of the text's value returns.
+    /// The text indented with two spaces: what `JsonValue::format` returns for the text's value.
     ///
     /// ```
     /// let normal = NormalText::read(alloc, r#"{"b": {}, "a": null}"#)?;
@@ -173,7 +173,7 @@ impl NormalText {
         self.written(alloc, Some(INDENT))
     }
 
-    /// Writes the text, compact or indented by a text, and the bytes behind it.
+    /// Writes the text, compact or with this indent, and the given bytes after it.
     fn write<W: Write>(
         &self,
         alloc: Global,
@@ -192,7 +192,7 @@ impl NormalText {
         }
     }
 
-    /// The text, compact or indented by a text.
+    /// The text, compact or with this indent.
     fn written(&self, alloc: Global, indent: Option<&str>) -> JsonGenerateResult
         requires { IfSome (indent_of indent) (λ i. IsTrue (all_scalars i)) }
         ensures { (t : Tree) → HasTree self.now t →
@@ -208,7 +208,7 @@ impl NormalText {
         }
     }
 
-    /// Whether the compact text of the tree is this one.
+    /// Whether this is the compact text of the tree.
     fn is_written(&self, alloc: Global, text: &str) -> Result<bool, AllocError>
         ensures { (t : Tree) → HasTree self.now t →
             IfOk result (λ b. IsTrue b ↔ (chars text.now ≡ compact t)) }
@@ -220,8 +220,8 @@ impl NormalText {
     }
 }
 
-/// Writes the bytes and a line feed, by one call if the writer takes all. The text has room for it, which the comma
-/// behind it had while it was built.
+/// Writes the bytes and a line feed, in one call if the writer accepts all. There is room for the line
+/// feed in the text, since it was built with a comma at its end.
 fn write_with_line_feed<W: Write>(out: &mut W, text: &mut Vec<u8>) -> io::Result<()>
     ensures line { WritesPrefix (W.contents out.old) (W.contents out.new)
         (text.old.items ++ line_feed ∷ []) result }
@@ -233,7 +233,7 @@ fn write_with_line_feed<W: Write>(out: &mut W, text: &mut Vec<u8>) -> io::Result
     written
 }
 
-/// Writes the bytes, and those behind them.
+/// Writes the bytes, and then the others.
 fn write_both<W: Write>(out: &mut W, bytes: &[u8], behind: &[u8]) -> io::Result<()>
     ensures { WritesPrefix (W.contents out.old) (W.contents out.new)
         (bytes.now ++ behind.now) result }
@@ -242,7 +242,8 @@ fn write_both<W: Write>(out: &mut W, bytes: &[u8], behind: &[u8]) -> io::Result<
     write_all(out, behind)
 }
 
-/// Writes the text of the tree that a compact text has, indented by a text, and the bytes behind it: it is read again.
+/// Writes the text of a compact text's tree with this indent, and the given bytes after it. It parses the
+/// compact text again.
 fn write_indented<W: Write>(
     alloc: Global,
     indent: Option<&str>,
@@ -263,9 +264,9 @@ fn write_indented<W: Write>(
     }
 }
 
-/// Whether a text is the compact text of its tree. One that has no tree is not.
+/// Whether a text is in normal form: the compact text of its own tree. A text that is no JSON is not.
 ///
-/// The error says that memory ran out.
+/// The only error is out of memory.
 ///
 /// ```
 /// assert!(rt; is_normal(alloc, r#"{"a":1.5,"b":[]}"#)?);

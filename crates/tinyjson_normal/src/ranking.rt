@@ -1,5 +1,5 @@
-//! Members put in the order of their keys by ranks (`tinyjson_bytes`). Whether they are in order then is looked at on
-//! the keys themselves.
+//! Puts members in the order of their keys by ranks (`tinyjson_bytes`), and then checks the order on the
+//! keys themselves.
 ghost use Rattle.std.specs.Prelude.{◌≡◌, true, List, IfOk, OnOk, length};
 ghost use Rattle.std.specs.List.{All, Contains};
 ghost use Rattle.tinyjson_document.specs.Order.{IsOrdered, lasts};
@@ -10,12 +10,12 @@ use tinyjson_bytes::{Keys, place_mask, rank};
 use tinyjson_document::sorting::{push_lasts, rise, sort};
 use tinyjson_document::store::{Member, part};
 
-/// Up to this many members are sorted at once, unless the object before had as many keys.
+/// Up to this many members are sorted without ranks, unless the object before had as many keys.
 const FEW: usize = 32;
 
-/// Keeps the members in the order of their keys, of those with one key the last. The order of the object that was
-/// ordered before is tried first, which the ranks have: a document has many objects with the same keys. There are
-/// no ranks where keys of that object were equal, and then few members are sorted at once.
+/// Keeps the members in the order of their keys; of equal keys only the last. It first tries the order of
+/// the last object, which the ranks have, since many objects of a text have the same keys. If that object
+/// had equal keys, there are no ranks, and few members are simply sorted.
 pub(crate) fn keep_ordered(
     texts: &[u8],
     members: &mut Vec<Member>,
@@ -44,7 +44,7 @@ pub(crate) fn keep_ordered(
     Ok(())
 }
 
-/// Keeps the members in the order of the ranks, and says whether their keys rise in it.
+/// Keeps the members in the order of the ranks, and returns whether each key is less than the next one.
 fn keep_rising(
     texts: &[u8],
     members: &[Member],
@@ -62,7 +62,7 @@ fn keep_rising(
     Ok(kept.len() == members.len() && rise(texts, kept))
 }
 
-/// Keeps the members at the places of the ranks.
+/// Keeps the members in the order of the ranks.
 fn pick(members: &[Member], ranks: &[u64], kept: &mut Vec<Member>) -> Result<(), AllocError>
     ensures { OnOk result (All (Contains members.now) kept.new.items) }
 {
@@ -89,7 +89,7 @@ fn rank_members(texts: &[u8], members: &[Member], ranks: &mut Vec<u64>) -> Resul
     Ok(())
 }
 
-/// The keys of members, which lie in the text.
+/// The keys of members, which are ranges of the text.
 #[derive(Clone, Copy)]
 struct MemberKeys<'t> {
     texts: &'t [u8],

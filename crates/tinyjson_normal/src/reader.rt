@@ -1,4 +1,4 @@
-//! Texts that are read one after the other.
+//! Normalizes many texts, one after the other.
 ghost use Rattle.std.specs.Prelude.{[], IfOk};
 ghost use Rattle.std.specs.Str.{chars};
 ghost use Rattle.tinyjson.specs.Events.{TellsText, without_events};
@@ -14,11 +14,11 @@ use std::mem;
 use tinyjson::{Events, JsonParseError, read_events, read_events_with_depth_limit};
 use tinyjson_document::arena::Arena;
 
-/// How many times the length of a text may be moved for the order of members.
+/// Up to this many times the text's length is moved to put members in order.
 const MOVES: usize = 8;
 
-/// Reads texts one after the other, and keeps memory from each for the next: for many small texts, as the lines
-/// of a log are. It holds as much as the largest of them took.
+/// Parses texts one after the other, and keeps the memory of each for the next. It is for many small
+/// texts, as the lines of a log. It keeps as much memory as the largest text took.
 ///
 /// ```
 /// for line in ["[1.0]", r#"{"b": 2, "a": 1}"#] {
@@ -35,7 +35,7 @@ pub struct NormalReader {
 }
 
 impl NormalReader {
-    /// With no memory kept yet.
+    /// A reader without memory yet.
     ///
     /// ```
     /// let mut reader = NormalReader::new(alloc);
@@ -44,7 +44,7 @@ impl NormalReader {
         NormalReader { alloc, spare: None }
     }
 
-    /// The allocator that it reads with.
+    /// The allocator of the reader.
     ///
     /// ```
     /// normal.write_to(reader.allocator(), &mut output)?;
@@ -53,8 +53,8 @@ impl NormalReader {
         self.alloc
     }
 
-    /// Reads a text in which at most `limit` containers are open at once, if there is a limit: what
-    /// [`NormalText::read`] and [`NormalText::read_with_depth_limit`] return, whatever was read before.
+    /// Parses a text with at most `limit` nested containers, or any number for `None`. It returns what
+    /// [`NormalText::read`] and [`NormalText::read_with_depth_limit`] return, whatever was parsed before.
     ///
     /// ```
     /// assert!(rt; reader.read("[[1]]", Some(2)).is_ok());
@@ -77,7 +77,7 @@ impl NormalReader {
         }
     }
 
-    /// Keeps the memory of a text for the next ones.
+    /// Returns the memory of a text to the reader.
     ///
     /// ```
     /// reader.reuse(normal);
@@ -88,7 +88,7 @@ impl NormalReader {
         }
     }
 
-    /// No text yet, where one of that length is read.
+    /// Empties the buffers, and reserves room for a text of `len` bytes.
     fn begin(&mut self, len: usize) -> Result<Box<Compact>, AllocError>
         ensures { IfOk result (λ b. Holds b.value []) }
     {
@@ -100,7 +100,7 @@ impl NormalReader {
         Ok(compact)
     }
 
-    /// What was built, without the comma behind it. The other memory is kept.
+    /// The finished text, without the comma after it. The other memory stays with the reader.
     fn finish(&mut self, compact: Box<Compact>) -> NormalText
         ensures { (t : Tree) → IsOf compact.value t → IsTree t → HasTree result t }
     {
@@ -114,14 +114,14 @@ impl NormalReader {
     }
 }
 
-/// New memory. Not inlined, so that no room for it is cleared where memory was kept.
+/// New buffers. Not inlined, so that no room for them is cleared where buffers were kept.
 #[cold]
 #[inline(never)]
 fn new_box(alloc: Global) -> Result<Box<Compact>, AllocError> {
     Ok(Box::new(alloc, Compact::new(alloc))?)
 }
 
-/// A text that is read into nodes.
+/// A text that is parsed into an arena.
 fn of_nodes(alloc: Global, text: &str, limit: Option<usize>) -> Result<NormalText, JsonParseError>
     ensures { TellsText HasTree limit (chars text.now) result }
 {
@@ -133,7 +133,7 @@ fn of_nodes(alloc: Global, text: &str, limit: Option<usize>) -> Result<NormalTex
     }
 }
 
-/// Reads the text into events.
+/// Parses the text, and sends its events.
 fn read_into<E: Events>(
     alloc: Global,
     text: &str,

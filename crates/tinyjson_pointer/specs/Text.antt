@@ -19,7 +19,7 @@ abbrev pub pointer_text : List (List ℕ) → List ℕ
 pointer_text [] = []
 pointer_text (t ∷ ts) = solidus ∷ (escape t ++ pointer_text ts)
 
--- the first token and the others
+-- the first token, and the others
 abbrev pub Split : Type 0
 Split = List ℕ × List (List ℕ)
 
@@ -29,12 +29,12 @@ longer c s = (c ∷ s.0, s.1)
 abbrev pub parted : Split → Split
 parted s = ([], s.0 ∷ s.1)
 
--- the tokens of a text, as far as it is one; a `~` may have come before it
+-- the tokens of a text, as far as it is one; the flag: a `~` is before it
 abbrev pub split : Bool → List ℕ → Split
 split _ [] = ([], [])
 split true (c ∷ cs) = longer (cond (c == 48) 126 47) (split false cs)
 split false (c ∷ cs) = cond (c == 47) (parted (split false cs)) (cond (c == 126) (split true cs) (longer c (split false cs)))
 
--- the tokens whose text it is, if it is that of a pointer
+-- the tokens with this text, if it is that of a pointer
 abbrev pub pointer_tokens : List ℕ → Option (List (List ℕ))
 pointer_tokens cs = cond (bytes_eq (pointer_text (split false cs).1) cs) (Some (split false cs).1) None

@@ -7,7 +7,7 @@ use Rattle.tinyjson_pointer.specs.declared.pointer.Pointer.{Pointer}
 abbrev pub tokens_of : Pointer → List (List ℕ)
 tokens_of p = map text p.tokens.items
 
--- whether the tokens begin with the others
+-- the other tokens are a prefix of the tokens
 abbrev pub begins_with : List (List ℕ) → List (List ℕ) → Bool
 begins_with ks [] = true
 begins_with [] (l ∷ ls) = false

@@ -1,4 +1,4 @@
--- The part of a tree that tokens name (RFC 6901, section 4), and the tree with another part in its place.
+-- The part of a tree that tokens name (RFC 6901, section 4), and the tree with that part replaced.
 use Rattle.std.specs.Prelude.{◌≡◌, ℕ, List, [], ◌∷◌, Option, Some, None, option_and_then, Result, MatchResult}
 use Rattle.std.specs.Option.{option_map_or}
 use Rattle.tinyjson.specs.Index.{nth, with_nth}
@@ -17,7 +17,7 @@ step (object ms) k = find k ms
 step (array ts) k = item_of ts (index_of k)
 step _ k = None
 
--- the part that the tokens name, one after the other
+-- the part that the tokens name
 abbrev pub part_at : Tree → List (List ℕ) → Option Tree
 part_at t [] = Some t
 part_at t (k ∷ ks) = option_and_then (λ u. part_at u ks) (step t k)
@@ -26,19 +26,19 @@ abbrev pub with_item_of : Items → Option ℕ → Tree → Items
 with_item_of ts None u = ts
 with_item_of ts (Some i) u = with_nth ts i u
 
--- the tree with u in the place of the part that the token names
+-- the tree with the part that the token names replaced by u
 abbrev pub with_step : Tree → List ℕ → Tree → Tree
 with_step (object ms) k u = object (put k u ms)
 with_step (array ts) k u = array (with_item_of ts (index_of k) u)
 with_step t k u = t
 
--- the tree with u in the place of the part that the tokens name; the same tree where they name none
+-- the tree with the part that the tokens name replaced by u; the same tree if they name none
 abbrev pub with_part : Tree → List (List ℕ) → Tree → Tree
 with_part t [] u = u
 with_part t (k ∷ ks) u = option_map_or (λ part. with_step t k (with_part part ks u)) (step t k) t
 
--- What `replace` returns: the old part, and its place holds the new one; or, where the tokens name no
--- part, the new one, and nothing is changed.
+-- What `replace` returns: the old part, and the new one is in its place; or, if the tokens name no part,
+-- the new one, and nothing changes.
 abbrev pub Replaces : Tree → List (List ℕ) → JsonValue → Result JsonValue JsonValue → Tree → Type 0
 Replaces t ks part result t' = MatchResult result
     (λ old. (part_at t ks ≡ Some (view old)) × (t' ≡ with_part t ks (view part)))

@@ -1,4 +1,4 @@
-//! A part that is put in, or taken out.
+//! Inserts and removes parts of a value.
 ghost use Rattle.std.specs.Prelude.{◌≡◌, ℕ, ◌<◌, ◌≤◌, Some, IsSome, MatchOption, map, length, OnOk};
 ghost use Rattle.std.specs.Str.{chars};
 ghost use Rattle.tinyjson.specs.Tree.{null, array, object};
@@ -16,22 +16,22 @@ use std::collections::HashMap;
 use std::mem;
 use tinyjson::{JsonValue, insert_member, remove_member};
 
-/// Why a part is not put in.
+/// Why a part is not inserted.
 #[derive(Clone, Copy, Debug, PartialEq, Eq)]
 pub enum InsertError {
-    /// The pointer names no place: its container is not there or is none, or in an array the token is no
-    /// index or is past the end.
+    /// The pointer names no place: its container is missing or is a scalar, or the last token is no index
+    /// of the array, or is past its end.
     NoPlace,
     /// An allocation failed.
     OutOfMemory,
 }
 
 impl Pointer {
-    /// Puts the part at the place that this names, as `add` of RFC 6902, section 4.1: a member, in the
-    /// place of one with its key; an item before the one with its index, and at the index of the end or
-    /// at `-` after the last; or the whole value.
+    /// Inserts the part at the place that this names, as `add` of RFC 6902, section 4.1. In an object it
+    /// replaces the member with this key. In an array it goes before the item with this index; at the
+    /// index of the end, or at `-`, it is appended. The root pointer replaces the whole value.
     ///
-    /// After an error the value is as it was, and the part is freed. What is replaced is freed too. It
+    /// After an error the value is unchanged, and the part is freed. A replaced part is freed too. It
     /// recurses once for each token.
     ///
     /// ```
@@ -61,9 +61,9 @@ impl Pointer {
         answer
     }
 
-    /// Takes out the part that this names, as `remove` of RFC 6902, section 4.2, and returns it; or
-    /// returns `None` where this names none or the whole value, and the value stays as it is. It recurses
-    /// once for each token.
+    /// Removes the part that this names, as `remove` of RFC 6902, section 4.2, and returns it. If this
+    /// names no part, or the whole value, it returns `None`, and the value is unchanged. It recurses once
+    /// for each token.
     ///
     /// ```
     /// let pointer = Pointer::parse(alloc, "/0")?;
@@ -82,7 +82,7 @@ impl Pointer {
     }
 }
 
-/// Takes out the part that the tokens name, and puts null in its place.
+/// Takes the part that the tokens name, and leaves null in its place.
 pub(crate) fn take_at(value: &mut JsonValue, tokens: &[String]) -> Option<JsonValue>
     ensures { MatchOption result
         ((part_at (view value.old) (map text tokens.now) ≡ None)
@@ -96,7 +96,7 @@ pub(crate) fn take_at(value: &mut JsonValue, tokens: &[String]) -> Option<JsonVa
     }
 }
 
-/// Puts the part in the place of the one that the tokens name, and frees that.
+/// Replaces the part that the tokens name, and frees the old one.
 pub(crate) fn put_back(value: &mut JsonValue, tokens: &[String], part: JsonValue)
     ensures { IsSome (part_at (view value.old) (map text tokens.now)) →
         view value.new ≡ with_part (view value.old) (map text tokens.now) (view part) }
@@ -165,7 +165,7 @@ fn insert_item(items: &mut Vec<JsonValue>, token: &str, part: JsonValue) -> Resu
     }
 }
 
-/// Where the token puts an item among so many.
+/// The index at which the token inserts an item into an array of `count` items.
 pub(crate) fn place(token: &str, count: usize) -> Option<usize>
     ensures { MatchOption result
         ((i : ℕ) → place_of count (chars token.now) ≡ Some i → count < i)

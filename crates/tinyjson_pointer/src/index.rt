@@ -1,10 +1,10 @@
-//! The index that a token is.
+//! Tokens that are indices.
 ghost use Rattle.std.specs.Prelude.{◌≡◌, ℕ, ◌≤◌, ◌^◌, Some, MatchOption};
 ghost use Rattle.std.specs.Str.{chars, all_ascii_digits};
 ghost use Rattle.tinyjson_pointer.specs.Index.{index_of, is_index};
 
-/// The index that the token is (RFC 6901, section 4): decimal digits with no needless zero in front.
-/// `None` for other tokens, as `-`, and for an index that no array in memory reaches.
+/// The index that the token names (RFC 6901, section 4): decimal digits without a leading zero. `None`
+/// for other tokens, as `-`, and for an index that no array in memory reaches.
 pub(crate) fn index(token: &str) -> Option<usize>
     ensures { MatchOption result
         ((i : ℕ) → index_of (chars token.now) ≡ Some i → 2 ^ 64 ≤ i)
@@ -16,7 +16,7 @@ pub(crate) fn index(token: &str) -> Option<usize>
     token.parse().ok()
 }
 
-/// Whether the bytes are digits, of which the first of several is not 0.
+/// Whether the bytes are digits without a leading zero.
 fn is_numeral(bytes: &[u8]) -> bool
     ensures { result ≡ is_index bytes.now }
 {

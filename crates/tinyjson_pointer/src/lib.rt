@@ -1,4 +1,4 @@
-//! JSON pointers (RFC 6901): texts that name a part of a JSON value.
+//! JSON pointers (RFC 6901): each names a part of a JSON value.
 //!
 //! ```
 //! let pointer = Pointer::parse(alloc, "/foo/0")?;

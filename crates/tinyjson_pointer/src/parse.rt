@@ -1,4 +1,4 @@
-//! Reading the text of a pointer.
+//! Parses the text of a pointer.
 ghost use Rattle.std.specs.Prelude.{◌≡◌, ◌∷◌, ◌++◌, [], OnOk};
 ghost use Rattle.std.specs.Str.{chars};
 ghost use Rattle.tinyjson.specs.View.{text};
@@ -9,8 +9,8 @@ use std::alloc::{AllocError, Global};
 use std::mem;
 
 impl Pointer {
-    /// Reads the text of a pointer (RFC 6901, section 3): nothing, or tokens with a `/` before each,
-    /// in which `~0` stands for `~` and `~1` for `/`.
+    /// Parses the text of a pointer (RFC 6901, section 3). It is empty, or a `/` is before each token. In
+    /// tokens `~0` is `~` and `~1` is `/`.
     ///
     /// ```
     /// let pointer = Pointer::parse(alloc, "/a~1b/0")?; // the item 0 of the member `a/b`
@@ -29,7 +29,7 @@ impl Pointer {
     }
 }
 
-/// Reads the tokens of what follows the first `/`.
+/// Parses the tokens after the first `/`.
 fn read_tokens(alloc: Global, text: &str) -> Result<Vec<String>, PointerError>
     ensures { ReadsTokens (chars text.now) result }
 {
@@ -55,7 +55,7 @@ fn read_tokens(alloc: Global, text: &str) -> Result<Vec<String>, PointerError>
     Ok(tokens)
 }
 
-/// The character that a `~` and this one stand for.
+/// The character for `~` and this one.
 fn unescaped(c: char) -> Result<char, PointerError>
     ensures { Unescapes c result }
 {

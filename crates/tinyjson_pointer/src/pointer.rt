@@ -1,4 +1,4 @@
-//! A pointer: the tokens of its text.
+//! A pointer, which is a list of tokens.
 ghost use Rattle.std.specs.Prelude.{◌≡◌, ◌∷◌, [], Some, OnOk, OnErr, length, map};
 ghost use Rattle.std.specs.Prelude.{encode_utf8_all};
 ghost use Rattle.std.specs.Fmt.{WritesOnOk};
@@ -17,9 +17,9 @@ use std::fmt::{self, Write};
 /// Why a text is no pointer.
 #[derive(Clone, Copy, Debug, PartialEq, Eq)]
 pub enum PointerError {
-    /// The text is not empty and begins with no `/`.
+    /// The text is not empty and does not begin with `/`.
     NoSlash,
-    /// A `~` is followed by neither `0` nor `1`.
+    /// A `~` has neither `0` nor `1` after it.
     BadEscape,
     /// An allocation failed.
     OutOfMemory,
@@ -62,7 +62,7 @@ pub struct Pointer {
 }
 
 impl Pointer {
-    /// The pointer to the whole value, whose text is empty.
+    /// The pointer to the whole value; its text is empty.
     pub fn root(alloc: Global) -> Pointer
         ensures { tokens_of result ≡ [] }
     {
@@ -71,7 +71,7 @@ impl Pointer {
         }
     }
 
-    /// The tokens: the keys and the texts of indices, from the whole to the part.
+    /// The tokens, from the whole to the part: keys, and indices as text.
     ///
     /// ```
     /// let pointer = Pointer::parse(alloc, "/a~1b/0")?;
@@ -83,22 +83,23 @@ impl Pointer {
         self.tokens.as_slice()
     }
 
-    /// The number of tokens: how deep the part is that this names.
+    /// The number of tokens: the depth of the part that this names.
     pub fn depth(&self) -> usize
         ensures { result ≡ length (tokens_of self.now) }
     {
         self.tokens.len()
     }
 
-    /// Whether the tokens begin with all of the other's: this then names the other's part, or one in it.
+    /// Whether the other's tokens are a prefix of these: this then names the other's part, or a part of
+    /// it.
     pub fn starts_with(&self, other: &Pointer) -> bool
         ensures { result ≡ begins_with (tokens_of self.now) (tokens_of other.now) }
     {
         self.tokens.starts_with(other.tokens.as_slice())
     }
 
-    /// Puts a token in front: what this names in a value, it then names in the value's container. If
-    /// memory runs out, the tokens are as they were.
+    /// Puts a token in front. What this named in a value, it now names in the value's container. If
+    /// memory runs out, the tokens are unchanged.
     pub fn prepend(&mut self, token: String) -> Result<(), AllocError>
         ensures ok { OnOk result (tokens_of self.new ≡ text token ∷ tokens_of self.old) }
         ensures err { OnErr result (tokens_of self.new ≡ tokens_of self.old) }
@@ -106,7 +107,7 @@ impl Pointer {
         Ok(self.tokens.insert(0, token)?)
     }
 
-    /// Puts the token of an index in front. If memory runs out, the tokens are as they were.
+    /// Puts the token of an index in front. If memory runs out, the tokens are unchanged.
     pub fn prepend_index(&mut self, alloc: Global, index: usize) -> Result<(), AllocError>
         ensures ok { OnOk result (HasIndexBefore index (tokens_of self.old) (tokens_of self.new)) }
         ensures err { OnErr result (tokens_of self.new ≡ tokens_of self.old) }
@@ -115,7 +116,7 @@ impl Pointer {
     }
 }
 
-/// The text, as [`Pointer::parse`] reads it.
+/// The text that [`Pointer::parse`] accepts.
 impl fmt::Display for Pointer {
     ghost output = { λ p. Some (encode_utf8_all (pointer_text (tokens_of p))) };
 

@@ -1,5 +1,5 @@
-//! The items of an array, apart from the value that holds them, so that many are put in or taken out in turn:
-//! each in a box, so that what moves where one is put in are pointers.
+//! The items of an array, taken out of their value to insert and remove many in turn. Each is in a box,
+//! so that an insertion moves only pointers.
 ghost use Rattle.std.specs.Box.{box_value};
 ghost use Rattle.std.specs.Prelude.{◌≡◌, IsSome, MatchOption, option_map};
 ghost use Rattle.std.specs.Str.{chars};
@@ -18,7 +18,7 @@ use std::collections::VecDeque;
 use tinyjson::JsonValue;
 
 impl Pointer {
-    /// Whether both name places in one container: they have the same tokens but for the last.
+    /// Whether both name places in the same container: all their tokens but the last are equal.
     pub fn is_beside(&self, other: &Pointer) -> bool
         ensures { result ≡ are_beside (tokens_of self.now) (tokens_of other.now) }
     {
@@ -31,8 +31,8 @@ impl Pointer {
         front.starts_with(other_front) && other_front.starts_with(front)
     }
 
-    /// Takes out the items of the array in which this names a place, and leaves null there; or returns
-    /// `None` where there is no array, and the value stays as it is. It recurses once for each token.
+    /// Takes the items of the array in which this names a place, and leaves null there. If there is no
+    /// array, it returns `None`, and the value is unchanged. It recurses once for each token.
     ///
     /// ```
     /// let place = Pointer::parse(alloc, "/a/0")?;
@@ -55,8 +55,8 @@ impl Pointer {
         }
     }
 
-    /// Puts an array of the items in the place of the container in which this names a place, and frees
-    /// that. It recurses once for each token.
+    /// Replaces the container in which this names a place by an array of the items, and frees the old
+    /// one. It recurses once for each token.
     pub fn put_items(&self, value: &mut JsonValue, items: VecDeque<JsonValue>)
         ensures { IsSome (container_at (view value.old) (tokens_of self.now)) →
             view value.new ≡ with_container (view value.old) (tokens_of self.now)
@@ -69,7 +69,7 @@ impl Pointer {
         }
     }
 
-    /// The item that the last token names among these, as [`Pointer::find`] does in an array of them.
+    /// The item that the last token names, as [`Pointer::find`] finds it in an array of the items.
     pub fn find_in<'i>(&self, items: &'i VecDeque<Box<JsonValue>>) -> Option<&'i JsonValue>
         ensures { option_map (λ x. view x.now) result
             ≡ step (array (boxes_view items.now.items)) (child_name (tokens_of self.now)) }
@@ -78,8 +78,8 @@ impl Pointer {
         item_at(items, last.as_str())
     }
 
-    /// Puts the part at the place that the last token names among the items, as [`Pointer::insert`] does.
-    /// After an error the items are as they were, and the part is freed.
+    /// Inserts the part at the place that the last token names, as [`Pointer::insert`] does. After an
+    /// error the items are unchanged, and the part is freed.
     ///
     /// ```
     /// place.insert_in(&mut items, Box::new(alloc, JsonValue::Null)?)?; // by /0 7, 8 are then null, 7, 8
@@ -103,7 +103,7 @@ impl Pointer {
         }
     }
 
-    /// Takes out the item that the last token names among these, as [`Pointer::remove`] does.
+    /// Removes the item that the last token names, as [`Pointer::remove`] does.
     pub fn remove_from(&self, items: &mut VecDeque<Box<JsonValue>>) -> Option<Box<JsonValue>>
         ensures { Removes
             (step (array (boxes_view items.old.items)) (child_name (tokens_of self.now)))

@@ -1,4 +1,4 @@
-//! The part that a pointer names, whatever keeps the tree.
+//! Finds the part that a pointer names, in a document or in a value.
 ghost use Rattle.std.specs.Prelude.{◌≡◌, option_map};
 ghost use Rattle.std.specs.Str.{chars};
 ghost use Rattle.tinyjson_pointer.specs.Tokens.{tokens_of};
@@ -10,8 +10,8 @@ use tinyjson::JsonKind;
 use tinyjson_document::JsonView;
 
 impl Pointer {
-    /// The part that this names in a document's node, or in what else is looked into, if there is one: what
-    /// [`Pointer::find`] finds in a value.
+    /// The part that this names in a document's node, or in another [`JsonView`], if there is one. In a
+    /// value it is what [`Pointer::find`] returns.
     ///
     /// ```
     /// let document = Document::read(alloc, r#"{"a/b":[7]}"#)?;

@@ -1,4 +1,4 @@
-//! The part that a pointer names.
+//! Finds and replaces the part that a pointer names.
 ghost use Rattle.std.specs.Prelude.{◌≡◌, map, option_map};
 ghost use Rattle.std.specs.Str.{chars};
 ghost use Rattle.tinyjson.specs.View.{view, text};
@@ -29,8 +29,8 @@ impl Pointer {
         Some(here)
     }
 
-    /// Puts `part` in the place of the part that this names, and returns the old one; or returns `part`
-    /// where this names none, and the value stays as it is. It recurses once for each token.
+    /// Replaces the part that this names by `part`, and returns the old one. If this names none, it
+    /// returns `part`, and the value is unchanged. It recurses once for each token.
     ///
     /// ```
     /// let pointer = Pointer::parse(alloc, "/0")?;

@@ -1,4 +1,4 @@
-//! Counts of JSON values by their normal text: equal values share one count.
+//! Counts JSON values by their normal text, so that equal values have one count.
 //!
 //! ```
 //! let mut store = Store::new(alloc);

@@ -1,4 +1,4 @@
-//! Counts of values by their normal text: equal values share one count.
+//! Counts values by their normal text, so that equal values have one count.
 ghost use Rattle.std.specs.Prelude.{◌≡◌, IfOk, OnOk, OnErr};
 ghost use Rattle.tinyjson.specs.Tree.{Tree};
 ghost use Rattle.tinyjson_normal.specs.Normal.{HasTree};
@@ -10,15 +10,15 @@ use tinyjson_normal::NormalText;
 
 /// How often each value was added.
 ///
-/// A value is kept by its compact text, which two values share exactly if they are equal: numbers
-/// have one form, and members stand in the order of their keys.
+/// It keeps the compact text of each value. Two values have the same one exactly if they are equal: each
+/// number has one spelling, and members are in the order of their keys.
 #[derive(Drop)]
 pub struct Store {
     counts: HashMap<String, u64>,
 }
 
 impl Store {
-    /// A store that has counted nothing.
+    /// A store without values.
     pub fn new(alloc: Global) -> Store
         ensures { (t : Tree) → count_of result t ≡ 0 }
     {
@@ -37,8 +37,7 @@ impl Store {
         Ok(self.counts.get(key.as_str()).copied().unwrap_or(0))
     }
 
-    /// Adds the value once. At `u64::MAX` its count stays. If memory runs out, all counts are as they
-    /// were.
+    /// Adds the value once. A count of `u64::MAX` stays as it is. If memory runs out, no count changes.
     ///
     /// ```
     /// store.add(alloc, &NormalText::read(alloc, r#"{"a": 1, "b": 2.0}"#)?)?;
