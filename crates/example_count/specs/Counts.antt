@@ -1,4 +1,4 @@
--- How many values of a kind a tree has.
+-- The number of values of a kind in a tree.
 use Rattle.std.specs.Prelude.{ℕ, ◌+◌, ◌≤◌, List, [], ◌∷◌}
 use Rattle.example_count.specs.declared.counts.Counts.{Counts}
 use Rattle.tinyjson.specs.Events.{Open, in_array, at_key, at_value}
@@ -7,7 +7,7 @@ use Rattle.tinyjson.specs.Tree.{no_items, item, no_members, member, items_of}
 use Rattle.tinyjson.specs.JsonKind.{JsonKind}
 use Rattle.tinyjson.specs.JsonKind.TheVariants as kind
 
--- a value of the kind j, counted among those of the kind k
+-- 1 if the kinds are the same, else 0
 abbrev pub one : JsonKind → JsonKind → ℕ
 one kind.Null kind.Null = 1
 one kind.Boolean kind.Boolean = 1
@@ -17,7 +17,7 @@ one kind.Array kind.Array = 1
 one kind.Object kind.Object = 1
 one k j = 0
 
--- the tree itself, and all that it holds; of equal keys in a text the tree has one
+-- the tree itself, and all values in it; of a text's equal keys the tree has only one
 abbrev mutual
   pub count : JsonKind → Tree → ℕ
   count k null = one k kind.Null
@@ -35,7 +35,7 @@ abbrev mutual
   members_count k no_members = 0
   members_count k (member l t ms) = count k t + members_count k ms
 
--- what was counted of a kind
+-- the count of a kind
 abbrev pub counted : Counts → JsonKind → ℕ
 counted e kind.Null = e.nulls
 counted e kind.Boolean = e.booleans
@@ -44,11 +44,11 @@ counted e kind.String = e.strings
 counted e kind.Array = e.arrays
 counted e kind.Object = e.objects
 
--- of each kind no fewer than the tree has
+-- each count is at least that of the tree
 abbrev pub AtLeast : Counts → Tree → Type 0
 AtLeast e t = (k : JsonKind) → count k t ≤ counted e k
 
--- what the open containers are and hold
+-- the values in the open containers, and these containers
 abbrev pub open_count : JsonKind → List Open → ℕ
 open_count k [] = 0
 open_count k (in_array ts ∷ os) = count k (array (items_of ts)) + open_count k os

@@ -1,4 +1,4 @@
-//! The counts, and the events that add to them.
+//! The counts, and the events that increase them.
 ghost use Rattle.std.specs.Prelude.{◌≡◌, ◌+◌, None, IfOk, OnOk};
 ghost use Rattle.std.specs.Str.{chars};
 ghost use Rattle.tinyjson.specs.Events.{TellsText};
@@ -8,7 +8,7 @@ ghost use Rattle.example_count.specs.Counts.{AtLeast, counted, one};
 use std::alloc::{AllocError, Global};
 use tinyjson::{Events, JsonKind, JsonNumber, JsonParseError, read_events};
 
-/// How many values of each kind were told. An object's keys are no values.
+/// How many values of each kind there were. The keys of objects are not values.
 #[derive(Drop)]
 pub struct Counts {
     pub nulls: u64,
@@ -33,7 +33,7 @@ impl Counts {
         }
     }
 
-    /// Counts a value of this kind, unless its count is at its highest.
+    /// Counts a value of this kind, unless its count is at its greatest.
     fn add(&mut self, kind: JsonKind) -> Result<(), AllocError>
         ensures { OnOk result ((k : JsonKind) →
             counted self.new k ≡ one k kind + counted self.old k) }
@@ -104,8 +104,8 @@ impl Events for Counts {
     }
 }
 
-/// How many values of each kind a text has, if it has a value. Of equal keys in an object each has a
-/// value that counts, also where only the last stays.
+/// How many values of each kind a text has. Each of an object's equal keys has a value that counts, although
+/// only the last one is kept. An error is that of [`JsonValue::from_str`], or out of memory.
 ///
 /// ```
 /// let counts = count_values(alloc, "[1, 2, {\"a\": null}]")?;

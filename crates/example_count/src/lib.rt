@@ -1,4 +1,4 @@
-//! How many values of each kind a JSON text has, with no value built.
+//! Counts the values of each kind in a JSON text, without building a value.
 //!
 //! ```
 //! let counts = count_values(alloc, "[1, 2, {\"a\": null}]")?;

@@ -10,8 +10,8 @@ use std::alloc::Global;
 use std::io::{self, ErrorKind};
 use tinyjson_document::Document;
 
-/// The compact text of the member `port` of the member `server`, if there is one. The settings may have up to
-/// 100 nested containers.
+/// The compact text of the member `port` of the member `server`, if there is one. At most 100 containers may
+/// be nested in the settings.
 fn port(alloc: Global, settings: &str) -> io::Result<Option<String>>
     ensures ok { IfOk result (λ port. (t : Tree) × IsText (Some 100) (chars settings.now) t
         × (option_map text port ≡ option_map compact (port_in t))) }

@@ -14,8 +14,8 @@ use Rattle.example_path.specs.declared.error.TextsError.TheVariants as error
 abbrev pub part_texts : List Part → List (List ℕ)
 part_texts ps = map (λ p. compact p.tree) ps
 
--- The document is a text of this tree and the query one of this query, and these are the compact texts of exactly what the query selects
--- in the tree, in order, with right answers for regular expressions.
+-- The document is a text of this tree, and the query one of this query. The texts are the compact texts of
+-- exactly what the query selects in the tree, in order, with right answers for regular expressions.
 pub record AreSelected (document query : List ℕ) (texts : List (List ℕ)) : Type 0 where
   pub tree : Tree
   pub is_text : IsText (Some 100) document tree
@@ -25,7 +25,7 @@ pub record AreSelected (document query : List ℕ) (texts : List (List ℕ)) : T
   pub right : IsRight judge
   pub same : texts ≡ part_texts (query_parts judge path tree)
 
--- an error is its reader's, or one of the search, which names a limit that a string of the query or the tree exceeds
+-- an error is that of a parser, or of the search: then a string of the query or the tree exceeds the limit
 abbrev pub Explains : (document query : List ℕ) → TextsError → Type 0
 Explains document query (error.Query e) = Reads query (Err e)
 Explains document query (error.Document e) = ParsesText (Some 100) document (Err e)

@@ -5,7 +5,7 @@ use tinyjson_path::{FindError, ParseError};
 /// Why there are no texts.
 #[derive(Drop)]
 pub enum TextsError {
-    /// The query is no query of JSONPath.
+    /// The query is not a JSONPath query.
     Query(ParseError),
     /// The document is no JSON text, or nested deeper than 100 levels.
     Document(JsonParseError),

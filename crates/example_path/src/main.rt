@@ -1,4 +1,4 @@
-//! Prints what a query of JSONPath selects in a document: a proved caller of `tinyjson_path`.
+//! Prints what a JSONPath query selects in a document: a proved caller of `tinyjson_path`.
 #![tactic(auto)]
 
 mod error;
@@ -20,8 +20,8 @@ use tinyjson_path::{FindError, Node, Query, find};
 const DOCUMENT: &str =
     r#"{"book": [{"title": "Emma", "price": 8.990}, {"title": "Ulysses", "price": 12}]}"#;
 
-/// The compact texts of the values that the query selects in the document, in order. The document may have
-/// up to 100 nested containers.
+/// The compact texts of the values that the query selects in the document, in order. At most 100 containers
+/// may be nested in the document.
 fn texts(alloc: Global, document: &str, query: &str) -> Result<Vec<String>, TextsError>
     ensures ok { IfOk result (λ texts.
         AreSelected (chars document.now) (chars query.now) (map text texts.items)) }
@@ -44,7 +44,7 @@ fn texts(alloc: Global, document: &str, query: &str) -> Result<Vec<String>, Text
     }
 }
 
-/// The same of the document's value.
+/// The compact texts of what the query selects in the value.
 fn value_texts(alloc: Global, value: &JsonValue, query: &Query) -> Result<Vec<String>, FindError>
     ensures ok { IfOk result (λ texts. map text texts.items
         ≡ part_texts (query_parts judged query.now (view value.now))) }

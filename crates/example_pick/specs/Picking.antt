@@ -1,10 +1,10 @@
--- Which members of the outermost object are picked, and what stands meanwhile.
+-- Which members of the outermost object are picked, and the state meanwhile.
 use Rattle.std.specs.Prelude.{◌≡◌, ℕ, List, [], ◌∷◌, length, Bool, true, false, cond, Option, Some, None, ⊤}
 use Rattle.tinyjson.specs.Events.{Open, in_array, at_key, at_value}
 use Rattle.tinyjson.specs.Tree.{Tree, Members, null, boolean, number, string, array, object, no_items, no_members}
 use Rattle.tinyjson.specs.Tree.{find, put, remove}
 
--- a value that holds no others
+-- a scalar
 abbrev pub is_scalar : Tree → Bool
 is_scalar null = true
 is_scalar (boolean b) = true
@@ -17,7 +17,7 @@ abbrev pub scalar_of : Option Tree → Option Tree
 scalar_of None = None
 scalar_of (Some t) = cond (is_scalar t) (Some t) None
 
--- the members of an object; of another value none
+-- the members of an object; none for another value
 abbrev pub members_of : Tree → Members
 members_of (object ms) = ms
 members_of null = no_members
@@ -27,17 +27,17 @@ members_of (string cs) = no_members
 members_of (array ts) = no_members
 
 module _ (wants : List ℕ → Bool) where
-  -- what is picked at a key: its value, if the key is wanted and the value holds no others
+  -- what is picked at a key: its value, if the key is wanted and the value is a scalar
   abbrev pub picked_at : Members → List ℕ → Option Tree
   picked_at ms k = cond (wants k) (scalar_of (find k ms)) None
 
-  -- at each key that
+  -- the members have at each key what is picked there
   abbrev pub Picks : Members → Members → Type 0
   Picks ms ps = (k : List ℕ) → find k ps ≡ picked_at ms k
 
-  -- ---- while a text is read
+  -- ---- while a text is parsed
 
-  -- within the outermost container, which is the last of those around, another is open
+  -- another container is open within the outermost one, which is the last in the list
   abbrev pub Within : List Open → Open → Members → Type 0
   Within [] (in_array ts) ps = Picks no_members ps
   Within [] (at_key ms) ps = ⊤
@@ -58,7 +58,7 @@ module _ (wants : List ℕ → Bool) where
   abbrev pub Holds : ℕ → Option (List ℕ) → Members → List Open → Type 0
   Holds depth key ps os = (depth ≡ length os) × At os key ps
 
-  -- the value of a key is kept, if the key is wanted
+  -- the value is kept at the key, if the key is wanted
   abbrev pub stored : Option (List ℕ) → Tree → Members → Members
   stored None t ps = ps
   stored (Some k) t ps = cond (wants k) (put k t ps) ps

@@ -1,5 +1,4 @@
-//! The members of a text's outermost object that have wanted keys and hold no other values, with nothing
-//! else built.
+//! Picks the scalar members of a text's outermost object that have wanted keys, without building the rest.
 #![tactic(auto)]
 
 mod picking;

@@ -28,7 +28,7 @@ pub trait Wanted: Drop {
         ensures { result ≡ is_wanted (chars key.now) };
 }
 
-/// The members that were picked so far.
+/// The members that are picked so far.
 #[derive(Drop)]
 struct Picking<W>
 where
@@ -44,7 +44,7 @@ where
 }
 
 impl<W: Wanted> Picking<W> {
-    /// Opens a container, which is not picked.
+    /// Opens a container; it is not picked.
     fn open(&mut self) -> Result<(), AllocError>
         ensures depth { OnOk result (self.new.depth ≡ 1 + self.old.depth) }
         ensures key { self.new.key ≡ None }
@@ -72,7 +72,7 @@ impl<W: Wanted> Picking<W> {
         self.depth = self.depth.saturating_sub(1);
     }
 
-    /// Picks the value, if it stands at a wanted key of the outermost object.
+    /// Picks the value, if it is at a wanted key of the outermost object.
     fn value(&mut self, value: JsonValue) -> Result<(), AllocError>
         ensures depth { self.new.depth ≡ self.old.depth }
         ensures key { self.new.key ≡ None }
@@ -142,10 +142,10 @@ impl<W: Wanted> Events for Picking<W> {
     }
 }
 
-/// The members of a text's outermost object whose keys are wanted and whose values hold no others; none,
-/// if the text has another value. Of equal keys the last member counts.
+/// The scalar members of a text's outermost object with wanted keys; none if the text's value is no object.
+/// Of equal keys the last member counts.
 ///
-/// An error is that of [`JsonValue::from_str`], or says that memory ran out.
+/// An error is that of [`JsonValue::from_str`], or out of memory.
 pub fn pick_members<W: Wanted>(
     alloc: Global,
     text: &str,

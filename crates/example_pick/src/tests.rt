@@ -38,7 +38,7 @@ fn picked<W: Wanted>(alloc: Global, text: &str, wanted: W) -> Result<String, Fai
     Ok(JsonValue::from(members).stringify(alloc)?)
 }
 
-/// An object with so many members, in the order of their keys.
+/// An object with `count` members, in the order of their keys.
 fn wide_object(alloc: Global, count: usize) -> Result<String, AllocError> {
     let mut text = "{\"\":null".to_string(alloc)?;
     for number in 1_000_000..1_000_000_usize.saturating_add(count) {
@@ -57,7 +57,7 @@ fn deep_object(alloc: Global) -> Result<String, AllocError> {
     )
 }
 
-/// A text, and what is picked of it.
+/// A text, and what is picked from it.
 const ROWS: &[(&str, &str)] = &[
     ("\"name\"", "{}"),
     ("[{\"name\": 1}]", "{}"),

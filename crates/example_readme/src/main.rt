@@ -11,7 +11,7 @@ use std::collections::HashMap;
 use std::io::{self, ErrorKind};
 use tinyjson::{JsonValue, insert_member};
 
-/// The text of the task with `true` at the key `done`. At most 100 containers may be open at once.
+/// The text of the task with `true` at the key `done`. At most 100 containers may be nested.
 fn mark_done(alloc: Global, task: &str) -> io::Result<String>
     ensures ok { IfOk result (λ done. (t : Tree) × IsText (Some 100) (chars task.now) t
         × (text done ≡ compact (with_tree_at_key t (codes "done") (boolean true)))) }

@@ -1,4 +1,4 @@
--- What a value is by a schema, and why it is not checked.
+-- Whether a value is valid by a schema, and why it is not checked.
 use Rattle.std.specs.Prelude.{◌≡◌, ◌≢◌, ℕ, List, Option, Some, Ok, Err}
 use Rattle.tinyjson.specs.Error.{error_kind}
 use Rattle.tinyjson.specs.JsonParseErrorKind.TheVariants as kind
@@ -9,18 +9,19 @@ use Rattle.tinyjson_schema.specs.declared.violation.Violation.{Violation}
 use Rattle.example_schema.specs.declared.failure.Failure.{Failure}
 use Rattle.example_schema.specs.declared.failure.Failure.TheVariants as is
 
--- The value is a text of a tree that is valid by the schema, or the place is one where it is not.
+-- The text has a tree that is valid by the schema, or the place is one that violates it.
 abbrev pub IsJudged : Tree → List ℕ → Option Violation → Type 0
 IsJudged s value place = (t : Tree) × IsText (Some 100) value t × Validates 200 s t (Ok place)
 
--- The schema can't be applied at this place; the value is no JSON, or memory ran out; or the check did not come to an end.
+-- The schema can't be applied at this place; or the value is no JSON, or memory ran out; or the check needs
+-- too many nested schemas.
 abbrev pub IsFailureBy : Tree → List ℕ → Failure → Type 0
 IsFailureBy s value (is.SchemaText e) = ⊥
 IsFailureBy s value (is.Schema e) = ReadsSchema s (Err e)
 IsFailureBy s value (is.ValueText e) = error_kind e ≢ kind.OutOfMemory → ¬ IsAccepted (Some 100) value
 IsFailureBy s value (is.Check e) = Unit {0}
 
--- The schema is no JSON, or memory ran out; or it is one, by which the value was not checked.
+-- The schema is no JSON, or memory ran out; or the value was not checked by it.
 abbrev pub IsFailure : List ℕ → List ℕ → Failure → Type 0
 IsFailure schema value (is.SchemaText e) = error_kind e ≢ kind.OutOfMemory → ¬ IsAccepted (Some 100) schema
 IsFailure schema value f = (s : Tree) × IsText (Some 100) schema s × IsFailureBy s value f

@@ -14,7 +14,7 @@ pub enum Failure {
     Schema(SchemaError),
     /// The text of the value is no JSON.
     ValueText(JsonParseError),
-    /// More than 200 schemas apply one another, or memory ran out.
+    /// More than 200 nested schemas would be applied, or memory ran out.
     Check(CheckError),
 }
 

@@ -1,4 +1,4 @@
-//! An example: is a value valid by a schema, and if not, where? Both are JSON texts.
+//! Checks a value against a schema, and returns where it is not valid. Both are JSON texts.
 #![tactic(auto)]
 
 ghost use Rattle.std.specs.Prelude.{Some, IfOk, IfErr};
@@ -13,8 +13,8 @@ use std::io;
 use tinyjson::JsonValue;
 use tinyjson_schema::{Schema, Violation};
 
-/// The place in the schema, and the place in the value that does not meet it; `None` says that the value is valid.
-/// Texts are nested up to 100 levels deep, and up to 200 schemas apply one another.
+/// The place in the schema that the value violates, and the place in the value. `None` means that the value
+/// is valid. At most 100 containers may be nested in a text, and at most 200 nested schemas are applied.
 fn invalid_place(alloc: Global, schema: &str, value: &str) -> Result<Option<Violation>, Failure>
     ensures ok { IfOk result (λ place. (s : Tree) × IsText (Some 100) (chars schema.now) s
         × IsJudged s (chars value.now) place) }
@@ -30,7 +30,7 @@ fn invalid_place(alloc: Global, schema: &str, value: &str) -> Result<Option<Viol
     }
 }
 
-/// The same by the schema's value.
+/// The same, for a schema that is parsed.
 fn place_by(alloc: Global, tree: &JsonValue, value: &str) -> Result<Option<Violation>, Failure>
     ensures ok { IfOk result (IsJudged (view tree.now) (chars value.now)) }
     ensures err { IfErr result (IsFailureBy (view tree.now) (chars value.now)) }

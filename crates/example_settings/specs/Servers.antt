@@ -1,11 +1,11 @@
--- What becomes of a list where one item is replaced.
+-- Lists with an item replaced.
 use Rattle.std.specs.Prelude.{◌≡◌, ◌≢◌, ℕ, Some, None, Result, Ok, Err}
 use Rattle.tinyjson.specs.Index.{tree_at, with_tree_at}
 use Rattle.tinyjson.specs.Tree.{Tree}
 use Rattle.tinyjson.specs.View.{view}
 use Rattle.tinyjson.specs.declared.value.JsonValue.{JsonValue}
 
--- the old item comes back, and the new one stands in its place; or there is none, and nothing is changed
+-- the old item is returned, and the new one replaces it; or there is none, and nothing changes
 abbrev pub ReplacesServer : Tree → ℕ → JsonValue → Result JsonValue JsonValue → Tree → Type 0
 ReplacesServer t i server (Ok old) u =
     (tree_at t i ≡ Some (view old)) × (tree_at u i ≡ Some (view server))

@@ -1,4 +1,4 @@
--- Which settings a text has.
+-- The settings of a text.
 use Rattle.std.specs.Prelude.{◌≡◌, ℕ, ◌<◌, Bool, false, List, Option, Some, None, Result, Ok, Err, MatchOption, ◌⊎◌, ⊤, codes, pos}
 use Rattle.std.specs.declared.alloc.AllocError.{AllocError}
 use Rattle.tinyjson.specs.Error.{error_message}
@@ -23,7 +23,7 @@ IsPort member n = (member ≡ Some (number (integer_decimal (pos n)))) × (0 < n
 abbrev pub IsHost : Option Tree → List ℕ → Type 0
 IsHost member cs = member ≡ Some (string cs)
 
--- the member is a truth value, or it is absent, which stands for false
+-- the member is a boolean, or it is absent, which means false
 abbrev pub IsTls : Option Tree → Bool → Type 0
 IsTls member b = (member ≡ Some (boolean b)) ⊎ ((member ≡ None) × (b ≡ false))
 
@@ -37,31 +37,31 @@ HasSettings t s =
     × IsHost (tree_at_key t (codes "host")) (text s.host)
     × IsTls (tree_at_key t (codes "tls")) s.tls
 
--- what the tree does not have at the key
+-- what the tree lacks at the key
 abbrev pub LacksAt : Tree → Key → Type 0
 LacksAt t Port = (n : ℕ) → ¬ IsPort (tree_at_key t (codes "port")) n
 LacksAt t Host = (cs : List ℕ) → ¬ IsHost (tree_at_key t (codes "host")) cs
 LacksAt t Tls = (b : Bool) → ¬ IsTls (tree_at_key t (codes "tls")) b
 
--- what the tree has, where it lacks something at the key: the port is looked at first, then tls, then the host
+-- what the tree has, if it lacks something at the key: the port is checked first, then tls, then the host
 abbrev pub HasBefore : Tree → Key → Type 0
 HasBefore t Port = ⊤
 HasBefore t Tls = (n : ℕ) × IsPort (tree_at_key t (codes "port")) n
 HasBefore t Host = ((n : ℕ) × IsPort (tree_at_key t (codes "port")) n) × ((b : Bool) × IsTls (tree_at_key t (codes "tls")) b)
 
--- what is returned where this is the tree of the text
+-- the result if this is the tree of the text
 abbrev pub AnswersTree : Tree → Result Settings SettingsError → Type 0
 AnswersTree t (Ok s) = HasSettings t s
 AnswersTree t (Err (Text e)) = ⊥
 AnswersTree t (Err NotAnObject) = ¬ IsObject t
 AnswersTree t (Err (Lacks k)) = IsObject t × HasBefore t k × LacksAt t k
 
--- what is returned for the text: what the parser says, or what its one tree says
+-- the result for the text: the parser's error, or the result for its tree
 abbrev pub AnswersText : List ℕ → Result Settings SettingsError → Type 0
 AnswersText xs (Err (Text e)) = ParsesText None xs (Err e)
 AnswersText xs result = (t : Tree) × IsText None xs t × AnswersTree t result
 
--- the message of an error; of a refused text the parser's
+-- the message of an error; for a rejected text that of the parser
 abbrev pub settings_error_message : SettingsError → List ℕ
 settings_error_message (Text e) = error_message e
 settings_error_message NotAnObject = codes "not an object"
@@ -69,22 +69,22 @@ settings_error_message (Lacks Port) = codes "no port from 1 to 65535"
 settings_error_message (Lacks Host) = codes "no host"
 settings_error_message (Lacks Tls) = codes "tls is neither true nor false"
 
--- the one thing of which P holds, as it is seen, or nothing where there is none
+-- the only thing for which P is true, by its view; or nothing, if there is none
 abbrev pub GivesOnly : {S T : Type 0} → (S → Type 0) → (T → S) → Option T → Type 0
 GivesOnly {S} P seen result = MatchOption result ((x : S) → ¬ P x) (λ y. P (seen y))
 
--- the tree with n in place of the port
+-- the tree with n as the port
 abbrev pub with_port : Tree → ℕ → Tree
 with_port t n = with_tree_at_key t (codes "port") (number (integer_decimal (pos n)))
 
--- w is v with the port n, and what v had at `port` comes back; or w is v
+-- w is v with the port n, and the old `port` of v is returned; or w is v
 abbrev pub SetsPort : JsonValue → ℕ → Result (Option JsonValue) AllocError → JsonValue → Type 0
 SetsPort v n (Ok (Some old)) w =
     (tree_at_key (view v) (codes "port") ≡ Some (view old)) × (view w ≡ with_port (view v) n)
 SetsPort v n (Ok None) w = (tree_at_key (view v) (codes "port") ≡ None) × (w ≡ v)
 SetsPort v n (Err e) w = w ≡ v
 
--- where t has settings, u has the same but for the port, which is n; 0 is no port
+-- if t has settings, u has the same except for the port, which is n; 0 is no port
 abbrev pub KeepsSettings : Tree → ℕ → Tree → Type 0
 KeepsSettings t n u =
     (s : Settings) → HasSettings t s → 0 < n

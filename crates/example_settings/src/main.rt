@@ -1,9 +1,9 @@
-//! Reads settings from standard input, an object with `port`, `host` and `tls`, and prints them, control
-//! characters of the host as `U+001B`. With a port as its one argument it prints the object instead, with
-//! that port in the place of its own.
+//! Reads settings from standard input: an object with `port`, `host` and `tls`. It prints them, with control
+//! characters of the host as `U+001B`. With a port as its one argument it prints the object with this port
+//! instead.
 //!
-//! The status is 0 after success, 1 where the text has no settings or no port, and 2 for other arguments, for
-//! input that isn't UTF-8, or where memory, a read or a write failed.
+//! The status is 0 after success. It is 1 if the text has no settings or no port. It is 2 for other
+//! arguments, for input that is not UTF-8, and if memory, a read or a write failed.
 #![tactic(auto)]
 
 pub mod servers;
@@ -33,7 +33,8 @@ fn main(rt: HostRuntime) -> ExitCode {
     }
 }
 
-/// From standard input to standard output. The outer error is one of the arguments, of reading or of writing.
+/// From standard input to standard output. The outer error is that of the arguments, of reading or of
+/// writing.
 fn answer(rt: &(impl Env + Input + Print + AllocGlobal)) -> io::Result<Result<(), SettingsError>> {
     let port = port_asked(rt)?;
     let text = io::read_to_string(rt.alloc(), rt.reader())?;
@@ -43,7 +44,7 @@ fn answer(rt: &(impl Env + Input + Print + AllocGlobal)) -> io::Result<Result<()
     }
 }
 
-/// The port that the arguments ask for.
+/// The port in the arguments.
 fn port_asked(rt: &(impl Env + AllocGlobal)) -> io::Result<Option<u16>> {
     let mut words = match env::args(rt) {
         Ok(words) => words.skip(1),

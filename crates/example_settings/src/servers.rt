@@ -1,13 +1,12 @@
-//! A list of settings, one of which is replaced.
+//! Replaces an item of a list of settings.
 ghost use Rattle.tinyjson.specs.View.{view};
 ghost use Rattle.example_settings.specs.Servers.{ReplacesServer, KeepsOthers};
 
 use tinyjson::JsonValue;
 
-/// Puts the settings of a server in the place of those at the index of an array, and returns the old
-/// ones.
+/// Replaces the settings of the server at the index of an array, and returns the old ones.
 ///
-/// `Err` returns `server`, where the value is no array or has no such item. Then it stays as it is.
+/// `Err` returns `server` if the value is no array or has no such item. The value is then unchanged.
 ///
 /// ```
 /// let old = servers::replace_server(&mut servers, 0, server);

@@ -26,7 +26,7 @@ pub struct Settings {
     /// From 1 to 65535.
     pub port: u16,
     pub host: String,
-    /// `false` where the text has no `tls`.
+    /// `false` if the text has no `tls`.
     pub tls: bool,
 }
 
@@ -48,12 +48,12 @@ pub enum SettingsError {
     Text(JsonParseError),
     /// Its value is no object.
     NotAnObject,
-    /// The object has nothing at this key, or nothing of the right kind. Of several such keys it is the first
-    /// of `port`, `tls` and `host`.
+    /// The object has no value at this key, or one of the wrong kind. Of several such keys it is the first of
+    /// `port`, `tls` and `host`.
     Lacks(Key),
 }
 
-/// The settings of a text, which is an object. Other members than the three are passed over.
+/// Reads the settings from a text, which has to be an object. Members other than the three are ignored.
 ///
 /// ```
 /// let settings = settings::read(alloc, r#"{"port": 8.08e3, "host": "localhost"}"#)?;
@@ -125,11 +125,11 @@ fn host(member: Option<JsonValue>) -> Option<String>
     }
 }
 
-/// Puts the port in the place of the member `port` of an object, and returns the old member.
+/// Replaces the member `port` of an object, and returns the old one.
 ///
-/// `None` where the value is no object or has no such member. Then it stays as it is. Settings that a
-/// value has, it still has, but for the port; 0 is no port. It always returns `Ok`: the number of a
-/// port takes no memory.
+/// It returns `None` if the value is no object or has no such member, and the value is then unchanged. If the
+/// value has settings, it still has them, except for the port; 0 is no port. It never returns `Err`: a port's
+/// number takes no memory.
 ///
 /// ```
 /// let old = settings::set_port(alloc, &mut value, 8443)?;

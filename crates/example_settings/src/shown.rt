@@ -1,9 +1,9 @@
-//! Text as it is printed.
+//! Text for terminals, with control characters escaped.
 
 use std::fmt;
 
-/// A text, with each control character shown by its code point, as `U+001B`: no text of the input starts a
-/// line or moves the cursor of a terminal.
+/// A text with each control character as its code point, as `U+001B`. So the input can't start a line or move
+/// a terminal's cursor.
 #[derive(Drop)]
 pub(crate) struct Shown<'a>(pub(crate) &'a str);
 

@@ -1,4 +1,4 @@
--- What is written of the texts of a patch and of a value.
+-- What is written, given the texts of a patch and of a value.
 use Rattle.std.specs.Prelude.{◌≡◌, ℕ, List, ◌++◌, Option, Some, None, Result, Ok, Err, ◌⊎◌, codes}
 use Rattle.std.specs.Io.KnownBytes.{Appends}
 use Rattle.tinyjson.specs.Error.{error_kind, error_message}
@@ -18,52 +18,54 @@ use Rattle.tinyjson_lines.specs.Line.{line_of}
 use Rattle.json_merge.specs.declared.apply.MergeError.{MergeError}
 use Rattle.json_merge.specs.declared.apply.MergeError.TheVariants.{BadPatch, Refused, OutOfMemory, Writing}
 
--- how the program ends: with status 1, 2, 3 and 4
+-- the status with which the program ends: 1, 2, 3 or 4
 abbrev pub status_of : MergeError → Status
 status_of (BadPatch e) = status.Misused
 status_of (Refused e) = status.Refused
 status_of OutOfMemory = status.Failed
 status_of Writing = status.Failed
 
--- the message of an error; of a text that is refused its reader's
+-- the message of an error; for a rejected text that of the parser
 abbrev pub merge_error_message : MergeError → List ℕ
 merge_error_message (BadPatch e) = codes "the patch: " ++ error_message e
 merge_error_message (Refused e) = error_message e
 merge_error_message OutOfMemory = codes "out of memory"
 merge_error_message Writing = codes "writing failed"
 
--- The failure has the status and the message of the error, or memory ran out; a text that is refused is told with its place.
+-- The failure has the status and the message of the error, or memory ran out. If a text is rejected, the
+-- message has the place.
 abbrev pub Tells : MergeError → Failure → Type 0
 Tells (Refused e) f = (f ≡ failure.NotJson e) ⊎ (f ≡ failure.OutOfMemory)
 Tells e f = ((failure_status f ≡ status_of e) × (failure_message f ≡ Some (merge_error_message e))) ⊎ (f ≡ failure.OutOfMemory)
 
--- how many containers of a patch may be open at once
+-- how many containers may be nested in a patch
 abbrev pub patch_depth : Option ℕ
 patch_depth = Some 1000
 
--- a write failed; the error is out of memory where that was wanted
+-- a write failed; the error is out of memory if that was the reason
 abbrev pub IsFailedWrite : Type 0 → MergeError → Type 0
 IsFailedWrite wanted error = (wanted × (error ≡ OutOfMemory)) ⊎ (¬ wanted × (error ≡ Writing))
 
--- the reader refuses the text, which is none under the limit
+-- the parser rejects the text, which is no JSON text under the limit
 abbrev pub IsRefused : Option ℕ → List ℕ → JsonParseError → Type 0
 IsRefused limit text e = ParsesText limit text (Err e) × ¬ (error_kind e ≡ kind.OutOfMemory) × ¬ IsAccepted limit text
 
--- The line of the tree t with the patch p applied is written, or a prefix of it where that failed.
+-- The line of the tree t with the patch p applied is written, or a prefix of it if that fails.
 abbrev pub AppliesTree : Tree → Tree → Option (List ℕ) → Option (List ℕ) → Result (Unit {0}) MergeError → Type 0
 AppliesTree p t old new (Ok _) = Appends old new (line_of (merge_patch t p))
 AppliesTree p t old new (Err Writing) = WrittenPart old new (line_of (merge_patch t p))
 AppliesTree p t old new (Err OutOfMemory) = WrittenPart old new (line_of (merge_patch t p))
 AppliesTree p t old new (Err _) = ⊥
 
--- So it is of the tree of a text; or the text is none, as its reader says, or memory ran out, and nothing is written.
+-- `AppliesTree` for the tree of a text. Or the text is no JSON, with the parser's error, or memory ran out;
+-- then nothing is written.
 abbrev pub Applies : Tree → List ℕ → Option (List ℕ) → Option (List ℕ) → Result (Unit {0}) MergeError → Type 0
 Applies p text old new (Err (Refused e)) = IsRefused None text e × (new ≡ old)
 Applies p text old new (Err OutOfMemory) =
     (new ≡ old) ⊎ ((t : Tree) × IsText None text t × AppliesTree p t old new (Err OutOfMemory))
 Applies p text old new result = (t : Tree) × IsText None text t × AppliesTree p t old new result
 
--- So it is of the tree of the patch; or the patch is none, and nothing is written.
+-- `Applies` for the tree of the patch's text. Or the patch is no JSON; then nothing is written.
 abbrev pub WritesMerged : List ℕ → List ℕ → Option (List ℕ) → Option (List ℕ) → Result (Unit {0}) MergeError → Type 0
 WritesMerged patch text old new (Err (BadPatch e)) = IsRefused patch_depth patch e × (new ≡ old)
 WritesMerged patch text old new (Err OutOfMemory) =

@@ -1,4 +1,4 @@
-//! The text of a patch, applied to the text of a value.
+//! Applies a patch to a value; both are texts.
 ghost use Rattle.std.specs.IoError.{error_kind};
 ghost use Rattle.std.specs.Prelude.{◌≡◌, Some};
 ghost use Rattle.std.specs.Str.{chars};
@@ -13,14 +13,13 @@ use tinyjson::{JsonParseError, JsonValue};
 use tinyjson_lines::write_line;
 use tinyjson_patch::merge;
 
-/// How many containers of a patch may be open at once: the merge and the drop of the patch take stack as it
-/// is deep.
+/// How many containers may be nested in a patch: merging and freeing it take stack with its nesting.
 const PATCH_DEPTH: usize = 1_000;
 
-/// Why no merged value is written.
+/// Why no result is written.
 #[derive(Drop)]
 pub enum MergeError {
-    /// The patch is no JSON text, or deeper than 1,000 containers.
+    /// The patch is no JSON text, or more than 1,000 containers are nested in it.
     BadPatch(JsonParseError),
     /// The text of the value is no JSON text.
     Refused(JsonParseError),
@@ -46,8 +45,8 @@ impl fmt::Display for MergeError {
 
 /// Writes the compact text of the value with the patch applied (RFC 7396), and a line feed.
 ///
-/// The patch is read first, and both are read before anything is written. After `Writing`, and where
-/// memory ran out, a prefix of the line may have been written. The value may be of any depth.
+/// The patch is parsed first, and both are parsed before anything is written. After `Writing`, or if memory
+/// runs out, a prefix of the line may be written. The value may be nested to any depth.
 ///
 /// ```
 /// write_merged(alloc, r#"{"a":null}"#, r#"{"a":1,"b":2}"#, &mut output)?; // {"b":2} and a line feed

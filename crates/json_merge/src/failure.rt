@@ -1,11 +1,11 @@
-//! How the program ends where it prints no result.
+//! The failures of the program.
 ghost use Rattle.json_merge.specs.Apply.{Tells};
 
 use crate::apply::MergeError;
 use std::alloc::Global;
 use tinyjson_cli::Failure;
 
-/// The failure of an error, with its message and its status.
+/// The failure for an error, with its message and status.
 pub fn apply_failure(alloc: Global, error: MergeError) -> Failure
     ensures { Tells error result }
 {

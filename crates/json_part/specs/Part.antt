@@ -1,4 +1,4 @@
--- What is written of a text.
+-- What is written, given a pointer and a text.
 use Rattle.std.specs.Prelude.{◌≡◌, ℕ, List, Option, Some, None, Result, Ok, Err, ◌⊎◌, codes}
 use Rattle.std.specs.Io.KnownBytes.{Appends}
 use Rattle.tinyjson.specs.Error.{error_kind, error_message}
@@ -20,7 +20,7 @@ use Rattle.tinyjson_lines.specs.Line.{line_of}
 use Rattle.json_part.specs.declared.part.PartError.{PartError}
 use Rattle.json_part.specs.declared.part.PartError.TheVariants.{BadPointer, Refused, NoPart, OutOfMemory, Writing}
 
--- how the program ends: with status 1, 2, 3 and 4
+-- the status with which the program ends: 1, 2, 3 or 4
 abbrev pub status_of : PartError → Status
 status_of NoPart = status.No
 status_of (BadPointer e) = status.Misused
@@ -28,7 +28,7 @@ status_of (Refused e) = status.Refused
 status_of OutOfMemory = status.Failed
 status_of Writing = status.Failed
 
--- the message of an error; of a text that is not a pointer and of a refused one its reader's
+-- the message of an error; for a pointer or a text that is rejected that of its parser
 abbrev pub part_error_message : PartError → List ℕ
 part_error_message (BadPointer e) = pointer_error_message e
 part_error_message (Refused e) = error_message e
@@ -36,7 +36,8 @@ part_error_message NoPart = codes "the pointer names no part"
 part_error_message OutOfMemory = codes "out of memory"
 part_error_message Writing = codes "writing failed"
 
--- The failure has the status and the message of the error, or memory ran out; a text that is refused is told with its place.
+-- The failure has the status and the message of the error, or memory ran out. If a text is rejected, the
+-- message has the place.
 abbrev pub Tells : PartError → Failure → Type 0
 Tells (Refused e) f = (f ≡ failure.NotJson e) ⊎ (f ≡ failure.OutOfMemory)
 Tells e f = ((failure_status f ≡ status_of e) × (failure_message f ≡ Some (part_error_message e))) ⊎ (f ≡ failure.OutOfMemory)
@@ -45,7 +46,8 @@ Tells e f = ((failure_status f ≡ status_of e) × (failure_message f ≡ Some (
 abbrev pub WritesLinePrefix : List (List ℕ) → Tree → Option (List ℕ) → Option (List ℕ) → Type 0
 WritesLinePrefix ks t old new = (u : Tree) × (part_at t ks ≡ Some u) × WrittenPart old new (line_of u)
 
--- Of a tree the line of the part that the tokens name is written, or a prefix of it where that failed; or they name none.
+-- The line of the part that the tokens name is written, or a prefix of it if that fails; or they name no
+-- part.
 abbrev pub WritesFound : List (List ℕ) → Tree → Option (List ℕ) → Option (List ℕ) → Result (Unit {0}) PartError → Type 0
 WritesFound ks t old new (Ok _) = (u : Tree) × (part_at t ks ≡ Some u) × Appends old new (line_of u)
 WritesFound ks t old new (Err NoPart) = (part_at t ks ≡ None) × (new ≡ old)
@@ -53,11 +55,11 @@ WritesFound ks t old new (Err Writing) = WritesLinePrefix ks t old new
 WritesFound ks t old new (Err OutOfMemory) = WritesLinePrefix ks t old new
 WritesFound ks t old new (Err _) = ⊥
 
--- a write failed; the error is out of memory where that was wanted
+-- a write failed; the error is out of memory if that was the reason
 abbrev pub IsFailedWrite : Type 0 → PartError → Type 0
 IsFailedWrite wanted error = (wanted × (error ≡ OutOfMemory)) ⊎ (¬ wanted × (error ≡ Writing))
 
--- A pointer's tokens, a text's tree, and what is written of them.
+-- The pointer's tokens, the text's tree, and what is written.
 pub record Finds (pointer text : List ℕ) (old new : Option (List ℕ)) (result : Result (Unit {0}) PartError) : Type 0 where
   pub tokens : List (List ℕ)
   pub tree : Tree
@@ -65,8 +67,8 @@ pub record Finds (pointer text : List ℕ) (old new : Option (List ℕ)) (result
   pub is_text : IsText None text tree
   pub writes : WritesFound tokens tree old new result
 
--- The two are a pointer and a JSON text, and the part is written; or the pointer is none, or the text is none, as its reader says,
--- and nothing is written.
+-- The two are a pointer and a JSON text, and the part is written. Or one of them is not, with its parser's
+-- error; then nothing is written.
 abbrev pub WritesPart : List ℕ → List ℕ → Option (List ℕ) → Option (List ℕ) → Result (Unit {0}) PartError → Type 0
 WritesPart pointer text old new (Err (BadPointer e)) =
     Reads pointer (Err e) × ¬ (e ≡ refusal.OutOfMemory) × IsNoPointer pointer × (new ≡ old)

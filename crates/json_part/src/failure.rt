@@ -1,11 +1,11 @@
-//! How the program ends where it prints no part.
+//! The failures of the program.
 ghost use Rattle.json_part.specs.Part.{Tells};
 
 use crate::part::PartError;
 use std::alloc::Global;
 use tinyjson_cli::Failure;
 
-/// The failure of an error, with its message and its status.
+/// The failure for an error, with its message and status.
 pub fn part_failure(alloc: Global, error: PartError) -> Failure
     ensures { Tells error result }
 {

@@ -1,5 +1,5 @@
-//! Prints the part of each JSON text that a JSON pointer names, as compact text. Its help page has the arguments and
-//! the statuses.
+//! Prints the part of each JSON text that a JSON pointer names, as compact text. Its help page lists the
+//! arguments and the statuses.
 #![tactic(auto)]
 
 mod failure;

@@ -1,4 +1,4 @@
-//! The part of a text that a pointer names.
+//! Writes the part of a text that a pointer names.
 ghost use Rattle.std.specs.IoError.{error_kind};
 ghost use Rattle.std.specs.Prelude.{◌≡◌, Some};
 ghost use Rattle.std.specs.Str.{chars};
@@ -17,7 +17,7 @@ use tinyjson_pointer::{Pointer, PointerError};
 /// Why no part is written.
 #[derive(Drop)]
 pub enum PartError {
-    /// The pointer's text is that of no pointer.
+    /// The pointer's text is not a pointer.
     BadPointer(PointerError),
     /// The text is no JSON text.
     Refused(JsonParseError),
@@ -46,8 +46,8 @@ impl fmt::Display for PartError {
 
 /// Writes the compact text of the part that the pointer names, and a line feed.
 ///
-/// The pointer is read first, and both are read before anything is written. After `Writing`, and where
-/// memory ran out, a prefix of the line may have been written.
+/// The pointer is parsed first, and both are parsed before anything is written. After `Writing`, or if memory
+/// runs out, a prefix of the line may be written.
 ///
 /// ```
 /// write_part(alloc, "/a/0", r#"{"a":[7]}"#, &mut output)?; // 7 and a line feed

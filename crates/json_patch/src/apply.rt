@@ -1,4 +1,4 @@
-//! The text of a patch, applied to the text of a value.
+//! Applies a patch to a value; both are texts.
 ghost use Rattle.std.specs.IoError.{error_kind};
 ghost use Rattle.std.specs.Prelude.{◌≡◌, Some};
 ghost use Rattle.std.specs.Str.{chars};
@@ -15,19 +15,19 @@ use tinyjson::{JsonParseError, JsonValue};
 use tinyjson_lines::write_line;
 use tinyjson_patch::{ApplyError, Patch, PatchError, Reason};
 
-/// How many containers of a patch may be open at once: the drop of the patch takes stack as it is deep.
+/// How many containers may be nested in a patch: freeing it takes stack with its nesting.
 const PATCH_DEPTH: usize = 1_000;
 
-/// Why no changed value is written.
+/// Why no result is written.
 #[derive(Drop)]
 pub enum PatchingError {
-    /// The patch is no JSON text, or deeper than 1,000 containers.
+    /// The patch is no JSON text, or more than 1,000 containers are nested in it.
     BadText(JsonParseError),
-    /// The patch is no patch document.
+    /// The patch is not a patch document.
     BadPatch(PatchError),
     /// The text of the value is no JSON text.
     Refused(JsonParseError),
-    /// The operation of this number can't be applied. The first is 0.
+    /// The operation with this index can't be applied. Indices begin at 0.
     Failed(usize, Reason),
     /// An allocation failed.
     OutOfMemory,
@@ -53,8 +53,8 @@ impl fmt::Display for PatchingError {
 
 /// Writes the compact text of the value with the patch applied (RFC 6902), and a line feed.
 ///
-/// The patch is read first, and both are read before anything is written. After `Writing`, and where
-/// memory ran out, a prefix of the line may have been written. The value may be of any depth.
+/// The patch is parsed first, and both are parsed before anything is written. After `Writing`, or if memory
+/// runs out, a prefix of the line may be written. The value may be nested to any depth.
 ///
 /// ```
 /// let patch = r#"[{"op":"remove","path":"/a"}]"#;

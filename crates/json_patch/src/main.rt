@@ -1,5 +1,5 @@
-//! Applies a JSON Patch (RFC 6902) to each JSON text, and prints the result. Its help page has the arguments
-//! and the statuses.
+//! Applies a JSON Patch (RFC 6902) to each JSON text, and prints the result. Its help page lists the
+//! arguments and the statuses.
 #![tactic(auto)]
 
 mod apply;

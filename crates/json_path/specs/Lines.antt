@@ -1,4 +1,4 @@
--- What is written of a query and a text.
+-- What is written, given a query and a text.
 use Rattle.std.specs.Prelude.{◌≡◌, ◌≢◌, ℕ, List, [], ◌∷◌, ◌++◌, Option, None, Some, Result, Ok, Err, ◌⊎◌, codes}
 use Rattle.std.specs.Prelude.{encode_utf8_all, Any}
 use Rattle.std.specs.Io.KnownBytes.{Appends}
@@ -30,7 +30,7 @@ use Rattle.json_path.specs.declared.lines.Form.TheVariants.{Value, Path}
 use Rattle.json_path.specs.declared.lines.PathError.{PathError}
 use Rattle.json_path.specs.declared.lines.PathError.TheVariants.{BadQuery, Refused, NoNode, Pattern, OutOfMemory, Writing}
 
--- how the program ends: with status 1, 2, 3 and 4
+-- the status with which the program ends: 1, 2, 3 or 4
 abbrev pub status_of : PathError → Status
 status_of NoNode = status.No
 status_of (BadQuery e) = status.Misused
@@ -39,7 +39,7 @@ status_of (Pattern l) = status.Failed
 status_of OutOfMemory = status.Failed
 status_of Writing = status.Failed
 
--- the message of an error; of a text that is no query and of a refused one its reader's
+-- the message of an error; for a query or a text that is rejected that of its parser
 abbrev pub path_error_message : PathError → List ℕ
 path_error_message (BadQuery e) = codes "the query: " ++ query.error_message e
 path_error_message (Refused e) = error_message e
@@ -48,7 +48,8 @@ path_error_message (Pattern l) = limit_message l
 path_error_message OutOfMemory = codes "out of memory"
 path_error_message Writing = codes "writing failed"
 
--- The failure has the status and the message of the error, or memory ran out; a text that is refused is told with its place.
+-- The failure has the status and the message of the error, or memory ran out. If a text is rejected, the
+-- message has the place.
 abbrev pub Tells : PathError → Failure → Type 0
 Tells (Refused e) f = (f ≡ failure.NotJson e) ⊎ (f ≡ failure.OutOfMemory)
 Tells e f = ((failure_status f ≡ status_of e) × (failure_message f ≡ Some (path_error_message e))) ⊎ (f ≡ failure.OutOfMemory)
@@ -66,12 +67,12 @@ abbrev pub lines_of : Form → List Part → List ℕ
 lines_of form [] = []
 lines_of form (p ∷ ps) = line_of form p ++ lines_of form ps
 
--- a write failed; the error is out of memory where that was wanted
+-- a write failed; the error is out of memory if that was the reason
 abbrev pub IsFailedWrite : Type 0 → PathError → Type 0
 IsFailedWrite wanted error = (wanted × (error ≡ OutOfMemory)) ⊎ (¬ wanted × (error ≡ Writing))
 
--- Of a tree the lines of the parts that the query selects are written, or a prefix of them where that failed; or it selects none, or one
--- of the strings of the query and the tree goes beyond a limit of regular expressions, and nothing is written.
+-- The lines of the parts that the query selects are written, or a prefix of them if that fails. Or it selects
+-- none, or a string of the query or the tree exceeds a limit of regular expressions; then nothing is written.
 abbrev pub WritesNodes : Judge → Form → Query → Tree → Option (List ℕ) → Option (List ℕ) → Result (Unit {0}) PathError → Type 0
 WritesNodes judge form q t old new (Ok _) = (query_parts judge q t ≢ []) × Appends old new (lines_of form (query_parts judge q t))
 WritesNodes judge form q t old new (Err NoNode) = (query_parts judge q t ≡ []) × (new ≡ old)
@@ -80,7 +81,8 @@ WritesNodes judge form q t old new (Err Writing) = WrittenPart old new (lines_of
 WritesNodes judge form q t old new (Err OutOfMemory) = WrittenPart old new (lines_of form (query_parts judge q t))
 WritesNodes judge form q t old new (Err _) = ⊥
 
--- So it is of the tree of a text; or the text is none, as its reader says, or memory ran out, and nothing is written.
+-- `WritesNodes` for the tree of a text. Or the text is no JSON, with the parser's error, or memory ran out;
+-- then nothing is written.
 abbrev pub WritesOfText : Judge → Form → Query → List ℕ → Option (List ℕ) → Option (List ℕ) → Result (Unit {0}) PathError → Type 0
 WritesOfText judge form q text old new (Err (Refused e)) =
     ParsesText None text (Err e) × ¬ (error_kind e ≡ kind.OutOfMemory) × ¬ IsAccepted None text × (new ≡ old)
@@ -88,14 +90,15 @@ WritesOfText judge form q text old new (Err OutOfMemory) =
     (new ≡ old) ⊎ ((t : Tree) × IsText None text t × WritesNodes judge form q t old new (Err OutOfMemory))
 WritesOfText judge form q text old new result = (t : Tree) × IsText None text t × WritesNodes judge form q t old new result
 
--- So it is of the query of a text; or that is none, as its reader says, and nothing is written.
+-- `WritesOfText` for the query of a text. Or that is no query, with the parser's error; then nothing is
+-- written.
 abbrev pub WritesOfQuery : Judge → Form → List ℕ → List ℕ → Option (List ℕ) → Option (List ℕ) → Result (Unit {0}) PathError → Type 0
 WritesOfQuery judge form query text old new (Err (BadQuery e)) = Reads query (Err e) × (e.kind ≢ refusal.OutOfMemory) × (new ≡ old)
 WritesOfQuery judge form query text old new (Err OutOfMemory) =
     (new ≡ old) ⊎ ((q : Query) × Reads query (Ok q) × WritesOfText judge form q text old new (Err OutOfMemory))
 WritesOfQuery judge form query text old new result = (q : Query) × Reads query (Ok q) × WritesOfText judge form q text old new result
 
--- So it is with right answers for patterns.
+-- `WritesOfQuery` with right answers for regular expressions.
 abbrev pub WritesSelected : Form → List ℕ → List ℕ → Option (List ℕ) → Option (List ℕ) → Result (Unit {0}) PathError → Type 0
 WritesSelected form query text old new result =
     (judge : Judge) × IsRight judge × WritesOfQuery judge form query text old new result

@@ -1,11 +1,11 @@
-//! How the program ends where it prints nothing, or not all.
+//! The failures of the program.
 ghost use Rattle.json_path.specs.Lines.{Tells};
 
 use crate::lines::PathError;
 use std::alloc::Global;
 use tinyjson_cli::Failure;
 
-/// The failure of an error, with its message and its status.
+/// The failure for an error, with its message and status.
 pub fn path_failure(alloc: Global, error: PathError) -> Failure
     ensures { Tells error result }
 {

@@ -1,4 +1,4 @@
-//! What a query selects in a text, a line for each node.
+//! Writes a line for each node that a query selects in a text.
 ghost use Rattle.std.specs.IoError.{error_kind};
 ghost use Rattle.std.specs.Prelude.{◌≡◌, ◌∷◌, [], Some, encode_utf8_all};
 ghost use Rattle.std.specs.Str.{chars};
@@ -20,7 +20,7 @@ use tinyjson_path::{
     FindError, Location, Node, ParseError, ParseErrorKind, PatternLimit, Query, find, path_text,
 };
 
-/// What is written of a node.
+/// What is written for a node.
 #[derive(Clone, Copy)]
 pub enum Form {
     /// The compact text of its value.
@@ -29,16 +29,16 @@ pub enum Form {
     Path,
 }
 
-/// Why no nodes are written, or not all.
+/// Why not all nodes are written.
 #[derive(Drop)]
 pub enum PathError {
-    /// The query's text is that of no query.
+    /// The query's text is not a query.
     BadQuery(ParseError),
     /// The text is no JSON text.
     Refused(JsonParseError),
     /// The query selects no node.
     NoNode,
-    /// A regular expression that `match` or `search` asks for is too deep or too large.
+    /// A regular expression of `match` or `search` is too deep or too large.
     Pattern(PatternLimit),
     /// An allocation failed.
     OutOfMemory,
@@ -65,8 +65,8 @@ impl fmt::Display for PathError {
 /// Writes a line for each node that the query selects in the text's value, in order: its compact text, or
 /// its normalized path (RFC 9535, 2.7).
 ///
-/// The query is read first, and both are read before anything is written. After `Writing`, and where
-/// memory ran out, a prefix of the lines may have been written. The value may be of any depth.
+/// The query is parsed first, and both are parsed before anything is written. After `Writing`, or if memory
+/// runs out, a prefix of the lines may be written. The value may be nested to any depth.
 ///
 /// ```
 /// write_selected(alloc, "$.a[1:]", r#"{"a":[1,2,3.0]}"#, Form::Value, &mut output)?; // 2 and 3, on a line each

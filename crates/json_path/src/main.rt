@@ -1,5 +1,5 @@
-//! Prints what a query of JSONPath (RFC 9535) selects in each JSON text. Its help page has the arguments
-//! and the statuses.
+//! Prints what a JSONPath query (RFC 9535) selects in each JSON text. Its help page lists the arguments and
+//! the statuses.
 #![tactic(auto)]
 
 mod failure;
@@ -52,7 +52,7 @@ Examples:
 ",
 };
 
-/// A query, and what is written of what it selects in each text.
+/// A query, and what is written for each node that it selects.
 #[derive(Drop)]
 struct Asked<'a> {
     form: Form,

@@ -1,4 +1,4 @@
-//! What the arguments ask for.
+//! The program's arguments.
 ghost use Rattle.std.specs.Prelude.{◌≡◌, option_map, map};
 ghost use Rattle.tinyjson_cli.specs.Arguments.{given_of};
 ghost use Rattle.json_path.specs.Options.{asks};
@@ -13,7 +13,7 @@ pub const PATHS: Known<'static> = Known {
     takes_number: false,
 };
 
-/// A query, what is written of each node that it selects, and the files that are searched.
+/// A query, what is written for each node that it selects, and the files that are searched.
 #[derive(Drop)]
 pub struct Request<'w, 'a> {
     pub form: Form,
@@ -21,7 +21,7 @@ pub struct Request<'w, 'a> {
     pub files: &'a [&'w str],
 }
 
-/// What is asked for: `[-p] QUERY [FILE..]`.
+/// Parses the arguments: `[-p] QUERY [FILE..]`.
 pub fn requested<'w, 'a>(arguments: &'a Arguments<'w>) -> Option<Request<'w, 'a>>
     ensures { option_map (λ r. (r.form, (r.query.now, map (λ f. f.now) r.files.now))) result
         ≡ asks (given_of arguments.now) }

@@ -1,4 +1,4 @@
-//! The counts of the values of lines.
+//! Counts the values of lines.
 
 use std::alloc::Global;
 use std::io::{self, BufRead, ErrorKind, Write};
@@ -8,7 +8,7 @@ use tinyjson_lines::{Cause, Refusal, content, read_line, write_all};
 use tinyjson_normal::NormalReader;
 use tinyjson_store::Store;
 
-/// How often each value has come.
+/// How often each value was counted.
 #[derive(Drop)]
 pub struct Counter {
     alloc: Global,
@@ -17,7 +17,7 @@ pub struct Counter {
 }
 
 impl Counter {
-    /// No value yet.
+    /// A counter without values.
     pub fn new(alloc: Global) -> Counter {
         Counter {
             alloc,
@@ -26,7 +26,7 @@ impl Counter {
         }
     }
 
-    /// Counts the value of a line and writes it with its count; or returns why the line is refused.
+    /// Counts the value of a line and writes it with its count; or returns why the line is rejected.
     fn count<W: Write>(&mut self, line: &[u8], output: &mut W) -> io::Result<Option<Cause>> {
         let Ok(text) = str::from_utf8(content(line)) else {
             return Ok(Some(Cause::NotUtf8));

@@ -1,4 +1,4 @@
-//! Counts equal values in lines of JSON. Its help page has the arguments and the statuses.
+//! Counts equal values in lines of JSON. Its help page lists the arguments and the statuses.
 #![tactic(auto)]
 
 mod count;

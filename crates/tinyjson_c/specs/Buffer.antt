@@ -3,7 +3,7 @@ use Rattle.std.specs.Prelude.{◌≡◌, ℕ, ◌<◌, ◌≤◌, List, ◌++◌
 use Rattle.tinyjson_c.specs.Place.{length_place}
 use Rattle.tinyjson_c.specs.declared.place.TinyjsonPlace.{TinyjsonPlace}
 
--- The bytes stand at the front of the buffer, and behind them is what was there before.
+-- The bytes are at the front of the buffer; after them it is unchanged.
 pub record Fills (bytes old new : List ℕ) : Type 0 where
   pub fits : length bytes ≤ length old
   pub written : new ≡ bytes ++ drop (length bytes) old
@@ -12,6 +12,6 @@ pub record Fills (bytes old new : List ℕ) : Type 0 where
 abbrev pub HasWritten : List ℕ → List ℕ → List ℕ → TinyjsonPlace → Type 0
 HasWritten bytes old new place = Fills bytes old new × (place ≡ length_place 0 (length bytes))
 
--- the bytes have no room in the buffer, and the place has their length
+-- the bytes do not fit the buffer, and the place has their length
 abbrev pub LacksRoom : List ℕ → List ℕ → TinyjsonPlace → Type 0
 LacksRoom bytes old place = (length old < length bytes) × (place ≡ length_place 0 (length bytes))

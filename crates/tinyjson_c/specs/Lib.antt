@@ -1,4 +1,4 @@
--- Why a text is refused and where, as numbers.
+-- Why a text is rejected and where, as numbers.
 pub mod Place
 -- Why a call stops.
 pub mod Stop
@@ -8,7 +8,7 @@ pub mod Buffer
 pub mod Message
 -- The part of a text's tree that a pointer names.
 pub mod Part
--- Texts of which each is a line.
+-- Texts that are lines.
 pub mod Lines
 -- The tree of a text with that of a patch merged into it.
 pub mod Merge

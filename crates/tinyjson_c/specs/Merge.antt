@@ -7,11 +7,11 @@ use Rattle.tinyjson_c.specs.declared.place.TinyjsonPlace.{TinyjsonPlace}
 use Rattle.tinyjson_grammar.specs.Tree.{Tree}
 use Rattle.tinyjson_patch.specs.Merge.{merge_patch}
 
--- how many containers of a patch may be open at once, in a call with this limit
+-- how many containers may be nested in a patch, in a call with this limit
 abbrev pub patch_depth : ℕ → ℕ
 patch_depth depth = min depth 1000
 
--- The texts of a target and of a patch make this tree.
+-- The target's text with the patch's merged into it has this tree.
 pub record Merges (depth : ℕ) (target patch : List ℕ) (merged : Tree) : Type 0 where
   pub old : Tree
   pub change : Tree

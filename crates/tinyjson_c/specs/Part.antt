@@ -16,7 +16,7 @@ use Rattle.tinyjson_pointer.specs.Reading.{IsNoPointer}
 use Rattle.tinyjson_pointer.specs.Text.{pointer_text}
 use Rattle.tinyjson_pointer.specs.Walk.{part_at}
 
--- A text's tree has this part where a pointer leads to, or none.
+-- The pointer names this part of the text's tree, or none.
 pub record Leads (limit : Option ℕ) (text pointer : List ℕ) (part : Option Tree) : Type 0 where
   pub tokens : List (List ℕ)
   pub tree : Tree
@@ -25,11 +25,11 @@ pub record Leads (limit : Option ℕ) (text pointer : List ℕ) (part : Option T
   pub is_text : IsTextOf limit text tree
   pub is_part : part_at tree tokens ≡ part
 
--- the bytes are UTF-8, and the text of no pointer
+-- the bytes are UTF-8, but not a pointer
 abbrev pub IsBadPointer : List ℕ → Type 0
 IsBadPointer bytes = IsUtf8 bytes × IsNoPointer (chars bytes)
 
--- the bytes of a pointer are not UTF-8: a status and a place say so
+-- the bytes of a pointer are not UTF-8, with this status and place
 abbrev pub IsNoText : List ℕ → ℕ → TinyjsonPlace → Type 0
 IsNoText bytes status place = (status ≡ NOT_UTF8) × (¬ IsUtf8 bytes) × (place ≡ length_place 1 (utf8_valid_len bytes))
 
@@ -49,7 +49,7 @@ IsUnread bytes (none.NotUtf8 n) = ¬ IsUtf8 bytes × (n ≡ utf8_valid_len bytes
 IsUnread bytes none.BadPointer = IsBadPointer bytes
 IsUnread bytes none.NotFound = ⊥
 
--- the normal text of a part is made, if there is one and memory does not run out
+-- the normal form of the part, if there is one and memory does not run out
 abbrev pub IsWritten : Option Tree → Result (Vec ℕ Global) NoPart → Type 0
 IsWritten part (Ok v) = (u : Tree) × (part ≡ Some u) × (v.items ≡ encode_utf8_all (compact u))
 IsWritten part (Err (none.Text s)) = s ≡ stop.OutOfMemory

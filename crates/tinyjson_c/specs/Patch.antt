@@ -18,7 +18,8 @@ use Rattle.tinyjson_patch.specs.Patch.{all_applied}
 use Rattle.tinyjson_patch.specs.declared.fault.Fault.{Fault}
 use Rattle.tinyjson_patch.specs.declared.operation.Reason.{Reason}
 
--- The operations of a patch's text make this tree of a text's; or the one of this number can't be applied, for this reason.
+-- The operations of the patch's text turn the text's tree into this one; or the one with this index can't be
+-- applied, for this reason.
 pub record Patches (depth : ℕ) (text patch : List ℕ) (outcome : Result Tree (ℕ × Reason)) : Type 0 where
   pub old : Tree
   pub document : Tree
@@ -28,15 +29,15 @@ pub record Patches (depth : ℕ) (text patch : List ℕ) (outcome : Result Tree 
   pub is_patch : IsPatch document operations
   pub is_outcome : all_applied 0 operations old ≡ outcome
 
--- the operation of this number can't be applied to what those before it leave
+-- the operation with this index can't be applied to the result of those before it
 abbrev pub Fails : ℕ → List ℕ → List ℕ → ℕ → Type 0
 Fails depth text patch n = (r : Reason) × Patches depth text patch (Err (n, r))
 
--- the tree is no array, and the number 0; or its item of this number is the first that is no operation
+-- the tree is no array, and the index is 0; or its item at the index is the first that is no operation
 abbrev pub IsFaulty : Tree → ℕ → Type 0
 IsFaulty d n = ((is_array d ≡ false) × (n ≡ 0)) ⊎ ((f : Fault) × IsMalformed d n f × ((operations : List Action) → ¬ IsPatch d operations))
 
--- The text of the patch has a tree, which is that of no patch; and the other text has one.
+-- The text of the patch has a tree that is not a patch, and the other text has a tree.
 abbrev pub IsBadPatch : ℕ → List ℕ → List ℕ → ℕ → Type 0
 IsBadPatch depth text patch n =
     IsAcceptedText (Some depth) text × (d : Tree) × IsTextOf (Some (patch_depth depth)) patch d × IsFaulty d n
@@ -50,14 +51,14 @@ IsUnpatched depth text patch (un.Patch s) = IsAcceptedText (Some depth) text × 
 IsUnpatched depth text patch (un.BadPatch n) = IsBadPatch depth text patch n
 IsUnpatched depth text patch (un.Failed n) = Fails depth text patch n
 
--- the text of the tree after the operations, or the number of the one that fails, unless memory runs out
+-- the text of the tree after the operations, or the index of the one that fails, unless memory runs out
 abbrev pub IsOutcome : Result Tree (ℕ × Reason) → Result (Vec ℕ Global) Unpatched → Type 0
 IsOutcome outcome (Ok v) = (u : Tree) × (outcome ≡ Ok u) × (v.items ≡ encode_utf8_all (compact u))
 IsOutcome outcome (Err (un.Failed n)) = (r : Reason) × (outcome ≡ Err (n, r))
 IsOutcome outcome (Err (un.Text s)) = s ≡ stop.OutOfMemory
 IsOutcome outcome (Err _) = ⊥
 
--- the same of the operations of a document, if it has some
+-- the same for the operations of a document, if it is a patch
 abbrev pub AppliesDocument : Tree → Tree → Result (Vec ℕ Global) Unpatched → Type 0
 AppliesDocument d t (Err (un.BadPatch n)) = IsFaulty d n
 AppliesDocument d t (Err (un.Text s)) = s ≡ stop.OutOfMemory

@@ -1,4 +1,4 @@
--- Why a text is refused and where, as numbers.
+-- Why a text is rejected and where, as numbers.
 use Rattle.std.specs.Prelude.{◌≡◌, ℕ, Option, Some, None, unwrap_or, IfSome}
 use Rattle.tinyjson.specs.Error.{JsonParseErrorKind}
 use Rattle.tinyjson_c.specs.declared.place.TinyjsonPlace.{TinyjsonPlace}
@@ -38,7 +38,7 @@ value_number value.String = 4
 value_number value.Array = 5
 value_number value.Object = 6
 
--- what a kind of error names, if anything: a character, or a kind of value by its number
+-- the character or the number of a kind of value that a kind of error names, if any
 abbrev pub found_by : JsonParseErrorKind → Option ℕ
 found_by (kind.KeyNotString v) = Some (value_number v)
 found_by (kind.InvalidCharacter c) = Some c
@@ -58,11 +58,11 @@ abbrev pub error_place : ℕ → JsonParseErrorKind → Position → TinyjsonPla
 error_place text k p =
     record { kind = kind_number k; found = unwrap_or (found_by k) 0; line = p.line; column = p.column; length = 0; text = text }
 
--- the place of no error, and a number of bytes
+-- the place without an error, with a number of bytes
 abbrev pub length_place : ℕ → ℕ → TinyjsonPlace
 length_place text n = record { kind = 0; found = 0; line = 0; column = 0; length = n; text = text }
 
--- the place where memory ran out, which has no position
+-- the place if memory ran out; it has no position
 abbrev pub memory_place : ℕ → TinyjsonPlace
 memory_place text = error_place text kind.OutOfMemory (position_at 0 0)
 

@@ -23,7 +23,7 @@ IsTextOf limit bytes t = IsUtf8 bytes × IsText limit (chars bytes) t
 abbrev pub IsAcceptedText : Option ℕ → List ℕ → Type 0
 IsAcceptedText limit bytes = IsUtf8 bytes × IsAccepted limit (chars bytes)
 
--- The characters are no text: what the error says of them, and where.
+-- The characters are no text, with this kind of error at this position.
 pub record IsRefused (limit : Option ℕ) (xs : List ℕ) (k : JsonParseErrorKind) (position : Position) : Type 0 where
   pub consumed : List ℕ
   pub rest : List ℕ
@@ -33,7 +33,7 @@ pub record IsRefused (limit : Option ℕ) (xs : List ℕ) (k : JsonParseErrorKin
   pub not_for_memory : ¬ (k ≡ kind.OutOfMemory)
   pub refused : ¬ IsAccepted limit xs
 
--- A call stops at its text of this number, which has these bytes.
+-- A call stops at its text with this index, which has these bytes.
 pub record Stops (limit : Option ℕ) (bytes : List ℕ) (text status : ℕ) (place : TinyjsonPlace) : Type 0 where
   pub refused : status ≡ REFUSED → IsUtf8 bytes × (k : JsonParseErrorKind) × (p : Position)
       × IsRefused limit (chars bytes) k p × (place ≡ error_place text k p)
@@ -43,13 +43,13 @@ pub record Stops (limit : Option ℕ) (bytes : List ℕ) (text status : ℕ) (pl
 
 -- ---- for private contracts
 
--- why there is no answer for these bytes
+-- why these bytes have no answer
 abbrev pub IsStopped : Option ℕ → List ℕ → Stop → Type 0
 IsStopped limit bytes (stop.Refused e) = IsUtf8 bytes × IsRefused limit (chars bytes) (error_kind e) (error_position e)
 IsStopped limit bytes (stop.NotUtf8 n) = ¬ IsUtf8 bytes × (n ≡ utf8_valid_len bytes)
 IsStopped limit bytes stop.OutOfMemory = IsUtf8 bytes
 
--- what an error of the parser means
+-- the reason for an error of the parser
 abbrev pub StopOf : JsonParseError → Stop → Type 0
 StopOf e s = ((error_kind e ≡ kind.OutOfMemory) × (s ≡ stop.OutOfMemory)) ⊎ ((¬ (error_kind e ≡ kind.OutOfMemory)) × (s ≡ stop.Refused e))
 

@@ -5,7 +5,7 @@ ghost use Rattle.tinyjson_c.specs.Buffer.{Fills, HasWritten, LacksRoom};
 use crate::place::TinyjsonPlace;
 use crate::status::{OK, TOO_SMALL};
 
-/// Puts the bytes at the front of the buffer, if they have room there, and their length into the place.
+/// Writes the bytes to the front of the buffer, if they fit, and their length to the place.
 pub(crate) fn put(bytes: &[u8], buffer: &mut [u8], place: &mut TinyjsonPlace) -> u32
     ensures status { (result ≡ OK) ⊎ (result ≡ TOO_SMALL) }
     ensures written { result ≡ OK → HasWritten bytes.now buffer.old buffer.new place.new }
@@ -16,7 +16,7 @@ pub(crate) fn put(bytes: &[u8], buffer: &mut [u8], place: &mut TinyjsonPlace) ->
     fill(bytes, buffer)
 }
 
-/// Puts the bytes at the front of the buffer if they have room there.
+/// Writes the bytes to the front of the buffer, if they fit.
 pub(crate) fn fill(bytes: &[u8], buffer: &mut [u8]) -> u32
     ensures status { (result ≡ OK) ⊎ (result ≡ TOO_SMALL) }
     ensures written { result ≡ OK → Fills bytes.now buffer.old buffer.new }

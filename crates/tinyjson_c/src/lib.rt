@@ -1,5 +1,5 @@
-//! `tinyjson` for C, and for what calls C: texts are bytes, answers are numbers, and what is written goes into the
-//! caller's buffer.
+//! `tinyjson` for C, and for languages that call C: a text is its bytes, an answer is a number, and output is
+//! written to the caller's buffer.
 #![tactic(auto)]
 
 ghost use Rattle.std.specs.Char.{IsScalar};
@@ -41,7 +41,7 @@ pub use status::{
 use std::alloc::Global;
 use stop::text_of;
 
-/// Whether the bytes are a text with a value in which at most `depth` containers are open at once.
+/// Checks that the bytes are a JSON text with at most `depth` nested containers.
 #[unsafe(no_mangle)]
 pub extern "C" fn tinyjson_check(
     alloc: Global,
@@ -63,7 +63,7 @@ pub extern "C" fn tinyjson_check(
     }
 }
 
-/// Writes the normal text of a text to the front of a buffer, if it has room there.
+/// Writes the normal form of a text to the front of a buffer, if it fits.
 #[unsafe(no_mangle)]
 pub extern "C" fn tinyjson_normal(
     alloc: Global,
@@ -86,7 +86,7 @@ pub extern "C" fn tinyjson_normal(
     }
 }
 
-/// Writes the text of a text's value, indented with two spaces, to the front of a buffer, if it has room there.
+/// Writes a text indented with two spaces, in the order of its keys, to the front of a buffer, if it fits.
 #[unsafe(no_mangle)]
 pub extern "C" fn tinyjson_indented(
     alloc: Global,
@@ -109,7 +109,7 @@ pub extern "C" fn tinyjson_indented(
     }
 }
 
-/// Whether the bytes are a normal text, which a text without a value is not.
+/// Checks whether the bytes are a text in normal form. A text that is no JSON is not.
 #[unsafe(no_mangle)]
 pub extern "C" fn tinyjson_is_normal(alloc: Global, text: &[u8], is_normal: &mut bool) -> u32
     ensures answered { result ≡ OK → IsUtf8 text.now
@@ -131,7 +131,7 @@ pub extern "C" fn tinyjson_is_normal(alloc: Global, text: &[u8], is_normal: &mut
     }
 }
 
-/// Whether two texts have equal values. Where one has none, the place says which.
+/// Checks whether two texts have equal values. If one is no JSON, the place says which.
 #[unsafe(no_mangle)]
 pub extern "C" fn tinyjson_equal(
     alloc: Global,
@@ -162,8 +162,9 @@ pub extern "C" fn tinyjson_equal(
     OK
 }
 
-/// Writes the normal text of each line, with a line feed behind it, to the front of a buffer, if it has room there. The
-/// last line may lack its line feed. Where a line is no text, the place is within it, and counts the lines before it.
+/// Writes the normal form of each line, each with a line feed, to the front of a buffer, if it all fits. The
+/// last line may lack its line feed. If a line is no JSON, the place is that in the line, and has the number
+/// of lines before it.
 #[unsafe(no_mangle)]
 pub extern "C" fn tinyjson_normal_lines(
     alloc: Global,
@@ -186,8 +187,8 @@ pub extern "C" fn tinyjson_normal_lines(
     }
 }
 
-/// Writes the normal text of the part that a JSON pointer (RFC 6901) names in a text to the front of a buffer, if it has
-/// room there.
+/// Writes the normal form of the part that a JSON pointer (RFC 6901) names in a text to the front of a
+/// buffer, if it fits.
 #[unsafe(no_mangle)]
 pub extern "C" fn tinyjson_part(
     alloc: Global,
@@ -218,9 +219,9 @@ pub extern "C" fn tinyjson_part(
     }
 }
 
-/// Writes the normal text of a target, with a merge patch (RFC 7396) applied, to the front of a buffer, if it has room
-/// there. At most `depth` containers of the target, and at most 1,000 of the patch, may be open at once. The target is
-/// read first, and the place says which text has no value.
+/// Applies a merge patch (RFC 7396) to a target, and writes the normal form of the result to the front of a
+/// buffer, if it fits. At most `depth` containers may be nested in the target, and at most 1,000 in the
+/// patch. The target is read first. The place says which text is no JSON.
 #[unsafe(no_mangle)]
 pub extern "C" fn tinyjson_merge(
     alloc: Global,
@@ -246,10 +247,10 @@ pub extern "C" fn tinyjson_merge(
     }
 }
 
-/// Writes the normal text of a text, with a patch (RFC 6902) applied, to the front of a buffer, if it has room there. At
-/// most `depth` containers of the text, and at most 1,000 of the patch, may be open at once. The text is read first, and the
-/// place says which of them is at fault. Where the patch is no list of operations, or one of them can't be applied, the
-/// length is the number of the first such item, from 0 on.
+/// Applies a patch (RFC 6902) to a text, and writes the normal form of the result to the front of a buffer,
+/// if it fits. At most `depth` containers may be nested in the text, and at most 1,000 in the patch. The text
+/// is read first. The place says which of them is at fault. If the patch is no list of operations, or an
+/// operation can't be applied, the length is the index of the first such item, from 0.
 #[unsafe(no_mangle)]
 pub extern "C" fn tinyjson_patch(
     alloc: Global,
@@ -279,7 +280,7 @@ pub extern "C" fn tinyjson_patch(
     }
 }
 
-/// Writes the message of the error that has this place to the front of a buffer, if it has room there.
+/// Writes the message of the error in this place to the front of a buffer, if it fits.
 #[unsafe(no_mangle)]
 pub extern "C" fn tinyjson_message(
     alloc: Global,

@@ -1,4 +1,4 @@
-//! Texts of which each is a line.
+//! Texts that are lines.
 ghost use Rattle.std.specs.Prelude.{◌≡◌, ◌≢◌, ◌++◌, ◌∷◌, [], List, MatchResult, Some};
 ghost use Rattle.std.specs.Prelude.{encode_utf8_all};
 ghost use Rattle.tinyjson.specs.Words.{Tree, compact};
@@ -11,14 +11,14 @@ use std::alloc::Global;
 use tinyjson_bytes::line_end;
 use tinyjson_normal::NormalReader;
 
-/// A line for which there is no answer: its number from 0 on, and why.
+/// A line without an answer: its index from 0, and why.
 #[derive(Clone, Copy)]
 pub(crate) struct StoppedLine {
     pub(crate) number: usize,
     pub(crate) stop: Stop,
 }
 
-/// The normal text of each line, with a line feed behind it.
+/// The normal form of each line, each with a line feed.
 pub(crate) fn normal_lines(
     alloc: Global,
     bytes: &[u8],
@@ -44,7 +44,7 @@ pub(crate) fn normal_lines(
     Ok(written)
 }
 
-/// The first line without its line feed, and those after it.
+/// The first line without its line feed, and the lines after it.
 fn split_line(bytes: &[u8]) -> (&[u8], &[u8])
     ensures line { result.0.now ≡ first_line bytes.now }
     ensures later { result.1.now ≡ later_lines bytes.now }
@@ -56,7 +56,7 @@ fn split_line(bytes: &[u8]) -> (&[u8], &[u8])
     (&bytes[..end], &bytes[end + 1..])
 }
 
-/// Appends the normal text of a line, and a line feed.
+/// Appends the normal form of a line, and a line feed.
 fn push_line(
     reader: &mut NormalReader,
     line: &[u8],

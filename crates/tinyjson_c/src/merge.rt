@@ -1,4 +1,4 @@
-//! A patch, merged into a target (RFC 7396).
+//! Merges a patch into a target (RFC 7396).
 ghost use Rattle.std.specs.Prelude.{◌≡◌, IfOk, MatchResult, encode_utf8_all};
 ghost use Rattle.tinyjson.specs.View.{view};
 ghost use Rattle.tinyjson.specs.Words.{Tree, compact};
@@ -13,7 +13,8 @@ use std::alloc::{AllocError, Global};
 use tinyjson::JsonValue;
 use tinyjson_patch::merge;
 
-/// How many containers of a patch may be open at once, whatever the limit of the call: changes take stack as it is deep.
+/// How many containers may be nested in a patch, whatever the limit of the call: changes take stack with its
+/// nesting.
 const PATCH_DEPTH: usize = 1_000;
 
 /// The limit on the depth of a patch.
@@ -26,14 +27,14 @@ pub(crate) fn patch_depth(depth: usize) -> usize
 /// Why nothing is merged.
 #[derive(Clone, Copy)]
 pub(crate) enum NoMerge {
-    /// The target has no value, or memory ran out.
+    /// The target is no JSON, or memory ran out.
     Target(Stop),
-    /// The patch has no value, or memory ran out.
+    /// The patch is no JSON, or memory ran out.
     Patch(Stop),
 }
 
 impl NoMerge {
-    /// Puts the place, and returns the status.
+    /// Fills the place, and returns the status.
     pub(crate) fn put(self, place: &mut TinyjsonPlace) -> u32
         ensures status { result ≡ no_merge_status self }
         ensures place { place.new ≡ no_merge_place self }
@@ -45,7 +46,7 @@ impl NoMerge {
     }
 }
 
-/// The normal text of a target with a patch merged into it. The target is read first.
+/// The normal form of a target with a patch merged into it. The target is read first.
 pub(crate) fn merged(
     alloc: Global,
     target: &[u8],
@@ -73,7 +74,7 @@ pub(crate) fn merged(
     }
 }
 
-/// The normal text of a value with another merged into it.
+/// The normal form of a value with another merged into it.
 fn merged_text(alloc: Global, target: JsonValue, patch: JsonValue) -> Result<Vec<u8>, AllocError>
     ensures { IfOk result (λ v.
         v.items ≡ encode_utf8_all (compact (merge_patch (view target) (view patch)))) }

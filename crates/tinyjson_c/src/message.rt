@@ -1,4 +1,4 @@
-//! The message of an error at a place.
+//! The message of the error in a place.
 ghost use Rattle.std.specs.Char.{IsScalar};
 ghost use Rattle.std.specs.Prelude.{◌≡◌, IfNone, IfSome, Some};
 ghost use Rattle.tinyjson_c.specs.Message.{error_words};
@@ -10,7 +10,7 @@ use crate::place::TinyjsonPlace;
 use std::fmt;
 use tinyjson::{JsonKind, JsonParseErrorKind};
 
-/// An error at a position, of which a line 0 says that there is none.
+/// An error at a position. Line 0 means that there is no position.
 #[derive(Clone, Copy)]
 pub(crate) struct Message {
     pub(crate) kind: JsonParseErrorKind,
@@ -30,7 +30,7 @@ impl fmt::Display for Message {
     }
 }
 
-/// The kind of the error that has this place.
+/// The kind of the error in this place.
 pub(crate) fn kind_at(place: &TinyjsonPlace) -> Option<JsonParseErrorKind>
     ensures some { IfSome result (IsError place.now) }
     ensures none { IfNone result (IsScalar place.now.found → (k : Kind) → ¬ IsError place.now k) }
@@ -60,7 +60,7 @@ pub(crate) fn kind_at(place: &TinyjsonPlace) -> Option<JsonParseErrorKind>
     }
 }
 
-/// The kind of value that has this number.
+/// The kind of value with this number.
 fn value_at(number: u32) -> Option<JsonKind>
     ensures some { IfSome result (λ v. number ≡ value_number v) }
     ensures none { IfNone result ((v : ValueKind) → ¬ (number ≡ value_number v)) }

@@ -1,4 +1,4 @@
-//! The part of a text's value that a pointer names.
+//! The part of a text that a pointer names.
 ghost use Rattle.std.specs.Prelude.{◌≡◌, MatchResult, Some, encode_utf8_all};
 ghost use Rattle.std.specs.Str.{IsUtf8, chars};
 ghost use Rattle.tinyjson.specs.Words.{Tree, compact};
@@ -20,18 +20,18 @@ use tinyjson_pointer::{Pointer, PointerError};
 /// Why there is no part.
 #[derive(Clone, Copy)]
 pub(crate) enum NoPart {
-    /// The text has no value, or memory ran out.
+    /// The text is no JSON, or memory ran out.
     Text(Stop),
-    /// The pointer is not UTF-8. So many bytes precede the fault.
+    /// The pointer is not UTF-8; this many bytes before the fault are.
     NotUtf8(usize),
-    /// The pointer's text is that of no pointer.
+    /// The pointer's text is not a pointer.
     BadPointer,
     /// The pointer names no part.
     NotFound,
 }
 
 impl NoPart {
-    /// Puts the place, and returns the status.
+    /// Fills the place, and returns the status.
     pub(crate) fn put(self, place: &mut TinyjsonPlace) -> u32
         ensures status { result ≡ no_part_status self }
         ensures place { place.new ≡ no_part_place self }
@@ -54,7 +54,7 @@ impl NoPart {
     }
 }
 
-/// The normal text of the part that a pointer names in a text.
+/// The normal form of the part that a pointer names in a text.
 pub(crate) fn part(
     alloc: Global,
     text: &[u8],
@@ -79,7 +79,7 @@ pub(crate) fn part(
     }
 }
 
-/// The pointer that the bytes are.
+/// Parses the bytes of a pointer.
 fn read_pointer(alloc: Global, bytes: &[u8]) -> Result<Pointer, NoPart>
     ensures { MatchResult result
         (λ p. IsUtf8 bytes.now × (chars bytes.now ≡ pointer_text (tokens_of p)))
@@ -96,7 +96,7 @@ fn read_pointer(alloc: Global, bytes: &[u8]) -> Result<Pointer, NoPart>
     }
 }
 
-/// The normal text of the part of a document.
+/// The normal form of the part of a document.
 fn written(alloc: Global, pointer: &Pointer, document: &Document) -> Result<Vec<u8>, NoPart>
     ensures { IsWritten (part_at (document_tree document.now) (tokens_of pointer.now)) result }
 {

@@ -1,4 +1,4 @@
-//! A patch, applied to a text (RFC 6902).
+//! Applies a patch to a text (RFC 6902).
 ghost use Rattle.std.specs.Prelude.{◌≡◌, MatchResult, Ok, encode_utf8_all};
 ghost use Rattle.tinyjson.specs.View.{view};
 ghost use Rattle.tinyjson.specs.Words.{Tree, compact};
@@ -18,18 +18,18 @@ use tinyjson_patch::{ApplyError, Patch, PatchError};
 /// Why nothing is patched.
 #[derive(Clone, Copy)]
 pub(crate) enum Unpatched {
-    /// The text has no value, or memory ran out.
+    /// The text is no JSON, or memory ran out.
     Text(Stop),
-    /// The patch has no value, or memory ran out.
+    /// The patch is no JSON, or memory ran out.
     Patch(Stop),
-    /// The item of this number is no operation. It is 0 if the patch is no array.
+    /// The item with this index is no operation. It is 0 if the patch is no array.
     BadPatch(usize),
-    /// The operation of this number can't be applied.
+    /// The operation with this index can't be applied.
     Failed(usize),
 }
 
 impl Unpatched {
-    /// Puts the place, and returns the status.
+    /// Fills the place, and returns the status.
     pub(crate) fn put(self, place: &mut TinyjsonPlace) -> u32
         ensures status { result ≡ unpatched_status self }
         ensures place { place.new ≡ unpatched_place self }
@@ -49,7 +49,7 @@ impl Unpatched {
     }
 }
 
-/// The normal text of a text's value after the operations of a patch. The text is read first.
+/// The normal form of a text after the operations of a patch. The text is read first.
 pub(crate) fn patched(
     alloc: Global,
     text: &[u8],
@@ -74,7 +74,7 @@ pub(crate) fn patched(
     apply_document(alloc, value, document)
 }
 
-/// The normal text of a value after the operations of a document.
+/// The normal form of a value after the operations of a document.
 fn apply_document(
     alloc: Global,
     value: JsonValue,
@@ -94,7 +94,7 @@ fn apply_document(
     answer
 }
 
-/// The normal text of a value after the operations of a patch.
+/// The normal form of a value after the operations of a patch.
 fn apply(alloc: Global, patch: &Patch, value: &mut JsonValue) -> Result<Vec<u8>, Unpatched>
     ensures { IsOutcome (all_applied 0 (actions_of patch.now) (view value.old)) result }
 {

@@ -1,4 +1,4 @@
-//! Why a text is refused, and where, as numbers.
+//! Why a text is rejected, and where, as numbers.
 ghost use Rattle.std.specs.Prelude.{◌≡◌, unwrap_or};
 ghost use Rattle.tinyjson.specs.Error.{error_kind, error_position};
 ghost use Rattle.tinyjson_c.specs.Place.{error_place, found_by, kind_number, length_place};
@@ -6,26 +6,26 @@ ghost use Rattle.tinyjson_c.specs.Place.{memory_place, value_number};
 
 use tinyjson::{JsonKind, JsonParseError, JsonParseErrorKind};
 
-/// What a call answers besides its status.
+/// What a call returns besides its status.
 #[repr(C)]
 #[derive(Clone, Copy, Debug, PartialEq, Eq)]
 pub struct TinyjsonPlace {
-    /// The number of the kind of error, from 1 on; 0 where there is none.
+    /// The number of the kind of error, from 1; 0 without an error.
     pub kind: u32,
-    /// The character that the kind names, or the number of a kind of value; otherwise 0.
+    /// The character of the kind of error, or the number of a kind of value; else 0.
     pub found: u32,
-    /// The line, from 1 on; 0 where no error has a position.
+    /// The line, from 1; 0 if no error has a position.
     pub line: usize,
-    /// How many characters were consumed after the last line feed.
+    /// The number of characters that were consumed after the last line feed.
     pub column: usize,
-    /// How many bytes the answer has. Of bytes that are not UTF-8: how many precede the fault.
+    /// The length of the answer in bytes. For bytes that are not UTF-8: how many are before the fault.
     pub length: usize,
-    /// Which text of the call this is about, from 0 on; also which line.
+    /// Which text of the call this is about, from 0; or which line.
     pub text: usize,
 }
 
 impl TinyjsonPlace {
-    /// The place of no error.
+    /// The place without an error.
     pub(crate) fn of_length(text: usize, length: usize) -> Self
         ensures { result ≡ length_place text length }
     {
@@ -54,7 +54,7 @@ impl TinyjsonPlace {
         }
     }
 
-    /// The place of a call for which memory ran out.
+    /// The place if memory ran out.
     pub(crate) fn of_memory(text: usize) -> Self
         ensures { result ≡ memory_place text }
     {
@@ -96,7 +96,7 @@ fn kind_number(kind: JsonParseErrorKind) -> u32
     }
 }
 
-/// What a kind of error names: a character, or a kind of value by its number.
+/// The value of `found` for a kind of error: a character, or the number of a kind of value.
 fn found_by(kind: JsonParseErrorKind) -> u32
     ensures { result ≡ unwrap_or (found_by kind) 0 }
 {

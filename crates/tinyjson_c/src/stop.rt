@@ -1,4 +1,4 @@
-//! Why there is no answer for a text.
+//! Why a text has no answer.
 ghost use Rattle.std.specs.Prelude.{◌≡◌, MatchResult};
 ghost use Rattle.std.specs.Str.{IsUtf8};
 ghost use Rattle.std.specs.Str.Lossy.{utf8_valid_len};
@@ -9,19 +9,19 @@ use crate::status::{NOT_UTF8, OUT_OF_MEMORY, REFUSED};
 use std::str;
 use tinyjson::JsonParseError;
 
-/// Why there is no answer for a text.
+/// Why a text has no answer.
 #[derive(Clone, Copy)]
 pub(crate) enum Stop {
-    /// It has no value.
+    /// It is no JSON.
     Refused(JsonParseError),
-    /// It is not UTF-8. So many bytes precede the fault.
+    /// It is not UTF-8; this many bytes before the fault are.
     NotUtf8(usize),
     /// Memory ran out.
     OutOfMemory,
 }
 
 impl Stop {
-    /// What an error of the parser means.
+    /// The reason for an error of the parser.
     pub(crate) fn of(error: JsonParseError) -> Stop
         ensures { StopOf error result }
     {
@@ -32,7 +32,7 @@ impl Stop {
         }
     }
 
-    /// Puts the place of the call's text of this number, and returns the status.
+    /// Fills the place for the text with this index, and returns the status.
     pub(crate) fn put(self, text: usize, place: &mut TinyjsonPlace) -> u32
         ensures status { result ≡ stop_status self }
         ensures place { place.new ≡ stop_place text self }

@@ -1,4 +1,4 @@
-//! Texts that are read, and what is written of them.
+//! Parses texts, and writes them in normal form.
 ghost use Rattle.std.specs.Prelude.{◌≡◌, IfErr, IfOk, MatchResult, Some, codes, encode_utf8_all};
 ghost use Rattle.std.specs.Str.{chars};
 ghost use Rattle.tinyjson.specs.Words.{Tree, compact, indented};
@@ -11,7 +11,7 @@ use std::alloc::Global;
 use tinyjson::check_with_depth_limit;
 use tinyjson_normal::NormalText;
 
-/// Reads a text in which at most `depth` containers are open at once, and keeps nothing.
+/// Parses a text with at most `depth` nested containers, and keeps nothing.
 pub(crate) fn check(alloc: Global, bytes: &[u8], depth: usize) -> Result<(), Stop>
     ensures answer { MatchResult result (λ _. IsAcceptedText (Some depth) bytes.now)
         (IsStopped (Some depth) bytes.now) }
@@ -27,7 +27,7 @@ pub(crate) fn check(alloc: Global, bytes: &[u8], depth: usize) -> Result<(), Sto
     }
 }
 
-/// Reads a text in which at most `depth` containers are open at once.
+/// Parses a text with at most `depth` nested containers.
 fn read(alloc: Global, bytes: &[u8], depth: usize) -> Result<NormalText, Stop>
     ensures { MatchResult result (λ n. (t : Tree) × IsTextOf (Some depth) bytes.now t × HasTree n t)
         (IsStopped (Some depth) bytes.now) }
@@ -42,7 +42,7 @@ fn read(alloc: Global, bytes: &[u8], depth: usize) -> Result<NormalText, Stop>
     }
 }
 
-/// The normal text of a text.
+/// The normal form of a text.
 pub(crate) fn normal(alloc: Global, bytes: &[u8], depth: usize) -> Result<Vec<u8>, Stop>
     ensures { MatchResult result (λ v. (t : Tree) × IsTextOf (Some depth) bytes.now t
         × (v.items ≡ encode_utf8_all (compact t))) (IsStopped (Some depth) bytes.now) }
@@ -58,7 +58,7 @@ pub(crate) fn normal(alloc: Global, bytes: &[u8], depth: usize) -> Result<Vec<u8
     }
 }
 
-/// The text of a text's value, indented with two spaces.
+/// A text indented with two spaces, in the order of its keys.
 pub(crate) fn indented(alloc: Global, bytes: &[u8], depth: usize) -> Result<Vec<u8>, Stop>
     ensures { MatchResult result (λ v. (t : Tree) × IsTextOf (Some depth) bytes.now t
         × (v.items ≡ encode_utf8_all (indented t (codes "  ") 0)))

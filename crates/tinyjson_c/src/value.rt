@@ -1,4 +1,4 @@
-//! Values that are changed: read from texts, and written as normal texts.
+//! Values that are changed: parsed from texts, and written in normal form.
 ghost use Rattle.std.specs.Prelude.{◌≡◌, IfOk, MatchResult, Some, encode_utf8_all};
 ghost use Rattle.tinyjson.specs.View.{view};
 ghost use Rattle.tinyjson.specs.Words.{compact};
@@ -8,7 +8,7 @@ use crate::stop::{Stop, text_of};
 use std::alloc::{AllocError, Global};
 use tinyjson::JsonValue;
 
-/// The value of a text in which at most `depth` containers are open at once.
+/// The value of a text with at most `depth` nested containers.
 pub(crate) fn read(alloc: Global, bytes: &[u8], depth: usize) -> Result<JsonValue, Stop>
     ensures { MatchResult result (λ v. IsTextOf (Some depth) bytes.now (view v))
         (IsStopped (Some depth) bytes.now) }
@@ -23,7 +23,7 @@ pub(crate) fn read(alloc: Global, bytes: &[u8], depth: usize) -> Result<JsonValu
     }
 }
 
-/// The normal text of a value.
+/// The normal form of a value.
 pub(crate) fn written(alloc: Global, value: &JsonValue) -> Result<Vec<u8>, AllocError>
     ensures { IfOk result (λ v. v.items ≡ encode_utf8_all (compact (view value.now))) }
 {

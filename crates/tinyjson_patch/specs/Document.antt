@@ -1,4 +1,5 @@
--- The document of a patch (RFC 6902, sections 3 and 4): which tree is that of which operations, and what is wrong with others.
+-- Patch documents (RFC 6902, sections 3 and 4): which tree has which operations, and the fault of any other
+-- tree.
 use Rattle.std.specs.Prelude.{◌≡◌, ◌⊎◌, ◌<◌, ◌≤◌, ℕ, zero, suc, Bool, false, ◌||◌, List, [], ◌∷◌, Some, None, Result, Ok, Err}
 use Rattle.std.specs.Prelude.{IsTrue, length, codes}
 use Rattle.std.specs.Str.{bytes_eq}
@@ -23,31 +24,31 @@ key Path = codes "path"
 key From = codes "from"
 key Value = codes "value"
 
--- whether it is the name of an operation
+-- the name of an operation
 abbrev pub is_name : List ℕ → Bool
 is_name cs =
     bytes_eq cs (codes "add") || bytes_eq cs (codes "remove") || bytes_eq cs (codes "replace") || bytes_eq cs (codes "move")
     || bytes_eq cs (codes "copy") || bytes_eq cs (codes "test")
 
--- how many tokens a pointer has at most
+-- how many tokens a pointer may have
 abbrev pub token_limit : ℕ
 token_limit = 1000
 
--- the member is a string
+-- the member is this string
 abbrev pub HasString : Tree → Member → List ℕ → Type 0
 HasString t m cs = tree_at_key t (key m) ≡ Some (string cs)
 
 abbrev pub HasName : Tree → List ℕ → Type 0
 HasName t name = HasString t Op name
 
--- the member is the text of a pointer with these tokens
+-- the member is a pointer with these tokens
 abbrev pub HasPointer : Tree → Member → List (List ℕ) → Type 0
 HasPointer t m ks = HasString t m (pointer_text ks) × (length ks ≤ token_limit)
 
 abbrev pub HasValue : Tree → Tree → Type 0
 HasValue t u = tree_at_key t (key Value) ≡ Some u
 
--- The tree is that of the operation. Its other members say nothing.
+-- The tree is this operation. Its other members are ignored.
 abbrev pub IsOperation : Tree → Action → Type 0
 IsOperation t (add path u) = HasName t (codes "add") × HasPointer t Path path × HasValue t u
 IsOperation t (remove path) = HasName t (codes "remove") × HasPointer t Path path
@@ -56,7 +57,7 @@ IsOperation t (move from path) = HasName t (codes "move") × HasPointer t Path p
 IsOperation t (copy from path) = HasName t (codes "copy") × HasPointer t Path path × HasPointer t From from
 IsOperation t (test path u) = HasName t (codes "test") × HasPointer t Path path × HasValue t u
 
--- each item is that of an operation, in order
+-- each item is this operation, in order
 abbrev pub AreOperations : Items → List Action → Type 0
 AreOperations no_items [] = Unit {0}
 AreOperations (item t ts) (a ∷ rest) = IsOperation t a × AreOperations ts rest
@@ -66,7 +67,7 @@ abbrev pub IsPatch : Tree → List Action → Type 0
 IsPatch (array ts) actions = AreOperations ts actions
 IsPatch _ actions = ⊥
 
--- the members that an object needs, by the name of its operation: those that are pointers, those that are strings, and all
+-- the members that an object needs, by the name of its operation: pointers, strings, and all
 abbrev pub NeedsPointer : Tree → Member → Type 0
 NeedsPointer t Path = IsTrue (is_object t)
 NeedsPointer t From = HasName t (codes "move") ⊎ HasName t (codes "copy")
@@ -80,7 +81,7 @@ abbrev pub Needs : Tree → Member → Type 0
 Needs t Value = HasName t (codes "add") ⊎ HasName t (codes "replace") ⊎ HasName t (codes "test")
 Needs t m = NeedsString t m
 
--- what is wrong with a tree that is that of no operation
+-- the fault of a tree that is no operation
 abbrev pub HasFault : Tree → Fault → Type 0
 HasFault t NoObject = is_object t ≡ false
 HasFault t (Missing m) = Needs t m × (tree_at_key t (key m) ≡ None)
@@ -89,7 +90,7 @@ HasFault t NoOperation = (cs : List ℕ) × HasName t cs × (is_name cs ≡ fals
 HasFault t (NoPointer m) = NeedsPointer t m × (cs : List ℕ) × HasString t m cs × IsNoPointer cs
 HasFault t (LongPointer m) = NeedsPointer t m × (ks : List (List ℕ)) × HasString t m (pointer_text ks) × (token_limit < length ks)
 
--- The items before this number are those of operations, and the one of the number has the fault.
+-- The items before this index are operations, and the item at it has the fault.
 abbrev pub HasFaultAt : Items → ℕ → Fault → Type 0
 HasFaultAt no_items n f = ⊥
 HasFaultAt (item t ts) zero f = HasFault t f
@@ -99,7 +100,7 @@ abbrev pub IsMalformed : Tree → ℕ → Fault → Type 0
 IsMalformed (array ts) n f = HasFaultAt ts n f
 IsMalformed _ n f = ⊥
 
--- What reading a document returns. After an error, but for want of memory, it is that of no patch.
+-- The result of reading a document. An error other than out of memory means that it is no patch document.
 abbrev pub ReadsPatch : Tree → Result Patch PatchError → Type 0
 ReadsPatch t (Ok p) = IsPatch t (actions_of p)
 ReadsPatch t (Err NoArray) = is_array t ≡ false

@@ -2,19 +2,19 @@
 use Rattle.std.specs.Prelude.{unwrap_or}
 use Rattle.tinyjson.specs.Tree.{Tree, null, object, Members, no_members, member, find, put, remove}
 
--- the members of an object; of another target the contents are ignored
+-- the members of an object; the contents of another target are ignored
 abbrev pub members_of : Tree → Members
 members_of (object ms) = ms
 members_of _ = no_members
 
 abbrev mutual
-  -- `MergePatch(Target, Patch)`: a patch that is no object is the result
+  -- `MergePatch(Target, Patch)`: a patch that is no object replaces the target
   pub merge_patch : Tree → Tree → Tree
   merge_patch t (object ps) = object (merge_members (members_of t) ps)
   merge_patch t p = p
 
-  -- Each member of the patch in turn: null removes, another one is merged into the member that is there, or, where
-  -- there is none, into no object, as which null stands.
+  -- Each member of the patch in turn: null removes the member; another value is merged into the member or, if
+  -- there is none, into null, which is no object.
   pub merge_members : Members → Members → Members
   merge_members ms no_members = ms
   merge_members ms (member k null ps) = merge_members (remove k ms) ps

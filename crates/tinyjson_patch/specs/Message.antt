@@ -11,7 +11,7 @@ use Rattle.tinyjson_patch.specs.declared.fault.PatchError.TheVariants as documen
 use Rattle.tinyjson_patch.specs.declared.patch.ApplyError.{ApplyError}
 use Rattle.tinyjson_patch.specs.declared.patch.ApplyError.TheVariants as applying
 
--- of a member's key between quotes
+-- a text with the key of the member in quotes
 abbrev pub member_message : Member → List ℕ → List ℕ
 member_message m words = codes "'" ++ (key m ++ (codes "'" ++ words))
 
@@ -23,7 +23,7 @@ fault_message NoOperation = codes "'op' names no operation"
 fault_message (NoPointer m) = member_message m (codes " is no pointer")
 fault_message (LongPointer m) = member_message m (codes " is a pointer of more than 1000 tokens")
 
--- of the operation of this number
+-- a text with the index of the operation
 abbrev pub numbered_message : ℕ → List ℕ → List ℕ
 numbered_message n words = codes "operation " ++ (decimal n ++ (codes ": " ++ words))
 

@@ -1,4 +1,4 @@
--- The operations of a patch, applied to a tree (RFC 6902, section 4). A path is its tokens.
+-- The operations of a patch, applied to a tree (RFC 6902, section 4). A path is given by its tokens.
 use Rattle.std.specs.Prelude.{◌≡◌, ℕ, List, [], ◌∷◌, Option, Some, None, Result, Ok, Err, cond, codes}
 use Rattle.tinyjson.specs.Equality.{tree_eq}
 use Rattle.tinyjson.specs.Tree.{Tree}
@@ -31,7 +31,7 @@ action_of (made.Move from path) = move (tokens_of from) (tokens_of path)
 action_of (made.Copy from path) = copy (tokens_of from) (tokens_of path)
 action_of (made.Test path v) = test (tokens_of path) (view v)
 
--- the tree that is there, or the reason where there is none
+-- the tree, or the reason if there is none
 abbrev pub or_fail : Option Tree → Reason → Result Tree Reason
 or_fail None r = Err r
 or_fail (Some t) r = Ok t
@@ -40,16 +40,16 @@ abbrev pub and_then : Result Tree Reason → (Tree → Result Tree Reason) → R
 and_then (Err r) f = Err r
 and_then (Ok t) f = f t
 
--- 4.1: the target's container has to be there
+-- 4.1: the container of the target has to exist
 abbrev pub added : List (List ℕ) → Tree → Tree → Result Tree Reason
 added path u t = or_fail (with_new_part t path u) NoPlace
 
--- 4.2: the target has to be there, and is not the whole
+-- 4.2: the target has to exist, and must not be the whole
 abbrev pub removed : List (List ℕ) → Tree → Result Tree Reason
 removed [] t = Err WholeRemoved
 removed (k ∷ ks) t = or_fail (without_part t (k ∷ ks)) NoTarget
 
--- 4.3: the target has to be there
+-- 4.3: the target has to exist
 abbrev pub replaced : List (List ℕ) → Tree → Tree → Result Tree Reason
 replaced path u t = and_then (or_fail (part_at t path) NoTarget) (λ old. Ok (with_part t path u))
 
@@ -57,7 +57,7 @@ replaced path u t = and_then (or_fail (part_at t path) NoTarget) (λ old. Ok (wi
 abbrev pub stayed : List (List ℕ) → Tree → Result Tree Reason
 stayed from t = and_then (or_fail (part_at t from) NoSource) (λ part. Ok t)
 
--- to another place: what is at `from` is removed and then added
+-- 4.4, to another place: the part at `from` is removed and then added
 abbrev pub taken : List (List ℕ) → List (List ℕ) → Tree → Result Tree Reason
 taken from path t =
     and_then (or_fail (part_at t from) NoSource) (λ part. and_then (or_fail (without_part t from) NoSource) (added path part))
@@ -70,15 +70,15 @@ moved from path t =
 abbrev pub copy_of : List (List ℕ) → Tree → Result Tree Reason
 copy_of from t = or_fail (part_at t from) NoSource
 
--- 4.5: what is at `from` is added
+-- 4.5: the part at `from` is added
 abbrev pub copied : List (List ℕ) → List (List ℕ) → Tree → Result Tree Reason
 copied from path t = and_then (copy_of from t) (λ part. added path part t)
 
--- 4.6: the target has to be equal to the value
+-- 4.6: the target and the value have to be equal
 abbrev pub tested : List (List ℕ) → Tree → Tree → Result Tree Reason
 tested path u t = and_then (or_fail (part_at t path) NoTarget) (λ part. cond (tree_eq part u) (Ok t) (Err Different))
 
--- the tree after the operation, or why there is none
+-- the tree after the operation, or the reason why it fails
 abbrev pub applied : Action → Tree → Result Tree Reason
 applied (add path u) t = added path u t
 applied (remove path) t = removed path t
@@ -87,13 +87,13 @@ applied (move from path) t = moved from path t
 applied (copy from path) t = copied from path t
 applied (test path u) t = tested path u t
 
--- What applying an operation returns, and what the tree is after success.
+-- The result of applying an operation, and the tree after success.
 abbrev pub Applies : Result Tree Reason → Result (Unit {0}) OperationError → Tree → Type 0
 Applies outcome (Ok _) t = outcome ≡ Ok t
 Applies outcome (Err (Failed r)) t = outcome ≡ Err r
 Applies outcome (Err OutOfMemory) t = Unit {0}
 
--- What copying a part returns.
+-- The result of copying a part.
 abbrev pub Copies : Result Tree Reason → Result JsonValue OperationError → Type 0
 Copies outcome (Ok v) = outcome ≡ Ok (view v)
 Copies outcome (Err (Failed r)) = outcome ≡ Err r

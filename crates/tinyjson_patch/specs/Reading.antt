@@ -1,4 +1,4 @@
--- What reading the parts of a patch document returns.
+-- The results of reading the parts of a patch document.
 use Rattle.std.specs.Borrow.{Bor}
 use Rattle.std.specs.Prelude.{List, ℕ, Result, MatchResult, IsTrue, String, codes}
 use Rattle.std.specs.declared.alloc.Global.{Global}
@@ -30,7 +30,7 @@ name named.Test = codes "test"
 abbrev pub IsNoOperation : Tree → Type 0
 IsNoOperation t = (a : Action) → ¬ IsOperation t a
 
--- the tree is that of no operation, and has the fault
+-- the tree is no operation, and has the fault
 abbrev pub Refused : Tree → ReadError → Type 0
 Refused t (Malformed f) = HasFault t f × IsNoOperation t
 Refused t OutOfMemory = Unit {0}
@@ -41,7 +41,7 @@ ReadsOperation t result = MatchResult result (λ o. IsOperation t (action_of o))
 abbrev pub ReadsName : Tree → Result Name ReadError → Type 0
 ReadsName t result = MatchResult result (λ n. HasName t (name n)) (λ e. IsTrue (is_object t) → Refused t e)
 
--- of a member that is needed
+-- the result for a member that is needed
 abbrev pub ReadsString : Tree → Member → Result (Bor (String Global)) ReadError → Type 0
 ReadsString t m result = MatchResult result (λ s. HasString t m (text s.now)) (λ e. NeedsString t m → Refused t e)
 

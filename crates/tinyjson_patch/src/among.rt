@@ -1,4 +1,4 @@
-//! Operations on the items of one array, which are in boxes apart from its value.
+//! Applies operations to the items of an array, which are in boxes outside of their value.
 ghost use Rattle.std.specs.Box.{box_value};
 ghost use Rattle.tinyjson.specs.View.{view};
 ghost use Rattle.tinyjson_pointer.specs.Tokens.{tokens_of};
@@ -12,7 +12,7 @@ use std::collections::VecDeque;
 use tinyjson::JsonValue;
 use tinyjson_pointer::{InsertError, Pointer};
 
-/// Applies the operation to the items. After an error they may be any.
+/// Applies the operation to the items. After an error they may be in any state.
 pub(crate) fn apply_to_items(
     alloc: Global,
     operation: &Operation,

@@ -1,4 +1,4 @@
-//! Items each in a box of its own, so that where they move, pointers move.
+//! Items in boxes, so that moving an item moves a pointer.
 ghost use Rattle.std.specs.Box.{box_value};
 ghost use Rattle.std.specs.Prelude.{◌≡◌, ◌∷◌, ◌++◌, [], IfOk, OnOk, map};
 
@@ -6,7 +6,7 @@ use std::alloc::{AllocError, Global};
 use std::collections::VecDeque;
 use tinyjson::JsonValue;
 
-/// Puts each item into a box. Where memory runs out, all are freed.
+/// Puts each item into a box. If memory runs out, all are freed.
 pub(crate) fn boxed(
     alloc: Global,
     items: VecDeque<JsonValue>,
@@ -25,7 +25,7 @@ pub(crate) fn boxed(
     Ok(boxes)
 }
 
-/// Takes each item out of its box. Where memory runs out, all are freed.
+/// Takes each item out of its box. If memory runs out, all are freed.
 pub(crate) fn unboxed(
     alloc: Global,
     boxes: VecDeque<Box<JsonValue>>,
@@ -45,7 +45,7 @@ pub(crate) fn unboxed(
     Ok(items)
 }
 
-/// The value in a box. Where memory runs out, it is freed.
+/// Takes the value out of a box. If memory runs out, it is freed.
 pub(crate) fn boxed_value(alloc: Global, value: JsonValue) -> Result<Box<JsonValue>, AllocError>
     ensures { IfOk result (λ item. box_value item ≡ value) }
 {
@@ -58,7 +58,7 @@ pub(crate) fn boxed_value(alloc: Global, value: JsonValue) -> Result<Box<JsonVal
     }
 }
 
-/// Frees a box and its value, which may be of any depth.
+/// Frees a box and its value, which may be nested to any depth.
 pub(crate) fn free(item: Box<JsonValue>) {
     Box::into_inner(item).dismantle();
 }

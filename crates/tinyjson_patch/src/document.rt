@@ -1,4 +1,4 @@
-//! Reading a patch document.
+//! Reads a patch from its JSON document.
 ghost use Rattle.std.specs.Prelude.{◌≡◌, false, option_map, MatchOption};
 ghost use Rattle.std.specs.Str.{chars};
 ghost use Rattle.tinyjson.specs.Index.{tree_at_key};
@@ -14,7 +14,7 @@ use std::alloc::{AllocError, Global};
 use tinyjson::JsonValue;
 use tinyjson_pointer::{Pointer, PointerError};
 
-/// How many tokens a pointer of an operation has at most: a change recurses once for each.
+/// How many tokens a pointer of an operation may have: a change recurses once for each.
 const TOKEN_LIMIT: usize = 1_000;
 
 /// Why an operation is not read.
@@ -33,7 +33,7 @@ impl From<AllocError> for ReadError {
     }
 }
 
-/// The names of operations.
+/// The name of an operation.
 #[derive(Clone, Copy)]
 pub(crate) enum Name {
     Add,
@@ -45,7 +45,7 @@ pub(crate) enum Name {
 }
 
 impl Name {
-    /// The operation's name that this text is.
+    /// The operation with this name.
     fn from_text(text: &str) -> Option<Name>
         ensures { MatchOption result (is_name (chars text.now) ≡ false)
             (λ n. chars text.now ≡ name n) }
@@ -69,10 +69,10 @@ impl Name {
 }
 
 impl Patch {
-    /// The patch of a document (RFC 6902, sections 3 and 4): an array of objects, each with the members of
-    /// its operation. Other members say nothing. Pointers have at most 1,000 tokens.
+    /// Reads a patch from its document (RFC 6902, sections 3 and 4): an array of objects, each with the
+    /// members of its operation. Other members are ignored. Pointers may have up to 1,000 tokens.
     ///
-    /// The first item that is no operation is told. Values are copied, and no call recurses.
+    /// The error names the first item that is no operation. Values are copied, and no call recurses.
     ///
     /// ```
     /// let document = JsonValue::from_str(alloc, r#"[{"op":"remove","path":"/a"}]"#)?;
@@ -102,7 +102,7 @@ impl Patch {
     }
 }
 
-/// Of several faults the first is told: of `op`, of `path`, and then of the third member.
+/// Of several faults it returns that of `op`, else that of `path`, else that of the third member.
 fn read_operation(alloc: Global, document: &JsonValue) -> Result<Operation, ReadError>
     ensures { ReadsOperation (view document.now) result }
 {
@@ -169,7 +169,7 @@ fn value_of(alloc: Global, document: &JsonValue) -> Result<JsonValue, ReadError>
     }
 }
 
-/// The member, which is a string.
+/// The member, if it is a string.
 fn string_of(document: &JsonValue, member: Member) -> Result<&String, ReadError>
     ensures { ReadsString (view document.now) member result }
 {

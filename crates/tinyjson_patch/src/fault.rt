@@ -14,9 +14,9 @@ pub enum Member {
     Op,
     /// `path`: a pointer.
     Path,
-    /// `from`: a pointer, of a move and of a copy.
+    /// `from`: a pointer, in a move or a copy.
     From,
-    /// `value`: any value, of an addition, a replacement and a test.
+    /// `value`: any value, in an addition, a replacement or a test.
     Value,
 }
 
@@ -41,13 +41,13 @@ pub enum Fault {
     NoObject,
     /// It lacks a member that its operation needs.
     Missing(Member),
-    /// The member is no string.
+    /// The member is not a string.
     NoString(Member),
-    /// `op` is the name of no operation.
+    /// `op` does not name an operation.
     NoOperation,
-    /// The member is the text of no pointer (RFC 6901).
+    /// The member is not a pointer (RFC 6901).
     NoPointer(Member),
-    /// The member is a pointer of more than 1,000 tokens.
+    /// The member is a pointer with more than 1,000 tokens.
     LongPointer(Member),
 }
 
@@ -70,12 +70,12 @@ impl fmt::Display for Fault {
     }
 }
 
-/// Why a value is no patch document.
+/// Why a value is not a patch document.
 #[derive(Clone, Copy, Debug, PartialEq, Eq)]
 pub enum PatchError {
     /// It is no array.
     NoArray,
-    /// The item of this number is no operation. The first is 0.
+    /// The item with this index is no operation, for this reason. Indices begin at 0.
     Malformed(usize, Fault),
     /// An allocation failed.
     OutOfMemory,

@@ -1,14 +1,15 @@
-//! Changes of a JSON value that other JSON values describe.
+//! Changes to a JSON value that are themselves described in JSON.
 //!
-//! JSON Patch (RFC 6902) is a list of operations. A [`Patch`] is read from its document, and applied as a whole or
-//! not at all:
+//! JSON Patch (RFC 6902) is a list of operations. A [`Patch`] is read from its document, and is applied as a
+//! whole or not at all:
 //!
 //! ```
 //! let patch = Patch::from_value(alloc, &document)?;
 //! patch.apply(alloc, &mut value)?;
 //! ```
 //!
-//! JSON Merge Patch (RFC 7396) is a value with the members to put, and `null` for those to remove:
+//! JSON Merge Patch (RFC 7396) is a value. Its members are merged into the target, and `null` removes a
+//! member:
 //!
 //! ```
 //! let merged = merge(target, &patch, alloc)?;

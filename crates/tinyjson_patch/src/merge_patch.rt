@@ -1,4 +1,4 @@
-//! A value with a patch merged into it.
+//! Merges a patch into a value.
 ghost use Rattle.std.specs.Prelude.{◌≡◌, IfOk, OnOk, unwrap_or};
 ghost use Rattle.std.specs.Str.{chars};
 ghost use Rattle.tinyjson.specs.Tree.{null, find, put, remove};
@@ -9,10 +9,10 @@ use std::alloc::{AllocError, Global};
 use std::collections::HashMap;
 use tinyjson::{JsonValue, discard_member, insert_member, remove_member};
 
-/// The target with the patch applied: `MergePatch(Target, Patch)` of RFC 7396, section 2.
+/// Applies the patch to the target: `MergePatch(Target, Patch)` of RFC 7396, section 2.
 ///
-/// The only error is out of memory, and the target is then freed. It calls itself once for each object
-/// around a part of the patch, so it takes stack as the patch is deep, and none for the depth of the target.
+/// The only error is out of memory, and then the target is freed. It is recursive: it takes stack with the
+/// nesting of the patch, not with that of the target.
 ///
 /// ```
 /// let merged = merge(target, &patch, alloc)?; // {"a":1,"b":2} by {"a":null,"c":3} is {"b":2,"c":3}
@@ -47,7 +47,7 @@ fn merge_into(patch: &JsonValue, target: JsonValue, alloc: Global) -> Result<Jso
     Ok(JsonValue::Object(members))
 }
 
-/// The members of an object, and none of another value, which is freed.
+/// The members of an object. Another value is freed, and there are none.
 fn members_of(value: JsonValue, alloc: Global) -> HashMap<String, JsonValue>
     ensures { members_view result.entries ≡ members_of (view value) }
 {
@@ -60,7 +60,7 @@ fn members_of(value: JsonValue, alloc: Global) -> HashMap<String, JsonValue>
     }
 }
 
-/// Takes the member at the key out, or `null` where there is none.
+/// Removes the member at the key and returns it, or `null` if there is none.
 fn take_or_null(members: &mut HashMap<String, JsonValue>, key: &str) -> JsonValue
     ensures old { view result
         ≡ unwrap_or (find (chars key.now) (members_view members.old.entries)) null }
@@ -70,7 +70,7 @@ fn take_or_null(members: &mut HashMap<String, JsonValue>, key: &str) -> JsonValu
     remove_member(members, key).unwrap_or(JsonValue::Null)
 }
 
-/// Puts the value at the key, of which it makes a string. Where memory runs out, the value is freed.
+/// Inserts the value at the key, which it copies. If memory runs out, the value is freed.
 fn put_member(
     members: &mut HashMap<String, JsonValue>,
     key: &str,
@@ -87,7 +87,7 @@ fn put_member(
     insert_member(members, key, value)
 }
 
-/// Frees the members by a loop, and gives the error to return.
+/// Frees the members in a loop, and returns the error.
 fn give_up(members: HashMap<String, JsonValue>) -> AllocError {
     JsonValue::Object(members).dismantle();
     AllocError

@@ -14,25 +14,25 @@ use tinyjson_pointer::{InsertError, Pointer};
 /// An operation (RFC 6902, section 4).
 #[derive(Debug, Drop)]
 pub enum Operation {
-    /// Puts the value at the path.
+    /// Inserts the value at the path.
     Add { path: Pointer, value: JsonValue },
-    /// Takes out what is at the path.
+    /// Removes the part at the path.
     Remove { path: Pointer },
-    /// Puts the value in the place of what is at the path.
+    /// Replaces the part at the path by the value.
     Replace { path: Pointer, value: JsonValue },
-    /// Takes out what is at `from`, and puts it at the path.
+    /// Removes the part at `from`, and inserts it at the path.
     Move { from: Pointer, path: Pointer },
-    /// Puts a copy of what is at `from` at the path.
+    /// Inserts a copy of the part at `from` at the path.
     Copy { from: Pointer, path: Pointer },
-    /// Asks that the value be at the path.
+    /// Requires that the part at the path is equal to the value.
     Test { path: Pointer, value: JsonValue },
 }
 
 /// Why an operation can't be applied to a value.
 #[derive(Clone, Copy, Debug, PartialEq, Eq)]
 pub enum Reason {
-    /// `path` names no place to put something at: its container is not there, or is none, or in an array
-    /// the index is none or past the end.
+    /// `path` names no place for an insertion: its container is missing or is a scalar, or the token is no
+    /// index of the array, or is past its end.
     NoPlace,
     /// `path` names no part of the value.
     NoTarget,
@@ -42,7 +42,7 @@ pub enum Reason {
     WholeRemoved,
     /// A part is to be moved into itself.
     IntoItself,
-    /// What is at `path` is another value than the one that is asked for.
+    /// The part at `path` is not equal to the value of the test.
     Different,
 }
 
@@ -83,7 +83,7 @@ impl From<AllocError> for OperationError {
 }
 
 impl Operation {
-    /// Applies this to the target. After an error the target may be any value.
+    /// Applies this to the target. After an error the target may have any value.
     pub fn apply(&self, alloc: Global, target: &mut JsonValue) -> Result<(), OperationError>
         ensures { Applies (applied (action_of self.now) (view target.old))
             result (view target.new) }
@@ -98,7 +98,7 @@ impl Operation {
         }
     }
 
-    /// The place that this is on, or puts a part at.
+    /// The path of the operation.
     pub(crate) fn path(&self) -> &Pointer {
         match self {
             Operation::Add { path, .. }
@@ -110,7 +110,7 @@ impl Operation {
         }
     }
 
-    /// Whether all that this names are places in the container in which the pointer names one.
+    /// Whether all places that this names are in the container in which the pointer names a place.
     pub(crate) fn is_among(&self, place: &Pointer) -> bool
         ensures { result ≡ is_among (tokens_of place.now) (action_of self.now) }
     {
@@ -194,7 +194,7 @@ fn move_part(
     }
 }
 
-/// Moves a part to where it is.
+/// Moves a part to its own place.
 fn stay(value: &JsonValue, from: &Pointer) -> Result<(), OperationError>
     ensures { Applies (stayed (tokens_of from.now) (view value.now)) result (view value.now) }
 {

@@ -1,4 +1,4 @@
-//! A patch, applied as a whole or not at all.
+//! A patch, which is applied as a whole or not at all.
 ghost use Rattle.std.specs.Prelude.{◌≡◌, Some};
 ghost use Rattle.tinyjson.specs.View.{view};
 ghost use Rattle.tinyjson_patch.specs.Message.{apply_error_message};
@@ -20,7 +20,7 @@ pub struct Patch {
 /// Why a patch was not applied.
 #[derive(Clone, Copy, Debug, PartialEq, Eq)]
 pub enum ApplyError {
-    /// The operation of this number can't be applied to what those before it leave. The first is 0.
+    /// The operation with this index can't be applied to the result of those before it. Indices begin at 0.
     Failed(usize, Reason),
     /// An allocation failed.
     OutOfMemory,
@@ -50,10 +50,9 @@ impl fmt::Display for ApplyError {
 impl Error for ApplyError {}
 
 impl Patch {
-    /// Applies the operations to the value (RFC 6902, section 5), all or none: after an error the value is
-    /// as it was.
+    /// Applies all operations to the value (RFC 6902, section 5). After an error the value is unchanged.
     ///
-    /// They are applied to a copy, so it takes the time and the memory of one. An operation recurses once
+    /// It applies them to a copy, so it takes the time and the memory of a copy. An operation recurses once
     /// for each token of its pointers.
     ///
     /// ```
@@ -76,7 +75,7 @@ impl Patch {
         }
     }
 
-    /// Applies the operations in turn. After an error the value may be any.
+    /// Applies the operations in order. After an error the value may have any state.
     fn run(&self, alloc: Global, value: &mut JsonValue) -> Result<(), ApplyError>
         ensures { RunsAll (all_applied 0 (actions_of self.now) (view value.old))
             result (view value.new) }

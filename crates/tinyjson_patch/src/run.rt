@@ -1,4 +1,5 @@
-//! Operations in turn. Many in a row on the items of one array find these apart, in a queue of boxes.
+//! Applies operations in order. For many in a row on the items of one array, these are moved into a queue of
+//! boxes.
 ghost use Rattle.std.specs.Prelude.{◌≡◌, ◌≤◌, IsSome, map, length};
 ghost use Rattle.tinyjson.specs.Soundness.{IsTree};
 ghost use Rattle.tinyjson.specs.Tree.{Tree};
@@ -17,11 +18,11 @@ use std::collections::VecDeque;
 use tinyjson::JsonValue;
 use tinyjson_pointer::Pointer;
 
-/// How many operations in a row have to be on the items of one array before these are put into boxes for them,
-/// which takes the time of some of them.
+/// From this many operations in a row on the items of one array, the items are moved into boxes, which takes
+/// the time of some operations.
 const MANY: usize = 32;
 
-/// Applies the operation of this number.
+/// Applies the operation with this number.
 pub(crate) fn apply_one(
     alloc: Global,
     operation: &Operation,
@@ -38,8 +39,8 @@ pub(crate) fn apply_one(
     }
 }
 
-/// Applies the first of the operations, where many are on the items of the array in which this one names a place.
-/// The others are returned. There are so many operations in all.
+/// Applies the first operations of the list, if many are on the items of the array in which this one names a
+/// place. Returns the others. The whole patch has `count` operations.
 pub(crate) fn apply_beside<'o>(
     alloc: Global,
     operation: &Operation,
@@ -77,8 +78,8 @@ fn are_many_among(place: &Pointer, operations: &[Operation]) -> bool {
     true
 }
 
-/// Applies the operations to the items of the array in which the pointer names a place, up to one that is on
-/// something else.
+/// Applies the operations to the items of the array in which the pointer names a place, up to the first that
+/// is on something else.
 fn apply_among<'o>(
     alloc: Global,
     place: &Pointer,
