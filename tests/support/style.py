@@ -1,7 +1,8 @@
-"""How the pages are written, as far as it can be counted.
+"""How pages and comments are written, as far as it can be counted.
 
 The words, the sentences and the phrases are those of the prose: blocks of code are left out, and a code span is one
 word. The pages are read in one form: a list of paragraphs, with an item of a list as one, and a list of cells of tables.
+Of comments only the phrases are looked for.
 """
 
 import re
@@ -30,6 +31,7 @@ REFERENCE = re.compile(r"\[[^]]+\]: ")
 SPAN = re.compile(r"`[^`]*`")
 LINK = re.compile(r"!?\[([^]]*)\](?:\([^)]*\)|\[[^]]*\])")
 END = re.compile(r"(?<=[.?!])[\"')]*\s+")
+COMMENT = {".rt": re.compile(r"\s*//[/!]?(?: (.*))?$"), ".antt": re.compile(r"\s*--(?: (.*))?$")}
 
 
 def plain(text):
@@ -80,3 +82,23 @@ def faults(page):
     for text in paragraphs + cells:
         for phrase in PHRASE.finditer(text):
             yield f"say this in plain words: {text[max(0, phrase.start() - 30):phrase.end() + 10]}"
+
+
+def comments(path):
+    """The comments of a file of code or of definitions: of each the number of its first line, and its prose."""
+    first, lines = 0, []
+    for number, line in enumerate([*path.read_text().splitlines(), ""], 1):
+        found = COMMENT[path.suffix].match(line)
+        if found:
+            first = first if lines else number
+            lines.append(found[1] or "")
+        elif lines:
+            yield first, plain(" ".join(FENCED.sub("", "\n".join(lines)).split("\n")))
+            lines = []
+
+
+def comment_faults(path):
+    """The lines of a file's comments that are to be said in plain words."""
+    for first, text in comments(path):
+        for phrase in PHRASE.finditer(text):
+            yield first, text[max(0, phrase.start() - 30):phrase.end() + 10]

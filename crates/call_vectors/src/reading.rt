@@ -1,4 +1,4 @@
-//! Texts that are read: into a value, into nothing, and into events.
+//! Texts that are parsed: into a value, into nothing, and into events.
 ghost use Rattle.std.specs.Iterator.{IsFinite};
 
 use crate::inputs::Inputs;
@@ -78,7 +78,8 @@ fn nth_answer<I: Iterator<Item = char> + Drop>(
     parser.parse()
 }
 
-/// What the call of this number returns, with this record. What the earlier ones tell is told to records of their own.
+/// What the call of this number returns, with this record. The earlier calls have records of their
+/// own.
 fn nth_record<I: Iterator<Item = char> + Drop>(
     mut parser: JsonParser<I>,
     call: usize,
@@ -141,7 +142,7 @@ fn checked(reply: &mut Reply, answer: Result<(), JsonParseError>) -> io::Result<
     }
 }
 
-/// The events that were told, or an error.
+/// The events, or an error.
 fn told(reply: &mut Reply, answer: &Result<Record, (JsonParseError, Record)>) -> io::Result<()> {
     match answer {
         Ok(record) => {

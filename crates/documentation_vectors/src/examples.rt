@@ -1,4 +1,4 @@
-//! The examples of the doc comments, as they stand there, and of docs/CALLERS.md.
+//! The examples of the doc comments, to the letter, and of docs/CALLERS.md.
 
 mod access;
 mod conversions;

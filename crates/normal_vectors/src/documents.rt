@@ -1,4 +1,4 @@
-//! That a document is looked into where there is memory.
+//! Documents: with memory a text is parsed and its parts are found.
 
 use std::alloc::Global;
 use std::test::Fail;
@@ -7,7 +7,7 @@ use tinyjson_document::{Document, JsonView};
 const TEXT: &str =
     r#"{"b": [1.50, true, "x", null], "a": {"d": [], "c": "\u00e9"}, "b": [2, "y"]}"#;
 
-/// The keys of the members of the value, each with a space behind it.
+/// The keys of the members of the value, each with a space after it.
 fn keys(alloc: Global, document: &Document) -> Result<String, Fail> {
     let mut keys = String::new(alloc);
     for (key, _) in document.root().members() {
@@ -17,7 +17,7 @@ fn keys(alloc: Global, document: &Document) -> Result<String, Fail> {
     Ok(keys)
 }
 
-/// The compact texts of the items of the member, each with a space behind it.
+/// The compact texts of the items of the member, each with a space after it.
 fn items(alloc: Global, document: &Document, key: &str) -> Result<String, Fail> {
     let mut items = String::new(alloc);
     if let Some(member) = document.root().member(key) {

@@ -1,4 +1,4 @@
-//! That a text is read and written where there is memory, by its bytes and its refusals.
+//! With memory a text is parsed and written, with the same bytes and errors as a value.
 
 use std::alloc::Global;
 use std::test::Fail;
@@ -47,7 +47,7 @@ fn compact(alloc: Global, text: &str) -> Result<String, Fail> {
     Ok(NormalText::read(alloc, text)?.to_string(alloc)?)
 }
 
-/// Whether this is the compact text of the text, and whether each is normal is told.
+/// Whether this is the compact text of the text, and whether `is_normal` is right about both.
 fn is_compact_text(alloc: Global, text: &str, expected: &str) -> Result<bool, Fail> {
     let compact = compact(alloc, text)?;
     let told = is_normal(alloc, text)? == (text == expected) && is_normal(alloc, expected)?;
@@ -91,7 +91,7 @@ fn texts_are_indented(rt: HostRuntime) -> Result<(), Fail> {
     Ok(())
 }
 
-/// Texts with each kind of token, and in them what no value is.
+/// Texts with each kind of token, and texts in them that are no values.
 const TEXTS: [&str; 5] = [
     "\r\n[-0,12.50E+2 ,1e-2,[[]],{ \"a\" : { } , \"\\u0061\":false}]",
     "\t\"\\ud83d\\ude00\\ud800\\udc00 aé€😀\\\"\\\\\\/\\b\\f\\n\\r\\t\u{7f}\\q",
@@ -100,7 +100,7 @@ const TEXTS: [&str; 5] = [
     "{\"\":[{\"b\":null,\"a\":[1.5]}],{[1]:2}:3}",
 ];
 
-/// What stands after each prefix of them.
+/// What comes after each prefix of them.
 const ENDS: [&str; 12] = [
     "",
     "x",
@@ -116,14 +116,14 @@ const ENDS: [&str; 12] = [
     "\u{1}",
 ];
 
-/// Whether the text that was read has the two texts of the value.
+/// Whether the parsed text has the two texts of the value.
 fn has_texts_of(alloc: Global, normal: &NormalText, value: &JsonValue) -> Result<bool, Fail> {
     let is_compact = normal.to_string(alloc)?.as_str() == value.stringify(alloc)?.as_str();
     let is_indented = normal.format(alloc)?.as_str() == value.format(alloc)?.as_str();
     Ok(is_compact && is_indented)
 }
 
-/// Whether the text that was read is written as its value, or refused as it.
+/// Whether the text is written as its value is, or rejected as it is.
 fn is_alike(
     alloc: Global,
     text: &str,
@@ -136,7 +136,7 @@ fn is_alike(
     }
 }
 
-/// Whether it is, read by itself and by a reader of others.
+/// Whether it is so, parsed alone and by a reader of others.
 fn is_read_alike(alloc: Global, reader: &mut NormalReader, text: &str) -> Result<bool, Fail> {
     let alone = is_alike(alloc, text, &NormalText::read(alloc, text))?;
     let read = reader.read(text, None);
@@ -147,7 +147,7 @@ fn is_read_alike(alloc: Global, reader: &mut NormalReader, text: &str) -> Result
     Ok(alone && in_turn)
 }
 
-/// Whether it is, with each of the ends behind it.
+/// Whether it is so, with each of the ends after it.
 fn are_read_alike(alloc: Global, reader: &mut NormalReader, prefix: &str) -> Result<bool, Fail> {
     for end in ENDS {
         let text = format!(in alloc; "{prefix}{end}")?;
@@ -173,7 +173,7 @@ fn texts_are_read_as_values(rt: HostRuntime) -> Result<(), Fail> {
     Ok(())
 }
 
-/// Whether 20,000 containers in one another are written as they are, and again so.
+/// Whether 20,000 nested containers are written as they are, and again so.
 fn are_kept(alloc: Global, open: &str, close: &str) -> Result<bool, Fail> {
     let mut text = open.repeat(alloc, 20_000)?;
     text.push('1')?;

@@ -1,4 +1,4 @@
-//! That each error of a writer is told, behind the bytes that it took.
+//! Each error of a writer is returned, after the bytes that the writer accepted.
 ghost use Rattle.std.specs.Prelude.{Some};
 
 use std::alloc::Global;
@@ -6,7 +6,7 @@ use std::io::{self, ErrorKind, Write};
 use std::test::Fail;
 use tinyjson_normal::NormalText;
 
-/// A writer that takes a byte a call, and so many of them.
+/// A writer that accepts one byte a call, up to a number of them.
 #[derive(Drop)]
 struct Few {
     bytes: Vec<u8>,
@@ -33,7 +33,7 @@ impl Write for Few {
     }
 }
 
-/// Whether a writer of so many bytes has taken these of the text, and its error is told.
+/// Whether a writer of that many bytes has accepted these of the text, and its error is returned.
 fn is_told(
     alloc: Global,
     normal: &NormalText,

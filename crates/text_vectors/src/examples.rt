@@ -1,4 +1,4 @@
-//! The examples of the documentation, as they are written there.
+//! The examples of the documentation, to the letter.
 
 use general_category::Category;
 use i_regexp::{IRegexp, IRegexpErrorKind};

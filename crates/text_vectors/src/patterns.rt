@@ -180,7 +180,7 @@ fn rows(rt: HostRuntime) -> Result<(), Fail> {
     Ok(())
 }
 
-/// Of each row a text that is refused, why, and how many characters stand before what is refused.
+/// A rejected text, why, and the number of characters before what is rejected.
 const REFUSED: &[(&str, SchemaPatternErrorKind, usize)] = &[
     ("*", Invalid, 0),
     ("^*", Invalid, 1),
@@ -256,7 +256,7 @@ fn refusals(rt: HostRuntime) -> Result<(), Fail> {
     Ok(())
 }
 
-// The examples of the documentation, as they are written there.
+// The examples of the documentation, to the letter.
 
 #[test]
 fn codes(rt: HostRuntime) -> Result<(), Fail> {

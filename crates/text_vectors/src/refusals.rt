@@ -1,11 +1,11 @@
-//! Which texts are refused, why, and where.
+//! Which texts are rejected, why, and where.
 
 use i_regexp::IRegexpErrorKind::{Invalid, TooLarge};
 use i_regexp::{IRegexp, IRegexpError, IRegexpErrorKind};
 use std::alloc::{AllocError, Global};
 use std::test::Fail;
 
-/// Of each row a text that is refused, why, and how many characters stand before what is refused.
+/// A rejected text, why, and the number of characters before what is rejected.
 const ROWS: &[(&str, IRegexpErrorKind, usize)] = &[
     ("*", Invalid, 0),
     ("a**", Invalid, 2),
@@ -52,7 +52,7 @@ fn rows(rt: HostRuntime) -> Result<(), Fail> {
     Ok(())
 }
 
-/// An `a` in so many groups, each repeated.
+/// An `a` in that many groups, each repeated.
 fn nested(alloc: Global, groups: usize) -> Result<String, AllocError> {
     let mut text = "(".repeat(alloc, groups)?;
     text.push('a')?;

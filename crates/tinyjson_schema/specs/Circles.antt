@@ -51,6 +51,6 @@ reference_steps = 100
 abbrev pub leads : Tree → Tree → Bool
 leads root w = option_map_or (settles root reference_steps) (target root w) false
 
--- the same of a schema, within a walk
+-- `settles` in the root schema and with the steps of a walk
 abbrev pub settles_in : Walk → Tree → Bool
 settles_in w = settles (view w.whole.now.root.now) w.steps

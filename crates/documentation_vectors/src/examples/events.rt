@@ -1,4 +1,4 @@
-//! Texts that are told event by event.
+//! Texts as events.
 ghost use Rattle.std.specs.Prelude.{⊤};
 
 use std::alloc::AllocError;
