@@ -8,7 +8,8 @@ import shutil
 import subprocess
 import sys
 
-TOP = pathlib.Path(__file__).resolve().parent.parent
+HERE = pathlib.Path(__file__).resolve().parent
+TOP = HERE.parent
 
 ORIGINAL = """use std::io::{self, BufWriter, Read, Write};
 use tinyjson::JsonValue;
@@ -33,32 +34,6 @@ fn main() -> Result<(), Box<dyn std::error::Error>> {
     }
     output.flush()?;
     Ok(())
-}
-"""
-
-CHARS = """//! Reads a JSON text from standard input by its characters, and writes its normal text.
-#![tactic(auto)]
-
-use std::io::{self, BufWriter, ErrorKind, Read, Write};
-use std::{mem, str};
-use tinyjson::JsonParser;
-
-fn main(rt: HostRuntime) -> io::Result<()> {
-    let alloc = rt.alloc();
-    let mut bytes = Vec::new(alloc);
-    rt.reader().read_to_end(&mut bytes)?;
-    let Ok(text) = str::from_utf8(bytes.as_slice()) else {
-        return Err(ErrorKind::InvalidData.into());
-    };
-    let Ok(value) = JsonParser::new(alloc, text.chars()).parse() else {
-        return Err(ErrorKind::InvalidData.into());
-    };
-    let mut output = BufWriter::new(alloc, io::writer(&rt))?;
-    let written = value.write_to(alloc, &mut output);
-    mem::forget(value);
-    written?;
-    output.write_all(b"\\n")?;
-    output.flush()
 }
 """
 
@@ -91,7 +66,12 @@ _, status, used = os.wait4(child, 0)
 print(status, used.ru_utime + used.ru_stime, used.ru_maxrss)
 """
 
-# What a program over an iterator needs, the lowest first.
+# Programs that are built for the bench alone, and the library that each is written over.
+OWN = HERE / "own"
+OVER = {"chars": "tinyjson", "values": "tinyjson", "json": "json", "serde_json": "serde_json"}
+# Programs that write compact text alone.
+COMPACT = (*OVER, "documents")
+# What a program over `tinyjson` needs, the lowest first.
 LIBRARIES = ("tinyjson_bytes", "tinyjson_number", "tinyjson_grammar", "tinyjson_tokens", "tinyjson_output", "tinyjson")
 
 
@@ -131,26 +111,32 @@ def original(folder, work):
     return {mode: [built, mode] for mode in ("text", "indented", "lines")}
 
 
-def built(name, work, text, *words):
-    """A program of this repository, proved and built where it stands; the text and the words are for its first run."""
+def found(name, folder):
+    """A program that is built already: in the folder, or in the crate of its name below it, if it is there."""
+    for path in (folder / name, folder / "crates" / name / "out" / name) if folder else ():
+        if path.is_file():
+            return str(path.resolve())
+    return None
+
+
+def built(name, work, folder, text, *words):
+    """A program of this repository: the folder's, or proved and built where it stands; the rest is for its first run."""
+    if path := found(name, folder):
+        return path
     crate = TOP / "crates" / name
     quietly(["rt", "run", "--", *words], crate, text)
     return str(shutil.copy2(crate / "out" / name, work / name))
 
 
-def ours(work):
+def ours(work, folder):
     """The programs of this repository: `jsonnorm`, and for lines `json_lines`."""
-    return of_command([built("jsonnorm", work, "null")]) | {"lines": [built("json_lines", work, "null\n")]}
+    lines = built("json_lines", work, folder, "null\n")
+    return of_command([built("jsonnorm", work, folder, "null")]) | {"lines": [lines]}
 
 
-def values(work):
-    """A text read into a value that is written again and freed: `json_path`, asked for the whole."""
-    return {"text": [built("json_path", work, "null", "$"), "$"]}
-
-
-def documents(work):
+def documents(work, folder):
     """A text read into a document that is written again and freed: `json_part`, asked for the whole."""
-    return {"text": [built("json_part", work, "null", ""), ""]}
+    return {"text": [built("json_part", work, folder, "null", ""), ""]}
 
 
 def of_command(command):
@@ -158,19 +144,23 @@ def of_command(command):
     return {"text": command, "indented": [*command, "-i"]}
 
 
-def chars(work):
-    """The parser over characters, in a repository of its own, on copies of the crates that it needs."""
-    scratch = work / "chars"
-    crate = scratch / "crates/chars"
+def own(name, work, folder):
+    """A program of OWN: the folder's, or proved and built in a repository of its own, with copies of what it needs."""
+    if path := found(name, folder):
+        return {"text": [path]}
+    scratch = work / f"{name}-built"
+    crate = scratch / f"crates/bench_{name}"
     (crate / "src").mkdir(parents=True, exist_ok=True)
     quietly(["git", "init", "-q"], scratch)
-    for name in LIBRARIES:
-        quietly(["cp", "-a", "--reflink=auto", "-u", TOP / "crates" / name, scratch / "crates"], scratch)
-    (crate / "src/main.rt").write_text(CHARS)
-    lines = [line for line in (TOP / "crates.txt").read_text().splitlines() if line.split(":")[0] in LIBRARIES]
-    (scratch / "crates.txt").write_text("\n".join([*lines, "chars: tinyjson"]) + "\n")
+    shutil.copy2(OWN / f"{name}.rt", crate / "src/main.rt")
+    lines = [f"bench_{name}: {OVER[name]}"]
+    if OVER[name] in LIBRARIES:
+        for library in LIBRARIES:
+            quietly(["cp", "-a", "--reflink=auto", "-u", TOP / "crates" / library, scratch / "crates"], scratch)
+        lines += [line for line in (TOP / "crates.txt").read_text().splitlines() if line.split(":")[0] in LIBRARIES]
+    (scratch / "crates.txt").write_text("\n".join(lines) + "\n")
     quietly(["rt", "run"], crate, "null")
-    return {"text": [str(crate / "out/chars")]}
+    return {"text": [str(shutil.copy2(crate / f"out/bench_{name}", work / name))]}
 
 
 def installed():
