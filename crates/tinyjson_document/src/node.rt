@@ -96,6 +96,10 @@ impl<'d> Node<'d> {
     }
 
     /// The boolean, or `None` if the value is of another kind.
+    ///
+    /// ```
+    /// node.boolean() // of true: Some(true); of null: None
+    /// ```
     pub fn boolean(&self) -> Option<bool>
         ensures { result ≡ boolean_in (tree self.now) }
     {
@@ -106,6 +110,10 @@ impl<'d> Node<'d> {
     }
 
     /// The number, exact, or `None` if the value is of another kind.
+    ///
+    /// ```
+    /// node.number() // of 1.50: the number 1.5; of "1.5": None
+    /// ```
     pub fn number(&self) -> Option<&'d JsonNumber>
         ensures { option_map (λ n. n.now.decimal) result ≡ number_in (tree self.now) }
     {
@@ -116,6 +124,10 @@ impl<'d> Node<'d> {
     }
 
     /// The characters of the string, or `None` if the value is of another kind.
+    ///
+    /// ```
+    /// node.string() // of "a\u0062": Some("ab"); of 1: None
+    /// ```
     pub fn string(&self) -> Option<&'d str>
         ensures { option_map (λ s. chars s.now) result ≡ string_in (tree self.now) }
     {
@@ -126,6 +138,10 @@ impl<'d> Node<'d> {
     }
 
     /// The number of items or members; 0 for a scalar.
+    ///
+    /// ```
+    /// node.len() // of [7,8]: 2; of {"a":1}: 1; of "ab": 0
+    /// ```
     pub fn len(&self) -> usize
         ensures { result ≡ size (tree self.now) }
     {
@@ -137,6 +153,10 @@ impl<'d> Node<'d> {
     }
 
     /// The item at the index, from 0 on. `None` if there is none, or if the value is no array.
+    ///
+    /// ```
+    /// node.item(1) // of [7,8]: the node of 8; of {"1":8}: None
+    /// ```
     pub fn item(&self, index: usize) -> Option<Node<'d>>
         ensures { option_map tree result ≡ tree_at (tree self.now) index }
     {
@@ -152,6 +172,10 @@ impl<'d> Node<'d> {
 
     /// The member with the key: of equal keys in the text, the last one. `None` if there is none, or if the value
     /// is no object. It is found by binary search.
+    ///
+    /// ```
+    /// node.member("a") // of {"a":1,"a":2}: the node of 2
+    /// ```
     pub fn member(&self, key: &str) -> Option<Node<'d>>
         ensures { option_map tree result ≡ tree_at_key (tree self.now) (chars key.now) }
     {
@@ -167,6 +191,10 @@ impl<'d> Node<'d> {
     }
 
     /// The items, in order; none if the value is no array.
+    ///
+    /// ```
+    /// node.items().next() // of [7,8]: the node of 7
+    /// ```
     pub fn items(&self) -> Items<'d>
         ensures { items_left result ≡ items_in (tree self.now) }
     {
@@ -181,6 +209,10 @@ impl<'d> Node<'d> {
     }
 
     /// The members with their keys, in the order of the keys' bytes; none if the value is no object.
+    ///
+    /// ```
+    /// node.members().next() // of {"b":1,"a":2}: "a" and the node of 2
+    /// ```
     pub fn members(&self) -> Members<'d>
         ensures { members_left result ≡ members_in (tree self.now) }
     {

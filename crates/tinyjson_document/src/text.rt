@@ -25,6 +25,10 @@ impl<'d> Node<'d> {
     /// It stops at the first error: the writer's own, also an interruption; one of kind `WriteZero` if the writer
     /// accepts no byte; or one of kind `OutOfMemory` if there is no memory for the open containers. Then a prefix
     /// of the text is written.
+    ///
+    /// ```
+    /// node.write_to(alloc, &mut output)?; // of [1.50e1, null]: writes [15,null]
+    /// ```
     pub fn write_to<W: Write>(&self, alloc: Global, out: &mut W) -> io::Result<()>
         ensures { WritesText (W.contents out.old) (W.contents out.new)
             (compact (tree self.now)) result }
@@ -34,6 +38,10 @@ impl<'d> Node<'d> {
 
     /// Writes the text indented with two spaces, in UTF-8: the bytes that `JsonValue::format_to` writes for its
     /// value. It does not flush. The errors are those of [`Node::write_to`].
+    ///
+    /// ```
+    /// node.format_to(alloc, &mut output)?; // of [1.0]: writes "[\n  1\n]"
+    /// ```
     pub fn format_to<W: Write>(&self, alloc: Global, out: &mut W) -> io::Result<()>
         ensures { WritesText (W.contents out.old) (W.contents out.new)
             (indented (tree self.now) (codes "  ") 0) result }
@@ -42,6 +50,10 @@ impl<'d> Node<'d> {
     }
 
     /// Writes what [`Node::write_to`] writes and a line feed.
+    ///
+    /// ```
+    /// node.write_line_to(alloc, &mut output)?; // of [1.0]: writes "[1]\n"
+    /// ```
     pub fn write_line_to<W: Write>(&self, alloc: Global, out: &mut W) -> io::Result<()>
         ensures { WritesPrefix (W.contents out.old) (W.contents out.new)
             (encode_utf8_all (compact (tree self.now)) ++ line_feed ∷ []) result }
@@ -50,6 +62,10 @@ impl<'d> Node<'d> {
     }
 
     /// Writes what [`Node::format_to`] writes and a line feed.
+    ///
+    /// ```
+    /// node.format_line_to(alloc, &mut output)?; // of [1.0]: writes "[\n  1\n]\n"
+    /// ```
     pub fn format_line_to<W: Write>(&self, alloc: Global, out: &mut W) -> io::Result<()>
         ensures { WritesPrefix (W.contents out.old) (W.contents out.new)
             (encode_utf8_all (indented (tree self.now) (codes "  ") 0) ++ line_feed ∷ [])
@@ -59,6 +75,10 @@ impl<'d> Node<'d> {
     }
 
     /// The compact text: what `JsonValue::stringify` returns for its value.
+    ///
+    /// ```
+    /// node.to_string(alloc)?; // of [1.0]: "[1]"
+    /// ```
     pub fn to_string(&self, alloc: Global) -> JsonGenerateResult
         ensures { IfOk result (λ s. chars (string_bytes s) ≡ compact (tree self.now)) }
     {
@@ -66,6 +86,10 @@ impl<'d> Node<'d> {
     }
 
     /// The text indented with two spaces: what `JsonValue::format` returns for its value.
+    ///
+    /// ```
+    /// node.format(alloc)?; // of [1.0]: "[\n  1\n]"
+    /// ```
     pub fn format(&self, alloc: Global) -> JsonGenerateResult
         ensures { IfOk result (λ s. chars (string_bytes s)
             ≡ indented (tree self.now) (codes "  ") 0) }
@@ -76,6 +100,10 @@ impl<'d> Node<'d> {
     /// Its value, which is parsed from the compact text.
     ///
     /// The only error is out of memory.
+    ///
+    /// ```
+    /// node.to_value(alloc)?; // of [1.0]: an array with the number 1
+    /// ```
     pub fn to_value(&self, alloc: Global) -> Result<JsonValue, AllocError>
         ensures { IfOk result (λ v. view v ≡ tree self.now) }
     {

@@ -22,6 +22,10 @@ pub enum Member {
 
 impl Member {
     /// The key of the member.
+    ///
+    /// ```
+    /// Member::Op.key() // "op"
+    /// ```
     pub fn key(self) -> &'static str
         ensures { result.now ≡ key self }
     {

@@ -84,6 +84,10 @@ impl From<AllocError> for OperationError {
 
 impl Operation {
     /// Applies this to the target. After an error the target may have any value.
+    ///
+    /// ```
+    /// operation.apply(alloc, &mut value)?; // a removal of /0: [1,2] is then [2]
+    /// ```
     pub fn apply(&self, alloc: Global, target: &mut JsonValue) -> Result<(), OperationError>
         ensures { Applies (applied (action_of self.now) (view target.old))
             result (view target.new) }

@@ -18,6 +18,10 @@ pub(crate) enum Step<'v> {
 }
 
 /// The text of the normalized path, as `$['a'][0]` (RFC 9535, 2.7). The only error is out of memory.
+///
+/// ```
+/// path_text(alloc, &node.location)?; // $['a'][0]
+/// ```
 pub fn path_text(alloc: Global, location: &Location) -> Result<String, AllocError>
     ensures { IfOk result (λ s. text s ≡ path_text (path_view location.now)) }
 {

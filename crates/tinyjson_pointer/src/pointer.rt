@@ -63,6 +63,10 @@ pub struct Pointer {
 
 impl Pointer {
     /// The pointer to the whole value; its text is empty.
+    ///
+    /// ```
+    /// Pointer::root(alloc).find(&value) // the whole value
+    /// ```
     pub fn root(alloc: Global) -> Pointer
         ensures { tokens_of result ≡ [] }
     {
@@ -84,6 +88,10 @@ impl Pointer {
     }
 
     /// The number of tokens: the depth of the part that this names.
+    ///
+    /// ```
+    /// Pointer::parse(alloc, "/a/0")?.depth() // 2
+    /// ```
     pub fn depth(&self) -> usize
         ensures { result ≡ length (tokens_of self.now) }
     {
@@ -92,6 +100,10 @@ impl Pointer {
 
     /// Whether the other's tokens are a prefix of these: this then names the other's part, or a part of
     /// it.
+    ///
+    /// ```
+    /// pointer.starts_with(&other) // /a/0 and /a: true; /ab and /a: false
+    /// ```
     pub fn starts_with(&self, other: &Pointer) -> bool
         ensures { result ≡ begins_with (tokens_of self.now) (tokens_of other.now) }
     {
@@ -100,6 +112,10 @@ impl Pointer {
 
     /// Puts a token in front. What this named in a value, it now names in the value's container. If
     /// memory runs out, the tokens are unchanged.
+    ///
+    /// ```
+    /// pointer.prepend(token)?; // /0 with the token a is then /a/0
+    /// ```
     pub fn prepend(&mut self, token: String) -> Result<(), AllocError>
         ensures ok { OnOk result (tokens_of self.new ≡ text token ∷ tokens_of self.old) }
         ensures err { OnErr result (tokens_of self.new ≡ tokens_of self.old) }
@@ -108,6 +124,10 @@ impl Pointer {
     }
 
     /// Puts the token of an index in front. If memory runs out, the tokens are unchanged.
+    ///
+    /// ```
+    /// pointer.prepend_index(alloc, 3)?; // /a is then /3/a
+    /// ```
     pub fn prepend_index(&mut self, alloc: Global, index: usize) -> Result<(), AllocError>
         ensures ok { OnOk result (HasIndexBefore index (tokens_of self.old) (tokens_of self.new)) }
         ensures err { OnErr result (tokens_of self.new ≡ tokens_of self.old) }

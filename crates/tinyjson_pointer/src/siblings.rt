@@ -19,6 +19,10 @@ use tinyjson::JsonValue;
 
 impl Pointer {
     /// Whether both name places in the same container: all their tokens but the last are equal.
+    ///
+    /// ```
+    /// pointer.is_beside(&other) // /a/0 and /a/-: true; /a/0 and /b/0: false
+    /// ```
     pub fn is_beside(&self, other: &Pointer) -> bool
         ensures { result ≡ are_beside (tokens_of self.now) (tokens_of other.now) }
     {
@@ -57,6 +61,10 @@ impl Pointer {
 
     /// Replaces the container in which this names a place by an array of the items, and frees the old
     /// one. It recurses once for each token.
+    ///
+    /// ```
+    /// place.put_items(&mut value, items); // by /a/0: {"a":null} is then {"a":[7,8]}
+    /// ```
     pub fn put_items(&self, value: &mut JsonValue, items: VecDeque<JsonValue>)
         ensures { IsSome (container_at (view value.old) (tokens_of self.now)) →
             view value.new ≡ with_container (view value.old) (tokens_of self.now)
@@ -70,6 +78,10 @@ impl Pointer {
     }
 
     /// The item that the last token names, as [`Pointer::find`] finds it in an array of the items.
+    ///
+    /// ```
+    /// place.find_in(&items) // by /a/1 among 7, 8: the number 8
+    /// ```
     pub fn find_in<'i>(&self, items: &'i VecDeque<Box<JsonValue>>) -> Option<&'i JsonValue>
         ensures { option_map (λ x. view x.now) result
             ≡ step (array (boxes_view items.now.items)) (child_name (tokens_of self.now)) }
@@ -104,6 +116,10 @@ impl Pointer {
     }
 
     /// Removes the item that the last token names, as [`Pointer::remove`] does.
+    ///
+    /// ```
+    /// place.remove_from(&mut items) // by /a/0: 7, 8 are then 8
+    /// ```
     pub fn remove_from(&self, items: &mut VecDeque<Box<JsonValue>>) -> Option<Box<JsonValue>>
         ensures { Removes
             (step (array (boxes_view items.old.items)) (child_name (tokens_of self.now)))

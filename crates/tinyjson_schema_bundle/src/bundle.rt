@@ -34,6 +34,10 @@ use uri_reference::{resolve, without_fragment};
 ///
 /// It is recursive: it takes stack with the nesting of the schema. Not inlined, so that a later check has all of
 /// the stack.
+///
+/// ```
+/// bundled(&document, alloc)?; // {"$ref":"x","$defs":{"y":{"$id":"x"}}} becomes {"$ref":"#/$defs/y","$defs":{"y":{}}}
+/// ```
 #[inline(never)]
 pub fn bundled(document: &JsonValue, alloc: Global) -> Result<JsonValue, AllocError>
     ensures { IfOk result (λ v. (copies : List Reached)

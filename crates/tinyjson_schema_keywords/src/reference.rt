@@ -87,6 +87,7 @@ pub fn at_pointer<'s>(
     Ok(pointer.find(root))
 }
 
+/// Parses the text of a JSON pointer; `None` if it is none. The only error is out of memory.
 pub fn read_pointer(text: &str, alloc: Global) -> Result<Option<Pointer>, AllocError>
     ensures { IfOk result (λ p. option_map tokens_of p ≡ pointer_tokens (chars text.now)) }
 {

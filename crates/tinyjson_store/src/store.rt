@@ -19,6 +19,10 @@ pub struct Store {
 
 impl Store {
     /// A store without values.
+    ///
+    /// ```
+    /// let mut store = Store::new(alloc);
+    /// ```
     pub fn new(alloc: Global) -> Store
         ensures { (t : Tree) → count_of result t ≡ 0 }
     {
@@ -28,6 +32,10 @@ impl Store {
     }
 
     /// How often values equal to this one were added. The only error is out of memory.
+    ///
+    /// ```
+    /// store.count(alloc, &NormalText::read(alloc, "[1.0]")?)?; // 0, until it is added
+    /// ```
     pub fn count(&self, alloc: Global, value: &NormalText) -> Result<u64, AllocError>
         ensures { (t : Tree) → HasTree value.now t → IfOk result (λ n. n ≡ count_of self.now t) }
     {
