@@ -393,7 +393,7 @@ REFUSED = [
     ('{"unevaluatedProperties":1}', "/unevaluatedProperties"), ('{"unevaluatedProperties":{"type":5}}', "/unevaluatedProperties/type"),
     ('{"unevaluatedItems":[true]}', "/unevaluatedItems"), ('{"$dynamicRef":"#a"}', "/$dynamicRef"),
     ('{"$schema":"http://json-schema.org/draft-07/schema#"}', "/$schema"), ('{"$schema":5}', "/$schema"),
-    ('{"$defs":{"a":5}}', "/$defs/a"), ('{"$defs":[]}', "/$defs"),
+    ('{"$defs":{"a":5}}', "/$defs/a"), ('{"$defs":[]}', "/$defs"), ('{"definitions":{"a":5}}', "/definitions/a"), ('{"definitions":[]}', "/definitions"),
     ('{"items":[]}', "/items"), ('{"items":[{"type":"string"}]}', "/items"), ('{"prefixItems":[]}', "/prefixItems"),
     ('{"prefixItems":[{},{"type":5}]}', "/prefixItems/1/type"), ('{"prefixItems":{}}', "/prefixItems"),
     ('{"properties":[]}', "/properties"), ('{"properties":{"a/b":{"a":1},"~":null}}', "/properties/~0"),
@@ -424,6 +424,8 @@ REFUSED = [
 # Core, 8.2.3.1: references within the whole schema. Most are those of `ref.json` in the official suite.
 REFERENCES = [
     ('{"$defs":{"a":{"type":"integer"}},"$ref":"#/$defs/a"}', ["1", "2.0"], [('"x"', "", "/$ref/type")]),
+    # The older name of `$defs` leads to schemas too, as the standard's meta-schema has it.
+    ('{"definitions":{"a":{"type":"integer"},"b":{"$anchor":"c","type":"string"}},"prefixItems":[{"$ref":"#/definitions/a"},{"$ref":"#c"}]}', ['[1,"a"]'], [('["x"]', "/0", "/prefixItems/0/$ref/type"), ("[1,2]", "/1", "/prefixItems/1/$ref/type")]),
     ('{"properties":{"foo":{"$ref":"#"}},"additionalProperties":false}', ['{"foo":false}', '{"foo":{"foo":false}}'],
      [('{"bar":false}', "/bar", "/additionalProperties"), ('{"foo":{"bar":false}}', "/foo/bar", "/properties/foo/$ref/additionalProperties")]),
     ('{"properties":{"foo":{"type":"integer"},"bar":{"$ref":"#/properties/foo"}}}', ['{"bar":3}'], [('{"bar":true}', "/bar", "/properties/bar/$ref/type")]),
@@ -701,7 +703,7 @@ UNKNOWN = [
     ('{"maximun":3,"type":"integer"}', ["maximun"]),
     ('{"z":1,"items":{"z":{"w":2},"allOf":[{"y":0,"z":3},{"a":[]}]}}', ["a", "y", "z"]),
     # Names of older drafts, and other spellings.
-    ('{"definitions":{"a":{"b":1}},"dependencies":{},"additionalItems":true,"id":"a","Type":1,"type ":1}', ["Type", "additionalItems", "definitions", "dependencies", "id", "type "]),
+    ('{"definitions":{"a":{"b":1}},"dependencies":{},"additionalItems":true,"id":"a","Type":1,"type ":1}', ["Type", "additionalItems", "b", "dependencies", "id", "type "]),
     # In the schemas of each keyword that has some.
     ('{"not":{"a":1,"type":"null"},"if":{"b":1},"then":{"c":1},"else":{"d":1},"items":{"e":1},"contains":{"f":1},"additionalProperties":{"g":1},"propertyNames":{"h":1},"contentSchema":{"i":1}}', list("abcdefghi")),
     ('{"allOf":[{"a":1},{"b":1}],"anyOf":[true,{"c":1}],"oneOf":[{"d":1},false],"prefixItems":[{},{"e":{}}]}', list("abcde")),

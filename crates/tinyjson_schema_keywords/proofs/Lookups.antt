@@ -30,6 +30,7 @@ name_ascii kw.Schema = refl
 name_ascii kw.Id = refl
 name_ascii kw.Comment = refl
 name_ascii kw.Defs = refl
+name_ascii kw.Definitions = refl
 name_ascii kw.Ref = refl
 name_ascii kw.Anchor = refl
 name_ascii kw.DynamicRef = refl

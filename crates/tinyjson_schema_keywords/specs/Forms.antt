@@ -13,6 +13,7 @@ form_of kw.Schema = form.Dialect
 form_of kw.Id = form.Base
 form_of kw.Comment = form.Text
 form_of kw.Defs = form.SchemaMap
+form_of kw.Definitions = form.SchemaMap
 form_of kw.Ref = form.Reference
 form_of kw.Anchor = form.Anchor
 form_of kw.DynamicRef = form.Reference

@@ -11,6 +11,7 @@ name kw.Schema = codes "$schema"
 name kw.Id = codes "$id"
 name kw.Comment = codes "$comment"
 name kw.Defs = codes "$defs"
+name kw.Definitions = codes "definitions"
 name kw.Ref = codes "$ref"
 name kw.Anchor = codes "$anchor"
 name kw.DynamicRef = codes "$dynamicRef"
@@ -69,7 +70,7 @@ name kw.Examples = codes "examples"
 abbrev pub keywords : List Keyword
 keywords = kw.Anchor ∷ kw.Comment ∷ kw.Defs ∷ kw.DynamicAnchor ∷ kw.DynamicRef ∷ kw.Id ∷ kw.Ref ∷ kw.Schema ∷ kw.Vocabulary ∷
     kw.AdditionalProperties ∷ kw.AllOf ∷ kw.AnyOf ∷ kw.Const ∷ kw.Contains ∷ kw.ContentEncoding ∷ kw.ContentMediaType ∷
-    kw.ContentSchema ∷ kw.Default ∷ kw.DependentRequired ∷ kw.DependentSchemas ∷ kw.Deprecated ∷ kw.Description ∷ kw.Else ∷
+    kw.ContentSchema ∷ kw.Default ∷ kw.Definitions ∷ kw.DependentRequired ∷ kw.DependentSchemas ∷ kw.Deprecated ∷ kw.Description ∷ kw.Else ∷
     kw.Enum ∷ kw.Examples ∷ kw.ExclusiveMaximum ∷ kw.ExclusiveMinimum ∷ kw.Format ∷ kw.If ∷ kw.Items ∷ kw.MaxContains ∷
     kw.MaxItems ∷ kw.MaxLength ∷ kw.MaxProperties ∷ kw.Maximum ∷ kw.MinContains ∷ kw.MinItems ∷ kw.MinLength ∷
     kw.MinProperties ∷ kw.Minimum ∷ kw.MultipleOf ∷ kw.Not ∷ kw.OneOf ∷ kw.Pattern ∷ kw.PatternProperties ∷ kw.PrefixItems ∷

@@ -75,7 +75,8 @@ fn form_of(keyword: Keyword) -> Form
         | Keyword::ContentMediaType
         | Keyword::Title
         | Keyword::Description => Form::Text,
-        Keyword::Defs | Keyword::Properties | Keyword::DependentSchemas => Form::SchemaMap,
+        Keyword::Defs | Keyword::Definitions | Keyword::Properties | Keyword::DependentSchemas =>
+            Form::SchemaMap,
         Keyword::PatternProperties => Form::PatternMap,
         Keyword::Pattern => Form::Pattern,
         Keyword::PrefixItems | Keyword::AllOf | Keyword::AnyOf | Keyword::OneOf => Form::Schemas,

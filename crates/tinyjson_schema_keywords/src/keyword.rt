@@ -10,6 +10,8 @@ pub enum Keyword {
     Id,
     Comment,
     Defs,
+    /// An older name of `$defs`, in the standard's meta-schema.
+    Definitions,
     Ref,
     Anchor,
     DynamicRef,
@@ -66,7 +68,7 @@ pub enum Keyword {
 }
 
 /// All keywords, in the order of their names' bytes.
-const KEYWORDS: [Keyword; 57] = [
+const KEYWORDS: [Keyword; 58] = [
     Keyword::Anchor,
     Keyword::Comment,
     Keyword::Defs,
@@ -85,6 +87,7 @@ const KEYWORDS: [Keyword; 57] = [
     Keyword::ContentMediaType,
     Keyword::ContentSchema,
     Keyword::Default,
+    Keyword::Definitions,
     Keyword::DependentRequired,
     Keyword::DependentSchemas,
     Keyword::Deprecated,
@@ -154,6 +157,7 @@ impl Keyword {
             Keyword::Id => "$id",
             Keyword::Comment => "$comment",
             Keyword::Defs => "$defs",
+            Keyword::Definitions => "definitions",
             Keyword::Ref => "$ref",
             Keyword::Anchor => "$anchor",
             Keyword::DynamicRef => "$dynamicRef",
