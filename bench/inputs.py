@@ -48,7 +48,7 @@ def array_of(items):
 
 
 def many(text, count):
-    """An array that has this text so many times."""
+    """An array that has this text `count` times."""
     return lambda _random: array_of([text] * count)
 
 
@@ -193,7 +193,7 @@ def equal_keys(random):
 
 
 def common_prefixes(random):
-    """Keys of which the first 40 characters say nothing."""
+    """Keys that share their first 40 characters."""
     keys = list(range(50_000))
     random.shuffle(keys)
     return {f"https://example.org/a/long/common/prefix/{key}": key for key in keys}
@@ -208,7 +208,7 @@ def one_string(random):
 
 
 def words_in(words, escaped=False):
-    """Strings of words of a script; with escapes each character that is not ASCII stands as `\\u` escapes."""
+    """Strings of words of a script; with escapes each character that is not ASCII is written as `\\u` escapes."""
     return lambda random: json.dumps([words_of(random, 8, words) for _ in range(20_000)], ensure_ascii=escaped)
 
 
@@ -223,7 +223,7 @@ def strings_of(pieces):
 
 
 def digits(length, count, before=""):
-    """Numbers of so many digits."""
+    """Numbers with this many digits."""
     return lambda random: array_of(before + "1" + "".join(random.choices("0123456789", k=length - 1)) for _ in range(count))
 
 
@@ -236,7 +236,7 @@ def exponents(random):
 
 
 def spaced(blank):
-    """A short array between whose tokens such white space stands."""
+    """A short array with this white space between its tokens."""
     return lambda _random: blank.join(["[", *["1", ","] * 20_000, "1", "]"])
 
 
@@ -253,7 +253,7 @@ def refused_late(random):
 
 
 def refused_after(blank):
-    """A text of white space at whose end a character stands that begins no value."""
+    """White space, and then a character that begins no value."""
     return lambda _random: blank * (3_000_000 // len(blank)) + "x"
 
 
@@ -301,7 +301,7 @@ CLASSES = [
     Input("digits, one", digits(1, 250_000)),
     Input("digits, 20", digits(20, 80_000)),
     Input("digits, 30", digits(30, 60_000)),
-    # The original crate makes an infinity of a whole number of so many digits, and can't write it.
+    # The original crate makes an infinity of a whole number with this many digits, and can't write it.
     Input("digits, 100,000", digits(100_000, 20, "0.")),
     Input("fractions", fractions),
     Input("exponents", exponents),
@@ -320,7 +320,7 @@ CLASSES = [
     Input("lines", lines, mode="lines"),
 ]
 
-# Records of about 1, 10 and 100 MB, and one object of so many members.
+# Records of about 1, 10 and 100 MB, and one object with this many members.
 GROWTH = [
     Input("records, 1 MB", lambda random: records(random, 4_350)),
     Input("records, 10 MB", lambda random: records(random, 43_500)),

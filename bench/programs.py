@@ -120,7 +120,7 @@ def found(name, folder):
 
 
 def built(name, work, folder, text, *words):
-    """A program of this repository: the folder's, or proved and built where it stands; the rest is for its first run."""
+    """A program of this repository: the folder's, or proved and built in its folder; the rest is for its first run."""
     if path := found(name, folder):
         return path
     crate = TOP / "crates" / name

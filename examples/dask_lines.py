@@ -15,7 +15,7 @@ from dask.distributed import Client, progress
 
 
 def normalise(block, folder, share):
-    """Writes the normal forms of a block of lines, and what is told of those that are refused, to two files."""
+    """Writes the normal forms of a block of lines, and the messages about those that are refused, to two files."""
     subprocess.run(["one-share", folder, str(share)], input=block, check=True)
 
 

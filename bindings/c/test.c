@@ -93,7 +93,7 @@ static uint8_t *guarded(size_t room) {
     return buffer;
 }
 
-/* Whether the bytes stand at the front of the buffer, and all behind them is as it was. */
+/* Whether the bytes are at the front of the buffer, and all after them is unchanged. */
 static bool is_filled(const uint8_t *buffer, size_t room, struct bytes expected, bool is_written) {
     size_t front = is_written ? expected.length : 0;
     for (size_t i = front; i < room + GUARD; i++) {

@@ -35,7 +35,7 @@ enum tinyjson_status {
 enum tinyjson_kind {
     TINYJSON_UNEXPECTED_EOF = 1,
     TINYJSON_INVALID_CHARACTER = 2,          /* character: begins no value */
-    TINYJSON_EXPECTED_EOF = 3,               /* character: stands after the value */
+    TINYJSON_EXPECTED_EOF = 3,               /* character: the one after the value */
     TINYJSON_KEY_NOT_STRING = 4,             /* `found` is a tinyjson_value */
     TINYJSON_EXPECTED_COLON = 5,             /* character */
     TINYJSON_EXPECTED_COMMA_OR_BRACE = 6,    /* character */

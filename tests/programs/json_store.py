@@ -1,4 +1,4 @@
-"""Rows of `json_store`: of each line how many equal values have come so far."""
+"""Rows of `json_store`: for each line, how often its value was counted so far."""
 
 from faults import BROKEN, FOLDER, FULL, Faults
 from padding import padded_lines, padded_rows
