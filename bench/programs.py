@@ -66,7 +66,7 @@ _, status, used = os.wait4(child, 0)
 print(status, used.ru_utime + used.ru_stime, used.ru_maxrss)
 """
 
-# Programs that are built for the bench alone, and the library that each is written over.
+# Programs that are built for the bench alone, and the library that each is written over. (`rt ci` refuses a `.rt` file here.)
 OWN = HERE / "own"
 OVER = {"chars": "tinyjson", "values": "tinyjson", "json": "json", "serde_json": "serde_json"}
 # Programs that write compact text alone.
@@ -152,7 +152,7 @@ def own(name, work, folder):
     crate = scratch / f"crates/bench_{name}"
     (crate / "src").mkdir(parents=True, exist_ok=True)
     quietly(["git", "init", "-q"], scratch)
-    shutil.copy2(OWN / f"{name}.rt", crate / "src/main.rt")
+    shutil.copy2(OWN / f"{name}.rt.txt", crate / "src/main.rt")
     lines = [f"bench_{name}: {OVER[name]}"]
     if OVER[name] in LIBRARIES:
         for library in LIBRARIES:
