@@ -19,7 +19,7 @@ first_by true x xs = refl
 first_by false x [] = refl
 first_by false x (y ∷ ys) = ap (onto_first x) (first_by (y == 10) y ys)
 
-first_line : (xs : List ℕ) → 0 < length (take_through 10 xs) → lines xs ≡ take_through 10 xs ∷ lines (drop_through 10 xs)
+pub first_line : (xs : List ℕ) → 0 < length (take_through 10 xs) → lines xs ≡ take_through 10 xs ∷ lines (drop_through 10 xs)
 first_line [] h = absurd (omega (arith, h))
 first_line (x ∷ xs) h = first_by (x == 10) x xs
 

@@ -1,1 +1,3 @@
 pub mod Callers
+pub mod Pieces
+pub mod Steps

@@ -5,11 +5,15 @@
 //! ```
 #![tactic(auto)]
 
+mod each;
 mod line;
 mod lines;
 mod refusal;
+mod within;
 
+pub use each::{LineHandler, for_each_line};
 pub use line::write_line;
 pub use lines::{content, read_line};
 pub use refusal::{Cause, Refusal};
 pub use tinyjson_output::write_all;
+pub use within::{LineRead, read_line_within};

@@ -1,0 +1,255 @@
+-- A line that is read in pieces.
+use Rattle.std.proofs.Common.{◌≡◌, ◌<◌, ◌≤◌, ◌≢◌, ◌==◌, ℕ, zero, suc, ◌+◌, ◌-◌, Bool, true, false, cond, not, List, [], ◌∷◌, ◌++◌, All, map}
+use Rattle.std.proofs.Common.{length, take, drop, get_or, Option, None, Some, IfSome, Result, Ok, Err, refl, sym, ap, ◌∙◌, subst, arith}
+use Rattle.std.proofs.Common.{append_assoc, append-nil, length-append, ne_eqb, eq-eqb, nat_lt, take-append-drop}
+use Rattle.std.proofs.BufReadLemmas.{drop_through-append, take_through-append}
+use Rattle.std.proofs.KnownBytes.{Consumes-nil, Consumes-trans, starts_with_rest}
+use Rattle.std.proofs.Math.Seq.{take-append_seam}
+use Rattle.std.proofs.lemmas.Bool.{eqb-true, false≢true, le-ltb, lt-ltb}
+use Rattle.std.proofs.lemmas.List.{get_or_push, length-take, length-take-le, take_all, take_more}
+use Rattle.std.proofs.lemmas.List.Elements.{All-append, All-cons, All-head, All-nil, All-tail}
+use Rattle.std.proofs.lemmas.List.Sums.{prefix_len_stops}
+use Rattle.std.specs.Io.BufRead.{take_through, drop_through, DropsThrough, ends_with_byte, strip_last}
+use Rattle.std.specs.Io.{StartsWith}
+use Rattle.std.specs.Io.KnownBytes.{Consumes, Keeps}
+use Rattle.std.specs.List.{prefix_len}
+use Rattle.tinyjson_bytes.specs.Scan.{is_in_line}
+use Rattle.tinyjson_lines.proofs.Callers.{first_line}
+use Rattle.tinyjson_lines.specs.Lines.{content, lines, onto_first, LinesRead, AllRead}
+use Rattle.tinyjson_lines.specs.Within.{given_line, given_lines, LinesGiven, AllGiven, ReadsWithin}
+use Rattle.tinyjson_lines.specs.declared.within.LineRead.{LineRead}
+use Rattle.tinyjson_lines.specs.declared.within.LineRead.TheVariants.{Whole, TooLong, End}
+use Rattle.tinyjson_lines.specs.private.Pieces.{IsPart, TakesPiece, end_read}
+
+abbrev IsInLine : ℕ → Type 0
+IsInLine x = x ≢ 10
+
+-- ---- lines that are read without a limit
+
+pub read_whole : (unread left : Option (List ℕ)) (line : List ℕ) → LinesRead unread left (line ∷ [])
+    → LinesGiven None unread left (Some line ∷ [])
+read_whole None left line h = tt
+read_whole (Some xs) None line h = absurd h
+read_whole (Some xs) (Some ys) line h = ap (map (given_line None)) h
+
+pub read_none : (max : Option ℕ) (unread left : Option (List ℕ)) → AllRead unread left [] → AllGiven max unread left []
+read_none max None left h = tt
+read_none max (Some xs) left h = (ap (map (given_line max)) h.0, h.1)
+
+-- ---- the line that a part without a line feed begins
+
+part_first : (part rest line : List ℕ) (more : List (List ℕ)) → All IsInLine part → lines rest ≡ line ∷ more
+    → lines (part ++ rest) ≡ (part ++ line) ∷ more
+part_first [] rest line more h e = e
+part_first (x ∷ xs) rest line more h e =
+    ap (λ b. cond b ((x ∷ []) ∷ lines (xs ++ rest)) (onto_first x (lines (xs ++ rest)))) (ne_eqb x 10 (All-head IsInLine x xs h))
+    ∙ ap (onto_first x) (part_first xs rest line more (All-tail IsInLine x xs h) e)
+
+part_alone : (x : ℕ) (xs : List ℕ) → All IsInLine (x ∷ xs) → lines (x ∷ xs) ≡ (x ∷ xs) ∷ []
+part_alone x [] h =
+    ap (λ b. cond b ((x ∷ []) ∷ []) ((x ∷ []) ∷ [])) (ne_eqb x 10 (All-head IsInLine x [] h))
+part_alone x (y ∷ ys) h =
+    ap (λ b. cond b ((x ∷ []) ∷ lines (y ∷ ys)) (onto_first x (lines (y ∷ ys)))) (ne_eqb x 10 (All-head IsInLine x (y ∷ ys) h))
+    ∙ ap (onto_first x) (part_alone y ys (All-tail IsInLine x (y ∷ ys) h))
+
+-- ---- the length of a line without its line feed
+
+content_by : (b : Bool) (line : List ℕ) → (length (cond b (take (length line - 1) line) line) ≤ length line)
+    × (length line ≤ length (cond b (take (length line - 1) line) line) + 1)
+content_by true line =
+    let least : length line - 1 ≤ length line = omega arith in
+    let is : length (take (length line - 1) line) ≡ length line - 1 = length-take-le (length line - 1) line least in
+    (omega (arith, is), omega (arith, is))
+content_by false line = (omega arith, omega arith)
+
+content_most : (line : List ℕ) → length (content line) ≤ length line
+content_most line = (content_by (ends_with_byte 10 line) line).0
+
+content_least : (line : List ℕ) → length line ≤ length (content line) + 1
+content_least line = (content_by (ends_with_byte 10 line) line).1
+
+-- a line feed at the end does not count
+content_ended : (part : List ℕ) → content (part ++ 10 ∷ []) ≡ part
+content_ended part =
+    let line : List ℕ = part ++ 10 ∷ [] in
+    let one : length line ≡ length part + 1 = length-append part (10 ∷ []) in
+    let some : nat_lt 0 (length line) ≡ true = lt-ltb 0 (length line) (omega (arith, one)) in
+    let before : length part ≡ length line - 1 = omega (arith, one) in
+    let last : (get_or line (length line - 1) 0 == 10) ≡ true = eq-eqb _ 10 (get_or_push part 10 0 (length line - 1) before) in
+    let is : ends_with_byte 10 line ≡ true = rw (some, last) refl in
+    ap (λ b. cond b (take (length line - 1) line) line) is ∙ ap (λ n. take n line) (sym before) ∙ take-append_seam part (10 ∷ [])
+
+-- a part without a line feed counts whole
+content_part : (part : List ℕ) → All IsInLine part → content part ≡ part
+content_part [] h = refl
+content_part (x ∷ xs) h =
+    let part : List ℕ = x ∷ xs in
+    let last : (get_or part (length part - 1) 0 == 10) ≡ false = ne_eqb _ 10 (h (length part - 1) 0 (omega arith)) in
+    let some : nat_lt 0 (length part) ≡ true = lt-ltb 0 (length part) (omega arith) in
+    let is : ends_with_byte 10 part ≡ false = rw (some, last) refl in
+    ap (λ b. cond b (take (length part - 1) part) part) is
+
+-- what is given of a line
+within_given : (max : ℕ) (line : List ℕ) → length (content line) ≤ max → given_line (Some max) line ≡ Some line
+within_given max line h = ap (λ b. cond b None (Some line)) (le-ltb max (length (content line)) h)
+
+long_given : (max : ℕ) (line : List ℕ) → max < length (content line) → given_line (Some max) line ≡ None
+long_given max line h = ap (λ b. cond b None (Some line)) (lt-ltb max (length (content line)) h)
+
+-- ---- pieces
+
+pub part_begins : (max : ℕ) (unread : Option (List ℕ)) (line : List ℕ) → line ≡ [] → IsPart max unread unread line
+part_begins max unread line e = record {
+  taken = subst (Consumes unread unread) (sym e) (Consumes-nil unread);
+  unended = subst (All IsInLine) (sym e) (All-nil IsInLine);
+  within = omega (arith, ap length e);
+}
+
+-- the reader shows nothing
+pub none_shown : (left : Option (List ℕ)) (n : ℕ) → n ≡ 0 → IfSome left (λ xs. n ≡ 0 → xs ≡ []) → IfSome left (λ xs. xs ≡ [])
+none_shown None n e h = tt
+none_shown (Some xs) n e h = h e
+
+-- the input is at its end
+at_end : (max : ℕ) (unread left after : Option (List ℕ)) → IfSome left (λ xs. xs ≡ []) → Keeps left after → Consumes unread left []
+    → AllGiven (Some max) unread after []
+at_end max None left after none kept taken = tt
+at_end max (Some u) None after none kept taken = absurd taken
+at_end max (Some u) (Some l) None none kept taken = absurd kept
+at_end max (Some u) (Some l) (Some a) none kept taken = (ap (given_lines (Some max)) (taken ∙ none), ap Some (kept ∙ none))
+
+last_line : (max : ℕ) (unread left after : Option (List ℕ)) (x : ℕ) (xs : List ℕ) → IfSome left (λ l. l ≡ []) → Keeps left after
+    → Consumes unread left (x ∷ xs) → All IsInLine (x ∷ xs) → length (x ∷ xs) ≤ max
+    → LinesGiven (Some max) unread after (Some (x ∷ xs) ∷ [])
+last_line max None left after x xs none kept taken h w = tt
+last_line max (Some u) None after x xs none kept taken h w = absurd taken
+last_line max (Some u) (Some l) None x xs none kept taken h w = absurd kept
+last_line max (Some u) (Some l) (Some a) x xs none kept taken h w =
+    let part : List ℕ = x ∷ xs in
+    let whole : u ≡ part = taken ∙ ap (λ q. part ++ q) none ∙ append-nil part in
+    ap (given_lines (Some max)) whole
+    ∙ (ap (map (given_line (Some max))) (part_alone x xs h)
+    ∙ (ap (λ o. o ∷ []) (within_given max part (omega (arith, content_most part, w)))
+    ∙ ap (λ q. Some part ∷ given_lines (Some max) q) (sym (kept ∙ none))))
+
+pub part_ends : (max : ℕ) (unread left after : Option (List ℕ)) (part slice : List ℕ) (r : LineRead) → r ≡ end_read slice → slice ≡ part
+    → IfSome left (λ xs. xs ≡ []) → Keeps left after → IsPart max unread left part → ReadsWithin (Some max) unread after part (Ok r)
+part_ends max unread left after [] slice r is same none kept p =
+    subst (λ q. ReadsWithin (Some max) unread after [] (Ok q)) (sym (is ∙ ap end_read same)) (at_end max unread left after none kept p.taken)
+part_ends max unread left after (x ∷ xs) slice r is same none kept p =
+    subst (λ q. ReadsWithin (Some max) unread after (x ∷ xs) (Ok q)) (sym (is ∙ ap end_read same))
+    (last_line max unread left after x xs none kept p.taken p.unended p.within)
+
+-- what comes before the first line feed
+in_line_head : (x : ℕ) → is_in_line x ≡ true → IsInLine x
+in_line_head x h e = false≢true (sym (ap not (eq-eqb x 10 e)) ∙ h)
+
+in_line_front : (xs : List ℕ) → All IsInLine (take (prefix_len is_in_line xs) xs)
+in_line_front [] = All-nil IsInLine
+in_line_front (x ∷ xs) = by (is_in_line x) refl (in_line_front xs)
+  where
+    by : (b : Bool) → is_in_line x ≡ b → All IsInLine (take (prefix_len is_in_line xs) xs)
+        → All IsInLine (take (cond b (1 + prefix_len is_in_line xs) 0) (x ∷ xs))
+    by true is more =
+        let m : 1 + prefix_len is_in_line xs ≡ suc (prefix_len is_in_line xs) = omega arith in
+        subst (λ n. All IsInLine (take n (x ∷ xs))) (sym m) (All-cons IsInLine x _ (in_line_head x is) more)
+    by false is more = All-nil IsInLine
+
+shown_front : (n : ℕ) (shown : List ℕ) → n ≡ prefix_len is_in_line shown → All IsInLine (take n shown)
+shown_front n shown e = subst (λ m. All IsInLine (take m shown)) (sym e) (in_line_front shown)
+
+not_false : (b : Bool) → not b ≡ false → b ≡ true
+not_false true h = refl
+not_false false h = sym h
+
+shown_feed : (n : ℕ) (shown : List ℕ) → n ≡ prefix_len is_in_line shown → n < length shown → get_or shown n 0 ≡ 10
+shown_feed n shown e within =
+    let low : prefix_len is_in_line shown < length shown = subst (λ m. m < length shown) e within in
+    let at : not (get_or shown (prefix_len is_in_line shown) 0 == 10) ≡ false = prefix_len_stops is_in_line shown 0 low in
+    ap (λ m. get_or shown m 0) e ∙ eqb-true _ 10 (not_false _ at)
+
+-- the rest of the line is shown
+pub whole_line : (max n : ℕ) (unread left after : Option (List ℕ)) (part shown line : List ℕ) → n ≡ prefix_len is_in_line shown
+    → n < length shown → length part + n ≤ max → line ≡ part ++ take (n + 1) shown → Consumes left after (take (n + 1) shown)
+    → IsPart max unread left part → LinesGiven (Some max) unread after (Some line ∷ [])
+whole_line max n None left after part shown line e low w is taken p = tt
+whole_line max n (Some u) None after part shown line e low w is taken p = absurd p.taken
+whole_line max n (Some u) (Some l) None part shown line e low w is taken p = absurd taken
+whole_line max n (Some u) (Some l) (Some a) part shown line e low w is taken p =
+    let q : List ℕ = take n shown in
+    let all : List ℕ = part ++ q in
+    let piece : take (n + 1) shown ≡ q ++ 10 ∷ []
+    = take_more shown n 0 low ∙ ap (λ b. q ++ b ∷ []) (shown_feed n shown e low) in
+    let whole : line ≡ all ++ 10 ∷ [] = is ∙ ap (λ t. part ++ t) piece ∙ sym (append_assoc part q (10 ∷ [])) in
+    let given : u ≡ all ++ 10 ∷ a =
+    p.taken ∙ ap (λ t. part ++ t) (taken ∙ (ap (λ t. t ++ a) piece ∙ append_assoc q (10 ∷ []) a)) ∙ sym (append_assoc part q (10 ∷ a)) in
+    let unended : All IsInLine all = All-append IsInLine part q p.unended (shown_front n shown e) in
+    let few : length q ≡ n = length-take-le n shown (omega (arith, low)) in
+    let short : length (content (all ++ 10 ∷ [])) ≤ max =
+    subst (λ t. length t ≤ max) (sym (content_ended all)) (omega (arith, length-append part q, few, w)) in
+    ap (given_lines (Some max)) given
+    ∙ (ap (map (given_line (Some max))) (part_first all (10 ∷ a) (10 ∷ []) (lines a) unended refl)
+    ∙ (ap (λ o. o ∷ given_lines (Some max) a) (within_given max (all ++ 10 ∷ []) short)
+    ∙ ap (λ t. Some t ∷ given_lines (Some max) a) (sym whole)))
+
+-- more of the line may follow
+pub more_part : (max n : ℕ) (unread left after : Option (List ℕ)) (part shown line : List ℕ) → n ≡ prefix_len is_in_line shown
+    → n ≤ length shown → length shown ≤ n → length part + n ≤ max → line ≡ part ++ shown → Consumes left after (take n shown)
+    → IsPart max unread left part → IsPart max unread after line
+more_part max n unread left after part shown line e most all w is taken p =
+    let n_is : n ≡ length shown = omega (arith, most, all) in
+    let same : take n shown ≡ shown = take_all n shown (omega (arith, n_is)) in
+    record {
+      taken = subst (Consumes unread after) (sym is)
+          (Consumes-trans unread left after part shown p.taken (subst (Consumes left after) same taken));
+      unended = subst (All IsInLine) (sym is)
+          (All-append IsInLine part shown p.unended (subst (All IsInLine) same (shown_front n shown e)));
+      within = omega (arith, w, n_is, ap length is, length-append part shown);
+    }
+
+some_taken : (y : ℕ) (ys : List ℕ) → 0 < length (take_through 10 (y ∷ ys))
+some_taken y ys = by (y == 10)
+  where
+    by : (b : Bool) → 0 < length (cond b (y ∷ []) (y ∷ take_through 10 ys))
+    by true = omega arith
+    by false = omega arith
+
+long_lines : (max : ℕ) (part rest : List ℕ) → All IsInLine part → max < length part
+    → given_lines (Some max) (part ++ rest) ≡ None ∷ given_lines (Some max) (drop_through 10 rest)
+long_lines max [] rest h w = absurd (omega (arith, w))
+long_lines max (x ∷ xs) [] h w =
+    let part : List ℕ = x ∷ xs in
+    ap (given_lines (Some max)) (append-nil part)
+    ∙ (ap (map (given_line (Some max))) (part_alone x xs h)
+    ∙ ap (λ o. o ∷ []) (long_given max part (subst (λ t. max < length t) (sym (content_part part h)) w)))
+long_lines max (x ∷ xs) (y ∷ ys) h w =
+    let part : List ℕ = x ∷ xs in
+    let taken : List ℕ = take_through 10 (y ∷ ys) in
+    let rest : List ℕ = drop_through 10 (y ∷ ys) in
+    let long : max < length (content (part ++ taken)) =
+    omega (arith, w, content_least (part ++ taken), length-append part taken, some_taken y ys) in
+    ap (map (given_line (Some max))) (part_first part (y ∷ ys) taken (lines rest) h (first_line (y ∷ ys) (some_taken y ys)))
+    ∙ ap (λ o. o ∷ given_lines (Some max) rest) (long_given max (part ++ taken) long)
+
+-- the line is too long, and passed over
+pub too_long : (max n : ℕ) (unread left mid after : Option (List ℕ)) (part shown : List ℕ) → n ≡ prefix_len is_in_line shown
+    → n ≤ length shown → max < length part + n → IfSome left (λ xs. StartsWith xs shown) → Keeps left mid → DropsThrough mid after 10
+    → IsPart max unread left part → LinesGiven (Some max) unread after (None ∷ [])
+too_long max n None left mid after part shown e most w front kept drops p = tt
+too_long max n (Some u) None mid after part shown e most w front kept drops p = absurd p.taken
+too_long max n (Some u) (Some l) None after part shown e most w front kept drops p = absurd kept
+too_long max n (Some u) (Some l) (Some m) after part shown e most w front kept drops p =
+    let q : List ℕ = take n shown in
+    let all : List ℕ = part ++ q in
+    let rest : List ℕ = drop n shown ++ drop (length shown) l in
+    let left_is : l ≡ q ++ rest =
+    starts_with_rest l shown front ∙ ap (λ t. t ++ drop (length shown) l) (sym (take-append-drop n shown))
+    ∙ append_assoc q (drop n shown) (drop (length shown) l) in
+    let given : u ≡ all ++ rest = p.taken ∙ ap (λ t. part ++ t) left_is ∙ sym (append_assoc part q rest) in
+    let unended : All IsInLine q = shown_front n shown e in
+    let few : length q ≡ n = length-take-le n shown most in
+    let long : max < length all = omega (arith, length-append part q, few, w) in
+    let dropped : after ≡ Some (drop_through 10 rest) =
+    drops ∙ ap (λ t. Some (drop_through 10 t)) (kept ∙ left_is) ∙ ap Some (drop_through-append 10 q rest unended) in
+    subst (λ o. LinesGiven (Some max) (Some u) o (None ∷ [])) (sym dropped)
+    (ap (given_lines (Some max)) given ∙ long_lines max all rest (All-append IsInLine part q p.unended unended) long)

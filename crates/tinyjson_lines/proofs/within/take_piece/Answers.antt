@@ -1,0 +1,55 @@
+use Rattle.std.proofs.Common.{◌≡◌, ◌+◌, ◌<◌, ◌≤◌, length, subst, sym, ◌∙◌, arith}
+use Rattle.std.specs.Io.BufRead.{FillKeeps}
+use Rattle.std.proofs.BufReadLemmas.{Consumes_shown}
+use Rattle.std.proofs.lemmas.Bool.{eqb-true}
+use Rattle.tinyjson_lines.proofs.Pieces.{more_part, none_shown, part_ends, too_long, whole_line}
+use Rattle.tinyjson_lines.proofs.within.take_piece.Goals as goal
+
+pub returns-then-is_empty-clause-reads : goal.returns-then-is_empty-clause-reads
+returns-then-is_empty-clause-reads g c = λ unread p.
+    let shown = c.in-Ok.available.now in
+    let none : length shown ≡ 0 = eqb-true _ 0 (sym c.is_empty.ensures ∙ c.if-is_empty.true) in
+    let rested = c.fill_buf.follows.lender-at-none in
+    let filled = subst (FillKeeps _ (g.R.Read.remaining rested) (g.R.BufRead.consumable_len rested)) c.in-Ok.is
+    c.fill_buf.follows.holds-at-none in
+    part_ends c.args.max unread _ _ c.args.line.now.items c.as_slice.result.now _ c.end_read.ensures c.as_slice.ensures.value
+    (none_shown _ (length shown) none c.in-Ok.ensures.end) filled.0 p
+
+pub returns-then-end-saturating_sub-clause-reads : goal.returns-then-end-saturating_sub-clause-reads
+returns-then-end-saturating_sub-clause-reads g c = λ unread p.
+    let shown = c.in-Ok.available.now in
+    let end = c.line_end-end in
+    let rested = c.fill_buf.follows.lender-at-none in
+    let filled = subst (FillKeeps _ (g.R.Read.remaining rested) (g.R.BufRead.consumable_len rested)) c.in-Ok.is
+    c.fill_buf.follows.holds-at-none in
+    too_long c.args.max end.result unread _ _ _ c.args.line.now.items shown end.ensures.end end.ensures.within
+    (omega (arith, c.if-end-saturating_sub.true, c.saturating_sub.ensures, c.len.ensures)) c.in-Ok.ensures.front filled.0
+    c.in_ok-skip_until.ensures.rest p
+
+pub returns-then-end-available-clause-reads : goal.returns-then-end-available-clause-reads
+returns-then-end-available-clause-reads g c = λ unread p.
+    let shown = c.in-Ok.available.now in
+    let end = c.line_end-end in
+    let within : end.result < length shown = c.if-end-available.true in
+    let rested = c.fill_buf.follows.lender-at-none in
+    let filled = subst (FillKeeps _ (g.R.Read.remaining rested) (g.R.BufRead.consumable_len rested)) c.in-Ok.is
+    c.fill_buf.follows.holds-at-none in
+    let taken = Consumes_shown _ _ _ _ shown (end.result + 1) (omega (arith, within)) c.in-Ok.ensures.front c.in-Ok.ensures.end
+    filled.0 filled.1 c.consume.ensures.bytes in
+    whole_line c.args.max end.result unread _ _ c.args.line.now.items shown _ end.ensures.end within
+    (omega (arith, c.if-end-saturating_sub.false, c.saturating_sub.ensures, c.len.ensures, p.within))
+    c.in_ok-extend_from_slice.ensures.items taken.0 p
+
+pub returns-clause-reads : goal.returns-clause-reads
+returns-clause-reads g c = λ unread p.
+    let shown = c.in-Ok.available.now in
+    let end = c.line_end-end in
+    let rested = c.fill_buf.follows.lender-at-none in
+    let filled = subst (FillKeeps _ (g.R.Read.remaining rested) (g.R.BufRead.consumable_len rested)) c.in-Ok.is
+    c.fill_buf.follows.holds-at-none in
+    let taken = Consumes_shown _ _ _ _ shown end.result end.ensures.within c.in-Ok.ensures.front c.in-Ok.ensures.end
+    filled.0 filled.1 c.consume-2.ensures.bytes in
+    more_part c.args.max end.result unread _ _ c.args.line.now.items shown _ end.ensures.end end.ensures.within
+    c.if-end-available.false
+    (omega (arith, c.if-end-saturating_sub.false, c.saturating_sub.ensures, c.len.ensures, p.within))
+    c.in_ok-extend_from_slice-2.ensures.items taken.0 p

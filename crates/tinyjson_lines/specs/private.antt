@@ -1,0 +1,2 @@
+-- What only private contracts cite.
+pub mod Pieces
