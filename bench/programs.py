@@ -155,9 +155,11 @@ def own(name, work, folder):
     shutil.copy2(OWN / f"{name}.rt.txt", crate / "src/main.rt")
     lines = [f"bench_{name}: {OVER[name]}"]
     if OVER[name] in LIBRARIES:
+        # what is proved of the libraries is copied with them
+        checkout = folder if folder and (folder / "crates.txt").is_file() else TOP
         for library in LIBRARIES:
-            quietly(["cp", "-a", "--reflink=auto", "-u", TOP / "crates" / library, scratch / "crates"], scratch)
-        lines += [line for line in (TOP / "crates.txt").read_text().splitlines() if line.split(":")[0] in LIBRARIES]
+            quietly(["cp", "-a", "--reflink=auto", "-u", checkout / "crates" / library, scratch / "crates"], scratch)
+        lines += [line for line in (checkout / "crates.txt").read_text().splitlines() if line.split(":")[0] in LIBRARIES]
     (scratch / "crates.txt").write_text("\n".join(lines) + "\n")
     quietly(["rt", "run"], crate, "null")
     return {"text": [str(shutil.copy2(crate / f"out/bench_{name}", work / name))]}
