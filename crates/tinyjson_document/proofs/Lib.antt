@@ -25,3 +25,5 @@ pub mod Finding
 pub mod Values
 -- For proofs of callers.
 pub mod Callers
+-- What a comparison has still to find the same.
+pub mod Comparing

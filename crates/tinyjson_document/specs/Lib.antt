@@ -1,5 +1,6 @@
 -- What public contracts say of documents, and the parts of a tree.
 pub mod Document
+pub mod Equality
 pub mod Parts
 -- Which tree a cell stands for, and that there is at most one.
 pub mod Cell
@@ -10,3 +11,5 @@ pub mod Holding
 pub mod Order
 -- What a walk writes.
 pub mod Walking
+-- What a comparison has still to find the same.
+pub mod Comparing

@@ -7,6 +7,7 @@ pub mod append;
 #[doc(hidden)]
 pub mod arena;
 pub mod document;
+mod equality;
 pub mod iterators;
 pub mod node;
 #[doc(hidden)]

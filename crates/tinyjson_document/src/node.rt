@@ -2,10 +2,11 @@
 ghost use Rattle.tinyjson_document.specs.Known.{Known, Known_prop};
 
 use crate::document::Document;
+use crate::equality::equals;
 use crate::iterators::{Items, Members};
 use crate::sorting::find;
 use crate::store::{Cell, Span, part, text_at};
-use tinyjson::{JsonKind, JsonNumber};
+use tinyjson::{JsonKind, JsonNumber, JsonValue};
 
 /// A value in a document. It is a reference and an index, so it is copied freely.
 ///
@@ -29,7 +30,9 @@ impl<'d> Node<'d> {
     ghost use Rattle.std.specs.Str.{chars};
     ghost use Rattle.tinyjson.specs.Access.{is_array, is_boolean, is_null, is_number, is_object};
     ghost use Rattle.tinyjson.specs.Access.{is_string};
+    ghost use Rattle.tinyjson.specs.Equality.{tree_eq};
     ghost use Rattle.tinyjson.specs.Index.{tree_at, tree_at_key};
+    ghost use Rattle.tinyjson.specs.View.{view};
     ghost use Rattle.tinyjson_grammar.specs.Kind.{kind_of};
     ghost use Rattle.tinyjson_document.specs.Document.{tree, items_left, members_left};
     ghost use Rattle.tinyjson_document.specs.Parts.{boolean_in, number_in, string_in, size};
@@ -225,4 +228,47 @@ impl<'d> Node<'d> {
             rest: part(&self.document.store.members, span),
         }
     }
+
+    /// Whether a value is equal to it, as [`Node::eq`] compares two nodes.
+    ///
+    /// ```
+    /// let document = Document::read(alloc, r#"{"a": [1.50]}"#)?;
+    /// let value = JsonValue::from_str(alloc, r#"{"a":[1.5]}"#)?;
+    /// assert!(rt; document.root().equals_value(&value));
+    /// ```
+    pub fn equals_value(&self, value: &JsonValue) -> bool
+        ensures { result ≡ tree_eq (tree self.now) (view value.now) }
+    {
+        equals(*self, value)
+    }
+}
+
+/// Two nodes are equal if their trees are: arrays item by item, objects with the same keys and equal members at
+/// each. Of one document or of two.
+///
+/// The comparison takes no memory up to 64 nested containers. What is nested deeper is compared by a loop, whose
+/// stack is on the heap, and by a recursion where memory for that is refused.
+///
+/// ```
+/// let one = Document::read(alloc, r#"{"a": 1, "b": [2]}"#)?;
+/// let other = Document::read(alloc, r#"{"b": [2.0], "a": 1}"#)?;
+/// assert!(rt; one.root() == other.root());
+/// ```
+impl<'d> PartialEq for Node<'d> {
+    ghost use Rattle.std.specs.Cmp.{partial_equiv_from_equiv};
+    ghost use Rattle.tinyjson_document.specs.Equality.{same_tree, same_tree_equiv};
+
+    ghost eq = { same_tree };
+
+    ghost laws = { partial_equiv_from_equiv same_tree_equiv };
+
+    fn eq(&self, other: &Node<'d>) -> bool {
+        equals(*self, *other)
+    }
+}
+
+impl<'d> Eq for Node<'d> {
+    ghost use Rattle.tinyjson_document.specs.Equality.{same_tree_equiv};
+
+    ghost laws = { same_tree_equiv };
 }
