@@ -3,7 +3,8 @@ use Rattle.std.proofs.Common.{Result, Ok, Err, IfOk, None, Some, ◌≡◌, ◌�
 use Rattle.std.proofs.Common.{◌⊎◌, inl, inr, refl, sym, ap, ◌∙◌, subst, arith, append_assoc, append-nil, length-append, Option}
 use Rattle.i_regexp.specs.Forms.{Form, empty, concat, alternation, repetition, Matches, Parts, AtMost}
 use Rattle.i_regexp.specs.Marked.{form_of, ends_here, IsKept}
-use Rattle.i_regexp.specs.Building.{Means, IsCopy, AllMean, sequence, choice, choice_from, TakesSequence, TakesChoice}
+use Rattle.i_regexp.specs.Building.{Same, Means, IsCopy, AllMean, sequence, choice, choice_from, TakesSequence}
+use Rattle.i_regexp.specs.Building.{TakesChoice}
 use Rattle.i_regexp.specs.declared.marked.Node.{Node}
 use Rattle.i_regexp.specs.declared.marked.Node.TheVariants.{Empty}
 
@@ -14,10 +15,6 @@ ok_as (Ok x) P Q h k = k x h
 ok_as (Err e) P Q h k = tt
 
 -- ---- two regular expressions that match the same
-
-pub record Same (f g : Form) : Type 0 where
-  pub to : (cs : List ℕ) → Matches f cs → Matches g cs
-  pub from : (cs : List ℕ) → Matches g cs → Matches f cs
 
 pub means_as : (n : Node) (f g : Form) → Means n f → Same f g → Means n g
 means_as n f g m s = record {
@@ -44,6 +41,17 @@ means_same n f m = record { to = m.sound; from = m.complete }
 
 pub means_empty : Means Empty empty
 means_empty = record { kept = tt; fresh = refl; sound = λ cs h. h; complete = λ cs h. h }
+
+pub means_up_to : (n : Node) (f g : Form) (most : ℕ) → Same f g → form_of n ≡ repetition f 0 (Some most) → IsKept n → ends_here n ≡ false
+    → Means n (repetition g 0 (Some most))
+means_up_to n f g most same e k fresh =
+    let s = repetition_same f g 0 (Some most) same in
+    record {
+      kept = k;
+      fresh = fresh;
+      sound = λ cs h. s.to cs (subst (λ x. Matches x cs) e h);
+      complete = λ cs h. subst (λ x. Matches x cs) (sym e) (s.from cs h);
+    }
 
 pub means_star : (b n : Node) (f : Form) → Means b f → form_of n ≡ repetition (form_of b) 0 None → IsKept n → ends_here n ≡ false
     → Means n (repetition f 0 None)
@@ -328,6 +336,27 @@ between_same least most f l = record {
       (options_from (most - least) (n - least) f r.1 (omega arith) r.4);
 }
 
+-- so many, and then up to so many more
+pub then_up_to_same : (least most : ℕ) (f : Form) → least ≤ most
+    → Same (sequence (times least f (repetition f 0 (Some (most - least)) ∷ []))) (repetition f least (Some most))
+then_up_to_same least most f l = record {
+  to = λ cs h.
+      let r = times_to least f (repetition f 0 (Some (most - least)) ∷ []) cs h in
+      let s = r.4 in
+      let few : s.3.0 ≤ most - least = s.3.2 in
+      let tail : Parts (Matches f) s.3.0 r.1 = subst (Parts (Matches f) s.3.0)
+      (sym (s.2 ∙ (ap (λ zs. s.0 ++ zs) s.4 ∙ append-nil s.0))) s.3.3 in
+      (least + s.3.0, omega arith, omega arith, parts_append (Matches f) least s.3.0 cs r.0 r.1 r.2 r.3 tail);
+  from = λ cs h.
+      let n = h.0 in
+      let low : least ≤ n = h.1 in
+      let high : n ≤ most = h.2 in
+      let sum : n ≡ least + (n - least) = omega arith in
+      let r = parts_split (Matches f) least (n - least) cs (subst (λ i. Parts (Matches f) i cs) sum h.3) in
+      times_from least f (repetition f 0 (Some (most - least)) ∷ []) cs r.0 r.1 r.2 r.3
+      (r.1, [], sym (append-nil r.1), (n - least, omega arith, omega arith, r.4), refl);
+}
+
 -- ---- all of a list
 
 nothing_left : (ns taken new : List Node) → ns ≡ new ++ taken → length taken ≡ length ns → ns ≡ taken
@@ -360,6 +389,18 @@ repeat_least n i least most f e none m =
     let counted : Means n (sequence (times least f (repetition f 0 None ∷ []))) = subst
     (λ j. Means n (sequence (times j f (repetition f 0 None ∷ [])))) e all in
     subst (λ o. Means n (repetition f least o)) (sym none) (means_as n _ _ counted (at_least_same least f))
+
+pub repeat_up_to : (n : Node) (i k least top : ℕ) (most : Option ℕ) (f : Form) → i ≡ least → k ≡ top - least → most ≡ Some top
+    → AtMost least most → Means n (sequence (times i f [] ++ repetition f 0 (Some k) ∷ [])) → Means n (repetition f least most)
+repeat_up_to n i k least top most f ei ek some l m =
+    let all : Means n (sequence (times i f (repetition f 0 (Some k) ∷ []))) = subst (λ gs. Means n (sequence gs))
+    (times_more i f (repetition f 0 (Some k) ∷ [])) m in
+    let counted : Means n (sequence (times least f (repetition f 0 (Some k) ∷ []))) = subst
+    (λ j. Means n (sequence (times j f (repetition f 0 (Some k) ∷ [])))) ei all in
+    let fits : Means n (sequence (times least f (repetition f 0 (Some (top - least)) ∷ []))) = subst
+    (λ j. Means n (sequence (times least f (repetition f 0 (Some j) ∷ [])))) ek counted in
+    let low : least ≤ top = subst (AtMost least) some l in
+    subst (λ o. Means n (repetition f least o)) (sym some) (means_as n _ _ fits (then_up_to_same least top f low))
 
 pub repeat_between : (n : Node) (k least top : ℕ) (most : Option ℕ) (f : Form) → k ≡ top - least → most ≡ Some top → AtMost least most
     → Means n (sequence (times least f [] ++ times k (repetition f 0 (Some 1)) [])) → Means n (repetition f least most)

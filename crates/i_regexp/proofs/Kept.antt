@@ -3,7 +3,7 @@ use Rattle.std.proofs.Common.{◌≡◌, Bool, true, false, ◌||◌, not, refl,
 use Rattle.std.proofs.lemmas.Bool.{and_parts, and_from}
 use Rattle.i_regexp.specs.Marked.{skips, ends_here, is_marked, IsKept, is_kept, same_bool}
 use Rattle.i_regexp.specs.declared.marked.Node.{Node}
-use Rattle.i_regexp.specs.declared.marked.Node.TheVariants.{Empty, Class, Concat', Alternation', Star'}
+use Rattle.i_regexp.specs.declared.marked.Node.TheVariants.{Empty, Class, Concat', Alternation', Star', UpTo}
 
 same_true : (a b : Bool) → same_bool a b ≡ true → a ≡ b
 same_true true b h = sym h
@@ -33,6 +33,7 @@ kept_from (Concat' p l q r le re ends m) h =
 kept_from (Alternation' p l q r) h = let d = and_parts (is_kept l) (is_kept r) h in (kept_from l d.0, kept_from r d.1)
 kept_from (Star' p b ends) h = let d = and_parts (same_bool ends (ends_here b)) (is_kept b) h in
     (same_true ends (ends_here b) d.0, kept_from b d.1)
+kept_from (UpTo cl most left) h = h
 
 pub kept_to : (n : Node) → IsKept n → is_kept n ≡ true
 kept_to Empty k = refl
@@ -45,3 +46,4 @@ kept_to (Concat' p l q r le re ends m) k =
     (and_from (is_kept r) _ (kept_to r k.4) (same_from m (is_marked l || is_marked r) k.5)))))
 kept_to (Alternation' p l q r) k = and_from (is_kept l) (is_kept r) (kept_to l k.0) (kept_to r k.1)
 kept_to (Star' p b ends) k = and_from (same_bool ends (ends_here b)) (is_kept b) (same_from ends (ends_here b) k.0) (kept_to b k.1)
+kept_to (UpTo cl most left) k = k

@@ -1,11 +1,14 @@
 -- The marks of a tree stand for what may come next.
 use Rattle.std.proofs.Common.{◌≡◌, ℕ, zero, suc, ◌≤◌, Bool, true, false, ◌&&◌, ◌||◌, List, [], ◌∷◌, ◌++◌, None, ◌⊎◌, inl, inr}
-use Rattle.std.proofs.Common.{refl, sym, ap, ◌∙◌, subst, arith, true≢false}
-use Rattle.std.proofs.lemmas.Bool.{and_parts, and_from, or_cases, or_parts, or_from, or_left, or_right}
-use Rattle.i_regexp.specs.Forms.{repetition, is_in_class, Matches, Parts}
-use Rattle.i_regexp.specs.Marked.{form_of, skips, ends_here, is_marked, IsKept, Continues, shifted}
+use Rattle.std.proofs.Common.{length, cond, Option, Some, is_some, refl, sym, ap, ◌∙◌, subst, arith, true≢false}
+use Rattle.std.proofs.lemmas.Bool.{and_parts, and_from, or_cases, or_parts, or_from, or_left, or_right, le-leb, leb-true}
+use Rattle.i_regexp.specs.Forms.{class, repetition, is_in_class, Matches, Parts}
+use Rattle.i_regexp.specs.Marked.{form_of, skips, ends_here, is_marked, IsKept, Continues, shifted, has_none, is_each, is_any, is_settled}
+use Rattle.i_regexp.specs.Marked.{is_within, less_one, fewer}
+use Rattle.i_regexp.specs.declared.class.Class.{Class as ClassOf}
+use Rattle.i_regexp.specs.declared.class.Item.{Item}
 use Rattle.i_regexp.specs.declared.marked.Node.{Node}
-use Rattle.i_regexp.specs.declared.marked.Node.TheVariants.{Empty, Class, Concat', Alternation', Star'}
+use Rattle.i_regexp.specs.declared.marked.Node.TheVariants.{Empty, Class, Concat', Alternation', Star', UpTo}
 
 -- ---- nothing is nothing twice
 
@@ -28,6 +31,7 @@ skips_sound (Concat' p l q r le re ends m) h =
 skips_sound (Alternation' p l q r) h =
     elim (or_cases (skips l) (skips r) h) [ inl a ↦ inl (skips_sound l a) | inr b ↦ inr (skips_sound r b) ]
 skips_sound (Star' p b ends) h = (0, omega arith, tt, refl)
+skips_sound (UpTo cl most left) h = (0, omega arith, omega arith, refl)
 
 pub skips_complete : (n : Node) → Matches (form_of n) [] → skips n ≡ true
 skips_complete Empty h = refl
@@ -39,6 +43,7 @@ skips_complete (Concat' p l q r le re ends m) h =
 skips_complete (Alternation' p l q r) h =
     elim h [ inl a ↦ or_left (skips l) (skips r) (skips_complete l a) | inr b ↦ or_right (skips l) (skips r) (skips_complete r b) ]
 skips_complete (Star' p b ends) h = refl
+skips_complete (UpTo cl most left) h = refl
 
 -- ---- the end of a text
 
@@ -55,6 +60,8 @@ ends_sound (Concat' p l q r le re ends m) k h =
 ends_sound (Alternation' p l q r) k h =
     elim (or_cases (ends_here l) (ends_here r) h) [ inl a ↦ inl (ends_sound l k.0 a) | inr b ↦ inr (ends_sound r k.1 b) ]
 ends_sound (Star' p b ends) k h = ([], [], refl, ends_sound b k.1 h, (0, omega arith, tt, refl))
+ends_sound (UpTo cl most None) k h = absurd (true≢false (sym h))
+ends_sound (UpTo cl most (Some n)) k h = (n, refl, (0, omega arith, omega arith, refl))
 
 pub ends_complete : (n : Node) → IsKept n → Continues n [] → ends_here n ≡ true
 ends_complete Empty k h = absurd h
@@ -74,6 +81,7 @@ ends_complete (Alternation' p l q r) k h =
       | inr b ↦ or_right (ends_here l) (ends_here r) (ends_complete r k.1 b)
     ]
 ends_complete (Star' p b ends) k h = ends_complete b k.1 (subst (Continues b) (front_empty h.0 h.1 h.2) h.3)
+ends_complete (UpTo cl most left) k h = ap is_some h.1
 
 -- ---- moving the marks keeps the expression, and what is kept
 
@@ -89,6 +97,7 @@ form_shifted (Alternation' p l q r) start c =
     let b = form_shifted r start c in
     cc
 form_shifted (Star' p b ends) start c = ap (λ f. repetition f 0 None) (form_shifted b (start || ends) c)
+form_shifted (UpTo cl most left) start c = refl
 
 pub skips_shifted : (n : Node) (start : Bool) (c : ℕ) → skips (shifted start c n) ≡ skips n
 skips_shifted Empty start c = refl
@@ -102,6 +111,18 @@ skips_shifted (Alternation' p l q r) start c =
     let b = skips_shifted r start c in
     cc
 skips_shifted (Star' p b ends) start c = refl
+skips_shifted (UpTo cl most left) start c = refl
+
+fewer_within : (cl : ClassOf) (n most : ℕ) (c : ℕ) (b : Bool) → n ≤ most → is_within (cond b (less_one n) None) most ≡ true
+fewer_within cl n most c false l = refl
+fewer_within cl zero most c true l = refl
+fewer_within cl (suc n) most c true l = le-leb n most (omega arith)
+
+kept_fewer : (cl : ClassOf) (most : ℕ) (left : Option ℕ) (start : Bool) (c : ℕ) → is_within left most ≡ true
+    → is_within (fewer cl (cond start (Some most) left) c) most ≡ true
+kept_fewer cl most left true c k = fewer_within cl most most c (is_in_class cl.negated cl.items.items c) (omega arith)
+kept_fewer cl most None false c k = refl
+kept_fewer cl most (Some n) false c k = fewer_within cl n most c (is_in_class cl.negated cl.items.items c) (leb-true n most k)
 
 pub kept_shifted : (n : Node) (start : Bool) (c : ℕ) → IsKept n → IsKept (shifted start c n)
 kept_shifted Empty start c k = tt
@@ -116,6 +137,7 @@ kept_shifted (Concat' p l q r le re ends m) start c k = (
 )
 kept_shifted (Alternation' p l q r) start c k = (kept_shifted l start c k.0, kept_shifted r start c k.1)
 kept_shifted (Star' p b ends) start c k = (refl, kept_shifted b (start || ends) c k.1)
+kept_shifted (UpTo cl most left) start c k = kept_fewer cl most left start c k
 
 -- ---- where no mark is, none moves
 
@@ -129,6 +151,7 @@ ends_unmarked (Alternation' p l q r) k h =
     let both = or_parts (is_marked l) (is_marked r) h in
     or_from (ends_here l) (ends_here r) (ends_unmarked l k.0 both.0) (ends_unmarked r k.1 both.1)
 ends_unmarked (Star' p b ends) k h = ends_unmarked b k.1 h
+ends_unmarked (UpTo cl most left) k h = h
 
 pub shifted_unmarked : (n : Node) (c : ℕ) → IsKept n → is_marked n ≡ false → shifted false c n ≡ n
 shifted_unmarked Empty c k h = refl
@@ -153,6 +176,8 @@ shifted_unmarked (Star' p b ends) c k h =
     let a = ap (λ s. shifted (false || s) c b) none ∙ shifted_unmarked b c k.1 h in
     let e = ap ends_here a ∙ sym k.0 in
     cc
+shifted_unmarked (UpTo cl most None) c k h = refl
+shifted_unmarked (UpTo cl most (Some n)) c k h = absurd (true≢false h)
 
 -- nothing is done where the text does not begin here and no mark is
 pub shifted_still : (n : Node) (start marked : Bool) (c : ℕ) → IsKept n → marked ≡ is_marked n → (start || marked) ≡ false
@@ -188,6 +213,97 @@ parts_first P (suc n) c ds h = by h.0 h.1 h.2 h.3 h.4 (λ k. parts_first P n c d
         let head : x ≡ c = cc in
         let tail : ds ≡ xs ++ ys = cc in
         (xs, ys, tail, subst (λ y. P (y ∷ xs)) head p, (n, omega arith, tt, q))
+
+-- ---- a repetition of a class, up to so many times
+
+-- a text of at most so many characters of the class
+abbrev Few : ClassOf → ℕ → List ℕ → Type 0
+Few cl n ds = Matches (repetition (class cl.negated cl.items.items) 0 (Some n)) ds
+
+abbrev HasOne : ClassOf → ℕ → Type 0
+HasOne cl c = is_in_class cl.negated cl.items.items c ≡ true
+
+few_more : (cl : ClassOf) (n c : ℕ) (ds : List ℕ) → HasOne cl c → Few cl n ds → Few cl (suc n) (c ∷ ds)
+few_more cl n c ds e h =
+    let count : ℕ = h.0 in
+    let bound : count ≤ n = h.2 in
+    (suc count, omega arith, omega arith, (c ∷ [], ds, refl, (c, refl, e), h.3))
+
+few_within : (cl : ClassOf) (n m : ℕ) (ds : List ℕ) → n ≤ m → Few cl n ds → Few cl m ds
+few_within cl n m ds l h =
+    let count : ℕ = h.0 in
+    let bound : count ≤ n = h.2 in
+    (count, omega arith, omega arith, h.3)
+
+-- the first character is one of the class, and one less may follow
+abbrev FewAfter : ClassOf → ℕ → ℕ → List ℕ → Type 0
+FewAfter cl n c ds = (m : ℕ) × (n ≡ suc m) × HasOne cl c × Few cl m ds
+
+few_parts : (cl : ClassOf) (count n c : ℕ) (ds : List ℕ) → count ≤ n → Parts (Matches (class cl.negated cl.items.items)) count (c ∷ ds)
+    → FewAfter cl n c ds
+few_parts cl zero n c ds l h = let e : c ∷ ds ≡ [] = h in cc
+few_parts cl (suc count) zero c ds l h = absurd (omega arith)
+few_parts cl (suc count) (suc n) c ds l h =
+    let x : ℕ = h.3.0 in
+    let one : h.0 ≡ x ∷ [] = h.3.1 in
+    let split : c ∷ ds ≡ h.0 ++ h.1 = h.2 in
+    let all : c ∷ ds ≡ x ∷ h.1 = split ∙ ap (λ us. us ++ h.1) one in
+    let head : x ≡ c = cc in
+    let tail : h.1 ≡ ds = cc in (
+      n,
+      refl,
+      subst (HasOne cl) head h.3.2,
+      (count, omega arith, omega arith, subst (Parts (Matches (class cl.negated cl.items.items)) count) tail h.4),
+    )
+
+few_less : (cl : ClassOf) (n c : ℕ) (ds : List ℕ) → Few cl n (c ∷ ds) → FewAfter cl n c ds
+few_less cl n c ds h = few_parts cl h.0 n c ds h.2 h.3
+
+-- what is left was one more before
+fewer_from : (cl : ClassOf) (count : Option ℕ) (n c : ℕ) → fewer cl count c ≡ Some n → (count ≡ Some (suc n)) × HasOne cl c
+fewer_from cl None n c e = let f : None ≡ Some n = e in cc
+fewer_from cl (Some m) n c e = by (is_in_class cl.negated cl.items.items c) refl m e
+  where
+    by : (b : Bool) → is_in_class cl.negated cl.items.items c ≡ b → (k : ℕ) → cond b (less_one k) None ≡ Some n
+        → (Some k ≡ Some (suc n)) × (is_in_class cl.negated cl.items.items c ≡ true)
+    by false f k g = let x : None ≡ Some n = g in cc
+    by true f zero g = let x : None ≡ Some n = g in cc
+    by true f (suc k) g = let x : Some k ≡ Some n = g in (cc, f)
+
+fewer_to : (cl : ClassOf) (n c : ℕ) → HasOne cl c → fewer cl (Some (suc n)) c ≡ Some n
+fewer_to cl n c e = ap (λ b. cond b (Some n) None) e
+
+few_sound : (cl : ClassOf) (most : ℕ) (left : Option ℕ) (start : Bool) (c : ℕ) (ds : List ℕ)
+    → Continues (UpTo cl most (fewer cl (cond start (Some most) left) c)) ds
+    → Continues (UpTo cl most left) (c ∷ ds) ⊎ ((start ≡ true) × Few cl most (c ∷ ds))
+few_sound cl most left true c ds h =
+    let n : ℕ = h.0 in
+    let from = fewer_from cl (Some most) n c h.1 in
+    let some : Some most ≡ Some (suc n) = from.0 in
+    let same : suc n ≡ most = cc in
+    inr (refl, subst (λ m. Few cl m (c ∷ ds)) same (few_more cl n c ds from.1 h.2))
+few_sound cl most left false c ds h =
+    let n : ℕ = h.0 in
+    let from = fewer_from cl left n c h.1 in
+    inl (suc n, from.0, few_more cl n c ds from.1 h.2)
+
+few_complete : (cl : ClassOf) (most : ℕ) (left : Option ℕ) (start : Bool) (c : ℕ) (ds : List ℕ) → is_within left most ≡ true
+    → Continues (UpTo cl most left) (c ∷ ds) ⊎ ((start ≡ true) × Few cl most (c ∷ ds))
+    → Continues (UpTo cl most (fewer cl (cond start (Some most) left) c)) ds
+few_complete cl most left true c ds k h =
+    let all : Few cl most (c ∷ ds) = elim h [
+      | inl a ↦ few_within cl a.0 most (c ∷ ds) (leb-true a.0 most (sym (ap (λ o. is_within o most) a.1) ∙ k)) a.2
+      | inr b ↦ b.1
+    ] in
+    let less = few_less cl most c ds all in
+    (less.0, ap (λ m. fewer cl (Some m) c) less.1 ∙ fewer_to cl less.0 c less.2, less.3)
+few_complete cl most left false c ds k h =
+    elim h [
+      | inl a ↦
+          let less = few_less cl a.0 c ds a.2 in
+          (less.0, ap (λ o. fewer cl o c) a.1 ∙ (ap (λ m. fewer cl (Some m) c) less.1 ∙ fewer_to cl less.0 c less.2), less.3)
+      | inr b ↦ absurd (true≢false (sym b.0))
+    ]
 
 -- ---- what may come next, once the marks are moved
 
@@ -232,6 +348,7 @@ shift_sound (Star' p b ends) start c ds k h =
             | inr g ↦ inl ([], c ∷ ds, refl, ends_sound b k.1 (sym k.0 ∙ g), all)
           ]
     ]
+shift_sound (UpTo cl most left) start c ds k h = few_sound cl most left start c ds h
 
 -- a text that begins with a character, in two parts: the first is empty or begins with it
 abbrev Parted : ℕ → List ℕ → List ℕ → List ℕ → Type 0
@@ -329,3 +446,58 @@ shift_complete (Star' p b ends) start c ds k h =
             subst (λ g. Star (Matches g) f.1) (sym (form_shifted b (start || ends) c)) f.4,
           )
     ]
+shift_complete (UpTo cl most left) start c ds k h = few_complete cl most left start c ds k h
+
+-- ---- marks that decide the rest
+
+none_within : (is : List Item) → has_none is ≡ true → is ≡ []
+none_within [] h = refl
+none_within (i ∷ is) h = absurd (true≢false (sym h))
+
+each_parts : (n : Node) → is_each n ≡ true → (ds : List ℕ) → Parts (Matches (form_of n)) (length ds) ds
+each_parts n h [] = refl
+each_parts Empty h (c ∷ ds) = absurd (true≢false (sym h))
+each_parts (Class cl mark) h (c ∷ ds) =
+    let both = and_parts cl.negated (has_none cl.items.items) h in
+    let in_all : is_in_class cl.negated cl.items.items c ≡ true =
+    ap (λ b. is_in_class b cl.items.items c) both.0 ∙ ap (λ is. is_in_class true is c) (none_within cl.items.items both.1) in
+    (c ∷ [], ds, refl, (c, refl, in_all), each_parts (Class cl mark) h ds)
+each_parts (Concat' p l q r le re ends m) h (c ∷ ds) = absurd (true≢false (sym h))
+each_parts (Alternation' p l q r) h (c ∷ ds) = absurd (true≢false (sym h))
+each_parts (Star' p b ends) h (c ∷ ds) = absurd (true≢false (sym h))
+each_parts (UpTo cl most left) h (c ∷ ds) = absurd (true≢false (sym h))
+
+each_star : (n : Node) → is_each n ≡ true → (ds : List ℕ) → Matches (repetition (form_of n) 0 None) ds
+each_star n h ds = (length ds, omega arith, tt, each_parts n h ds)
+
+any_matches : (n : Node) → is_any n ≡ true → (ds : List ℕ) → Matches (form_of n) ds
+any_matches Empty h ds = absurd (true≢false (sym h))
+any_matches (Class cl mark) h ds = absurd (true≢false (sym h))
+any_matches (Concat' p l q r le re ends m) h ds = absurd (true≢false (sym h))
+any_matches (Alternation' p l q r) h ds = absurd (true≢false (sym h))
+any_matches (Star' p b ends) h ds = each_star b h ds
+any_matches (UpTo cl most left) h ds = absurd (true≢false (sym h))
+
+-- each text can be read from marks that are settled
+pub settled_goes : (n : Node) → IsKept n → is_settled n ≡ true → (ds : List ℕ) → Continues n ds
+settled_goes Empty k h ds = absurd (true≢false (sym h))
+settled_goes (Class cl mark) k h ds = absurd (true≢false (sym h))
+settled_goes (Concat' p l q r le re ends m) k h ds =
+    elim (or_cases (is_settled r) (ends && is_any r) h) [
+      | inl a ↦ inl (settled_goes r k.4 a ds)
+      | inr b ↦
+          let both = and_parts ends (is_any r) b in
+          inr ([], ds, refl, ends_sound l k.3 (sym k.2 ∙ both.0), any_matches r both.1 ds)
+    ]
+settled_goes (Alternation' p l q r) k h ds =
+    elim (or_cases (is_settled l) (is_settled r) h) [ inl a ↦ inl (settled_goes l k.0 a ds) | inr b ↦ inr (settled_goes r k.1 b ds) ]
+settled_goes (Star' p b ends) k h ds =
+    let both = and_parts ends (is_each b) h in
+    ([], ds, refl, ends_sound b k.1 (sym k.0 ∙ both.0), each_star b both.1 ds)
+settled_goes (UpTo cl most left) k h ds = absurd (true≢false (sym h))
+
+-- and none where no mark is
+pub unmarked_stops : (n : Node) → IsKept n → is_marked n ≡ false → (ds : List ℕ) → Continues n ds → ⊥
+unmarked_stops n k h [] g = true≢false (sym (ends_complete n k g) ∙ ends_unmarked n k h)
+unmarked_stops n k h (c ∷ ds) g =
+    unmarked_stops n k h ds (subst (λ m. Continues m ds) (shifted_unmarked n c k h) (shift_complete n false c ds k (inl g)))

@@ -1,13 +1,13 @@
 -- Reading a text over the marks.
-use Rattle.std.proofs.Common.{None, ◌≡◌, ◌↔◌, ℕ, Bool, true, false, ◌&&◌, IsTrue, List, [], ◌∷◌, ◌++◌, ◌⊎◌, inl, inr, refl, sym, ap, ◌∙◌}
+use Rattle.std.proofs.Common.{None, Some, ◌≡◌, ◌↔◌, ℕ, Bool, true, false, ◌&&◌, IsTrue, List, [], ◌∷◌, ◌++◌, ◌⊎◌, inl, inr, refl, sym, ap, ◌∙◌}
 use Rattle.std.proofs.Common.{subst, true≢false}
 use Rattle.std.proofs.lemmas.Bool.{or_from}
 use Rattle.i_regexp.specs.Forms.{Form, Matches, Searches, repetition}
-use Rattle.i_regexp.specs.Marked.{form_of, skips, ends_here, is_marked, IsKept, Continues, shifted, cleared}
+use Rattle.i_regexp.specs.Marked.{form_of, skips, ends_here, is_marked, IsKept, Continues, shifted, cleared, is_settled}
 use Rattle.i_regexp.specs.declared.marked.Node.{Node}
-use Rattle.i_regexp.specs.declared.marked.Node.TheVariants.{Empty, Class, Concat', Alternation', Star'}
+use Rattle.i_regexp.specs.declared.marked.Node.TheVariants.{Empty, Class, Concat', Alternation', Star', UpTo}
 use Rattle.i_regexp.proofs.Marking.{skips_sound, skips_complete, ends_sound, ends_complete, form_shifted, kept_shifted, shift_sound}
-use Rattle.i_regexp.proofs.Marking.{shift_complete, front_empty}
+use Rattle.i_regexp.proofs.Marking.{shift_complete, front_empty, settled_goes, unmarked_stops}
 
 -- ---- no marks
 
@@ -17,6 +17,7 @@ form_cleared (Class cl mark) = refl
 form_cleared (Concat' p l q r le re ends m) = let a = form_cleared l in let b = form_cleared r in cc
 form_cleared (Alternation' p l q r) = let a = form_cleared l in let b = form_cleared r in cc
 form_cleared (Star' p b ends) = ap (λ f. repetition f 0 None) (form_cleared b)
+form_cleared (UpTo cl most left) = refl
 
 pub skips_cleared : (n : Node) → skips (cleared n) ≡ skips n
 skips_cleared Empty = refl
@@ -24,6 +25,7 @@ skips_cleared (Class cl mark) = refl
 skips_cleared (Concat' p l q r le re ends m) = let a = skips_cleared l in let b = skips_cleared r in cc
 skips_cleared (Alternation' p l q r) = let a = skips_cleared l in let b = skips_cleared r in cc
 skips_cleared (Star' p b ends) = refl
+skips_cleared (UpTo cl most left) = refl
 
 ends_cleared : (n : Node) → ends_here (cleared n) ≡ false
 ends_cleared Empty = refl
@@ -32,6 +34,7 @@ ends_cleared (Concat' p l q r le re ends m) =
     or_from (ends_here (cleared r)) (ends_here (cleared l) && re) (ends_cleared r) (ap (λ b. b && re) (ends_cleared l))
 ends_cleared (Alternation' p l q r) = or_from (ends_here (cleared l)) (ends_here (cleared r)) (ends_cleared l) (ends_cleared r)
 ends_cleared (Star' p b ends) = ends_cleared b
+ends_cleared (UpTo cl most left) = refl
 
 marked_cleared : (n : Node) → is_marked (cleared n) ≡ false
 marked_cleared Empty = refl
@@ -39,6 +42,7 @@ marked_cleared (Class cl mark) = refl
 marked_cleared (Concat' p l q r le re ends m) = refl
 marked_cleared (Alternation' p l q r) = or_from (is_marked (cleared l)) (is_marked (cleared r)) (marked_cleared l) (marked_cleared r)
 marked_cleared (Star' p b ends) = marked_cleared b
+marked_cleared (UpTo cl most left) = refl
 
 pub kept_cleared : (n : Node) → IsKept n → IsKept (cleared n)
 kept_cleared Empty k = tt
@@ -53,6 +57,7 @@ kept_cleared (Concat' p l q r le re ends m) k = (
 )
 kept_cleared (Alternation' p l q r) k = (kept_cleared l k.0, kept_cleared r k.1)
 kept_cleared (Star' p b ends) k = (sym (ends_cleared b), kept_cleared b k.1)
+kept_cleared (UpTo cl most left) k = refl
 
 none_cleared : (n : Node) (ds : List ℕ) → Continues (cleared n) ds → ⊥
 none_cleared Empty ds h = h
@@ -60,6 +65,7 @@ none_cleared (Class cl mark) ds h = true≢false (sym h.0)
 none_cleared (Concat' p l q r le re ends m) ds h = elim h [ inl a ↦ none_cleared r ds a | inr b ↦ none_cleared l b.0 b.3 ]
 none_cleared (Alternation' p l q r) ds h = elim h [ inl a ↦ none_cleared l ds a | inr b ↦ none_cleared r ds b ]
 none_cleared (Star' p b ends) ds h = none_cleared b h.0 h.3
+none_cleared (UpTo cl most left) ds h = let e : None ≡ Some h.0 = h.1 in cc
 
 -- ---- the whole text
 
@@ -110,6 +116,17 @@ pub whole_end : (f : Form) (n : Node) (start ends : Bool) (rest text : List ℕ)
 whole_end f n start ends rest text w e = (
   λ h. w.sound (subst (Goes f n start) (sym e) (w.ended h)),
   λ h. w.ends_so (subst (Goes f n start) e (w.complete h)),
+)
+
+pub whole_settled : (f : Form) (n : Node) (start ends : Bool) (rest text : List ℕ) → Whole f n start ends rest text
+    → is_settled n ≡ true → IsTrue true ↔ Matches f text
+whole_settled f n start ends rest text w e = (λ _. w.sound (inl (settled_goes n w.kept e rest)), λ _. refl)
+
+pub whole_unmarked : (f : Form) (n : Node) (ends : Bool) (rest text : List ℕ) → Whole f n false ends rest text
+    → is_marked n ≡ false → IsTrue false ↔ Matches f text
+whole_unmarked f n ends rest text w e = (
+  λ h. absurd (true≢false (sym h)),
+  λ h. absurd (elim (w.complete h) [ inl a ↦ unmarked_stops n w.kept e rest a | inr b ↦ true≢false (sym b.0) ]),
 )
 
 -- ---- a part of the text

@@ -1,9 +1,14 @@
 -- The meaning of the trees that are built; for private contracts.
 use Rattle.std.specs.Prelude.{◌≡◌, ℕ, Bool, true, false, List, [], ◌∷◌, ◌++◌, length}
 use Rattle.i_regexp.specs.declared.marked.Node.{Node}
-use Rattle.i_regexp.specs.declared.marked.Node.TheVariants.{Empty, Class, Concat', Alternation', Star'}
+use Rattle.i_regexp.specs.declared.marked.Node.TheVariants.{Empty, Class, Concat', Alternation', Star', UpTo}
 use Rattle.i_regexp.specs.Forms.{Form, empty, class, concat, alternation, Matches}
 use Rattle.i_regexp.specs.Marked.{form_of, skips, ends_here, is_marked, IsKept}
+
+-- The two match the same texts.
+pub record Same (f g : Form) : Type 0 where
+  pub to : (cs : List ℕ) → Matches f cs → Matches g cs
+  pub from : (cs : List ℕ) → Matches g cs → Matches f cs
 
 -- The tree, which has no mark at an end, matches what the regular expression matches.
 pub record Means (n : Node) (f : Form) : Type 0 where
@@ -27,6 +32,7 @@ is_empty (Class cl mark) = false
 is_empty (Concat' p l q r le re ends m) = false
 is_empty (Alternation' p l q r) = false
 is_empty (Star' p b ends) = false
+is_empty (UpTo cl most left) = false
 
 -- the trees match what the regular expressions match, one by one
 abbrev pub AllMean : List Node → List Form → Type 0

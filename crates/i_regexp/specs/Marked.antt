@@ -1,7 +1,10 @@
 -- The marked tree of a regular expression; for private contracts, as is `form_in` of `Regexps`.
-use Rattle.std.specs.Prelude.{not, ◌≡◌, ℕ, Bool, true, false, ◌&&◌, ◌||◌, List, [], ◌++◌, None, ◌⊎◌}
+use Rattle.std.specs.Prelude.{not, ◌≡◌, ℕ, zero, suc, nat_le, Bool, true, false, ◌&&◌, ◌||◌, cond, List, [], ◌∷◌, ◌++◌}
+use Rattle.std.specs.Prelude.{Option, Some, None, is_some, ◌⊎◌}
+use Rattle.i_regexp.specs.declared.class.Class.{Class as ClassOf}
+use Rattle.i_regexp.specs.declared.class.Item.{Item}
 use Rattle.i_regexp.specs.declared.marked.Node.{Node}
-use Rattle.i_regexp.specs.declared.marked.Node.TheVariants.{Empty, Class, Concat', Alternation', Star'}
+use Rattle.i_regexp.specs.declared.marked.Node.TheVariants.{Empty, Class, Concat', Alternation', Star', UpTo}
 use Rattle.i_regexp.specs.Forms.{Form, empty, class, concat, alternation, repetition, is_in_class, Matches}
 
 -- the regular expression of the tree
@@ -11,6 +14,7 @@ form_of (Class cl mark) = class cl.negated cl.items.items
 form_of (Concat' p l q r le re ends m) = concat (form_of l) (form_of r)
 form_of (Alternation' p l q r) = alternation (form_of l) (form_of r)
 form_of (Star' p b ends) = repetition (form_of b) 0 None
+form_of (UpTo cl most left) = repetition (class cl.negated cl.items.items) 0 (Some most)
 
 -- it matches the empty text
 abbrev pub skips : Node → Bool
@@ -19,6 +23,7 @@ skips (Class cl mark) = false
 skips (Concat' p l q r le re ends m) = skips l && skips r
 skips (Alternation' p l q r) = skips l || skips r
 skips (Star' p b ends) = true
+skips (UpTo cl most left) = true
 
 -- a text can end where the marks are
 abbrev pub ends_here : Node → Bool
@@ -27,6 +32,7 @@ ends_here (Class cl mark) = mark
 ends_here (Concat' p l q r le re ends m) = ends_here r || (ends_here l && re)
 ends_here (Alternation' p l q r) = ends_here l || ends_here r
 ends_here (Star' p b ends) = ends_here b
+ends_here (UpTo cl most left) = is_some left
 
 -- the tree has a mark, by the flags that it keeps
 abbrev pub is_marked : Node → Bool
@@ -35,6 +41,12 @@ is_marked (Class cl mark) = mark
 is_marked (Concat' p l q r le re ends m) = m
 is_marked (Alternation' p l q r) = is_marked l || is_marked r
 is_marked (Star' p b ends) = is_marked b
+is_marked (UpTo cl most left) = is_some left
+
+-- a count, if there is one, is at most so much
+abbrev pub is_within : Option ℕ → ℕ → Bool
+is_within None most = true
+is_within (Some n) most = nat_le n most
 
 -- the flags that the tree keeps are right
 abbrev pub IsKept : Node → Type 0
@@ -44,6 +56,39 @@ IsKept (Concat' p l q r le re ends m) =
     (le ≡ skips l) × (re ≡ skips r) × (ends ≡ ends_here l) × IsKept l × IsKept r × (m ≡ (is_marked l || is_marked r))
 IsKept (Alternation' p l q r) = IsKept l × IsKept r
 IsKept (Star' p b ends) = (ends ≡ ends_here b) × IsKept b
+IsKept (UpTo cl most left) = is_within left most ≡ true
+
+-- the list is empty
+abbrev pub has_none : List Item → Bool
+has_none [] = true
+has_none (i ∷ is) = false
+
+-- it is a class that has each character
+abbrev pub is_each : Node → Bool
+is_each Empty = false
+is_each (Class cl mark) = cl.negated && has_none cl.items.items
+is_each (Concat' p l q r le re ends m) = false
+is_each (Alternation' p l q r) = false
+is_each (Star' p b ends) = false
+is_each (UpTo cl most left) = false
+
+-- it is a repetition of such a class, which matches each text
+abbrev pub is_any : Node → Bool
+is_any Empty = false
+is_any (Class cl mark) = false
+is_any (Concat' p l q r le re ends m) = false
+is_any (Alternation' p l q r) = false
+is_any (Star' p b ends) = is_each b
+is_any (UpTo cl most left) = false
+
+-- what matches each text is next, or has begun
+abbrev pub is_settled : Node → Bool
+is_settled Empty = false
+is_settled (Class cl mark) = false
+is_settled (Concat' p l q r le re ends m) = is_settled r || (ends && is_any r)
+is_settled (Alternation' p l q r) = is_settled l || is_settled r
+is_settled (Star' p b ends) = ends && is_each b
+is_settled (UpTo cl most left) = false
 
 -- from some mark on the regular expression matches the text
 abbrev pub Continues : Node → List ℕ → Type 0
@@ -54,6 +99,18 @@ Continues (Concat' p l q r le re ends m) ds =
 Continues (Alternation' p l q r) ds = Continues l ds ⊎ Continues r ds
 Continues (Star' p b ends) ds =
     (xs : List ℕ) × (ys : List ℕ) × (ds ≡ xs ++ ys) × Continues b xs × Matches (repetition (form_of b) 0 None) ys
+Continues (UpTo cl most left) ds =
+    (n : ℕ) × (left ≡ Some n) × Matches (repetition (class cl.negated cl.items.items) 0 (Some n)) ds
+
+-- one less; none of zero
+abbrev pub less_one : ℕ → Option ℕ
+less_one zero = None
+less_one (suc n) = Some n
+
+-- how many characters of the class may follow one, if that count may begin with it
+abbrev pub fewer : ClassOf → Option ℕ → ℕ → Option ℕ
+fewer cl None c = None
+fewer cl (Some n) c = cond (is_in_class cl.negated cl.items.items c) (less_one n) None
 
 -- the tree with its marks moved over a character; with `start` a text may begin with it
 abbrev pub shifted : Bool → ℕ → Node → Node
@@ -64,6 +121,7 @@ shifted start c (Concat' p l q r le re ends m) =
     (is_marked (shifted start c l) || is_marked (shifted (ends || (start && le)) c r))
 shifted start c (Alternation' p l q r) = Alternation' p (shifted start c l) q (shifted start c r)
 shifted start c (Star' p b ends) = Star' p (shifted (start || ends) c b) (ends_here (shifted (start || ends) c b))
+shifted start c (UpTo cl most left) = UpTo cl most (fewer cl (cond start (Some most) left) c)
 
 -- the tree without marks
 abbrev pub cleared : Node → Node
@@ -72,6 +130,7 @@ cleared (Class cl mark) = Class cl false
 cleared (Concat' p l q r le re ends m) = Concat' p (cleared l) q (cleared r) le re false false
 cleared (Alternation' p l q r) = Alternation' p (cleared l) q (cleared r)
 cleared (Star' p b ends) = Star' p (cleared b) false
+cleared (UpTo cl most left) = UpTo cl most None
 
 -- ---- the same as tests
 
@@ -89,3 +148,4 @@ is_kept (Concat' p l q r le re ends m) =
     && (is_kept l && (is_kept r && same_bool m (is_marked l || is_marked r)))))
 is_kept (Alternation' p l q r) = is_kept l && is_kept r
 is_kept (Star' p b ends) = same_bool ends (ends_here b) && is_kept b
+is_kept (UpTo cl most left) = is_within left most

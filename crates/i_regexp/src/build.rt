@@ -1,7 +1,7 @@
 //! Builds the tree of a regular expression, without marks.
 ghost use Rattle.std.specs.Prelude.{◌≡◌, ◌≤◌, ◌<◌, List, IfOk, vec_len};
 ghost use Rattle.i_regexp.specs.Forms.{Form, class, concat, alternation, repetition, AtMost};
-ghost use Rattle.i_regexp.specs.Building.{Means, IsCopy, AllMean, sequence, choice};
+ghost use Rattle.i_regexp.specs.Building.{Same, Means, IsCopy, AllMean, sequence, choice};
 ghost use Rattle.i_regexp.specs.Building.{TakesSequence, TakesChoice, is_empty};
 
 use crate::class::Class;
@@ -59,6 +59,11 @@ impl Node {
                 body: Box::new(alloc, body.copy(alloc)?)?,
                 body_ends: *body_ends,
             }),
+            Node::UpTo { class, most, left } => Ok(Node::UpTo {
+                class: class.copy(alloc)?,
+                most: *most,
+                left: *left,
+            }),
         }
     }
 }
@@ -106,6 +111,18 @@ pub(crate) fn star(alloc: Global, body: Node) -> Result<Node, AllocError>
         body: Box::new(alloc, body)?,
         body_ends: false,
     })
+}
+
+/// Up to `most` characters of a class.
+fn up_to(members: Class, most: usize) -> Node
+    ensures { (f : Form) → Same (class members.negated members.items.items) f
+        → Means result (repetition f 0 (Some most)) }
+{
+    Node::UpTo {
+        class: members,
+        most,
+        left: None,
+    }
 }
 
 /// The body once, or the empty text.
@@ -191,6 +208,10 @@ pub(crate) fn repeat(
         parts.push(star(alloc, node.copy(alloc)?)?)?;
         return sequence_of(alloc, parts);
     };
+    if let Node::Class { class, .. } = node {
+        parts.push(up_to(class.copy(alloc)?, most - least))?;
+        return sequence_of(alloc, parts);
+    }
     for _k in 0..most - least {
         parts.push(optional(alloc, node.copy(alloc)?)?)?;
     }

@@ -1,6 +1,7 @@
 //! The tree of a regular expression, with marks where the text read so far can end.
 ghost use Rattle.std.specs.Prelude.{◌≡◌};
 ghost use Rattle.i_regexp.specs.Marked.{IsKept, shifted, cleared, skips, is_marked, ends_here};
+ghost use Rattle.i_regexp.specs.Marked.{is_each, is_any, is_settled, fewer};
 
 use crate::class::Class;
 
@@ -32,6 +33,13 @@ pub(crate) enum Node {
         // whether the body can end here
         body_ends: bool,
     },
+    // up to `most` characters of the class
+    UpTo {
+        class: Class,
+        most: usize,
+        // how many more may follow, if this is marked
+        left: Option<usize>,
+    },
 }
 
 impl Node {
@@ -44,7 +52,7 @@ impl Node {
             Node::Class { .. } => false,
             Node::Concat { left, right, .. } => left.skips() && right.skips(),
             Node::Alternation { left, right } => left.skips() || right.skips(),
-            Node::Star { .. } => true,
+            Node::Star { .. } | Node::UpTo { .. } => true,
         }
     }
 
@@ -58,6 +66,43 @@ impl Node {
             Node::Concat { marked, .. } => *marked,
             Node::Alternation { left, right } => left.is_marked() || right.is_marked(),
             Node::Star { body, .. } => body.is_marked(),
+            Node::UpTo { left, .. } => left.is_some(),
+        }
+    }
+
+    /// Whether this is a class that has each character.
+    fn is_each(&self) -> bool
+        ensures { result ≡ is_each self.now }
+    {
+        match self {
+            Node::Class { class, .. } => class.negated && class.items.is_empty(),
+            _ => false,
+        }
+    }
+
+    /// Whether this matches each text, as what is behind a branch that need not end with the text.
+    fn is_any(&self) -> bool
+        ensures { result ≡ is_any self.now }
+    {
+        match self {
+            Node::Star { body, .. } => body.is_each(),
+            _ => false,
+        }
+    }
+
+    /// Whether the marks are so that the text is matched whatever follows.
+    pub(crate) fn is_settled(&self) -> bool
+        ensures { result ≡ is_settled self.now }
+    {
+        match self {
+            Node::Empty | Node::Class { .. } | Node::UpTo { .. } => false,
+            Node::Concat {
+                right,
+                left_ends,
+                ..
+            } => { right.is_settled() || (*left_ends && right.is_any()) }
+            Node::Alternation { left, right } => left.is_settled() || right.is_settled(),
+            Node::Star { body, body_ends } => *body_ends && body.is_each(),
         }
     }
 
@@ -88,6 +133,7 @@ impl Node {
                 body.clear();
                 *body_ends = false;
             }
+            Node::UpTo { left, .. } => *left = None,
         }
     }
 
@@ -134,6 +180,20 @@ impl Node {
                 *body_ends = ends;
                 (ends, marked)
             }
+            Node::UpTo { class, most, left } => {
+                *left = fewer(class, if start { Some(*most) } else { *left }, c);
+                (left.is_some(), left.is_some())
+            }
         }
+    }
+}
+
+/// How many characters of the class may follow `c`, if `count` of them may begin with it.
+fn fewer(class: &Class, count: Option<usize>, c: char) -> Option<usize>
+    ensures { result ≡ fewer class.now count c }
+{
+    match count {
+        Some(count) if class.contains(c) => count.checked_sub(1),
+        _ => None,
     }
 }

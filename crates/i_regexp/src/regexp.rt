@@ -80,12 +80,9 @@ impl IRegexp {
 }
 
 /// The characters of a text.
+#[tactic(auto, using(std::proofs::lemmas::Str::chars_from_encodes))]
 pub(crate) fn characters(alloc: Global, text: &str) -> Result<Vec<char>, AllocError>
     ensures { IfOk result (λ v. v.items ≡ chars text.now) }
 {
-    let mut all = Vec::new(alloc);
-    for c in text.chars() {
-        all.push(c)?;
-    }
-    Ok(all)
+    text.chars().collect(alloc)
 }

@@ -1,7 +1,9 @@
-use Rattle.std.proofs.Common.{◌∙◌, ap, subst, arith, append_assoc, [], ◌∷◌, ◌++◌, None, Some}
-use Rattle.i_regexp.specs.Forms.{Form, repetition}
-use Rattle.i_regexp.specs.Building.{AllMean}
+use Rattle.std.proofs.Common.{refl, sym, ◌-◌, ◌∙◌, ap, subst, arith, append_assoc, [], ◌∷◌, ◌++◌, None, Some}
+use Rattle.i_regexp.specs.Forms.{Form, class, repetition}
+use Rattle.i_regexp.specs.Building.{Same, AllMean}
+use Rattle.i_regexp.specs.Marked.{form_of}
 use Rattle.i_regexp.proofs.Building.{ok_as, copy_means, times, times_end, all_mean_push, repeat_least, repeat_between}
+use Rattle.i_regexp.proofs.Building.{means_same, repeat_up_to}
 use Rattle.i_regexp.proofs.build.repeat.Goals as goal
 
 pub loop-i-preserved : goal.loop-i-preserved
@@ -21,9 +23,9 @@ returns-in_default c = ok_as c.sequence_of.result _ _ c.sequence_of.ensures (λ 
 pub loop-k-preserved : goal.loop-k-preserved
 loop-k-preserved c = λ f m.
     let g : Form = repetition f 0 (Some 1) in
-    let copied = copy_means c.args.node.now c.in_ok-copy-3.field-0 f c.in_ok-copy-3.ensures m in
+    let copied = copy_means c.args.node.now c.in_ok-copy-4.field-0 f c.in_ok-copy-4.ensures m in
     let all = all_mean_push c.loop-k.parts.items c.push-in-loop-k.new.self.items c.in_ok-optional.field-0
-    (times c.args.least f [] ++ times c.loop-k._k g []) g c.in_ok-push-3.ensures.items (c.loop-k.invariant f m)
+    (times c.args.least f [] ++ times c.loop-k._k g []) g c.in_ok-push-4.ensures.items (c.loop-k.invariant f m)
     (c.in_ok-optional.ensures f copied) in
     subst (AllMean c.push-in-loop-k.new.self.items) (append_assoc (times c.args.least f []) (times c.loop-k._k g []) (g ∷ [])
     ∙ ap (λ gs. times c.args.least f [] ++ gs) (times_end c.loop-k._k g)) all
@@ -32,3 +34,16 @@ pub returns : goal.returns
 returns c = ok_as c.sequence_of-2.result _ _ c.sequence_of-2.ensures (λ n h f m.
     repeat_between n c.loop-k._k c.args.least c.in-Some.most c.args.most f (omega arith) c.in-Some.is c.requires
     (h _ (c.loop-k.invariant f m)))
+
+pub returns-in-Class : goal.returns-in-Class
+returns-in-Class c = ok_as c.sequence_of-in-Class.result _ _ c.sequence_of-in-Class.ensures (λ n h f m.
+    let copied = c.in_ok-copy-3.field-0 in
+    let given = c.in-Class.class in
+    let form = ap form_of c.in-Class.is ∙ (ap (λ b. class b given.items.items) (sym c.in_ok-copy-3.ensures.negated)
+    ∙ ap (class copied.negated) (sym c.in_ok-copy-3.ensures.items)) in
+    let same = subst (λ g. Same g f) form (means_same c.args.node.now f m) in
+    let few = c.up_to.ensures f same in
+    let all = all_mean_push c.loop-i.parts.items c.push-in-Class.new.self.items c.up_to.result (times c.loop-i._i f [])
+    (repetition f 0 (Some (c.in-Some.most - c.args.least))) c.in_ok-push-3.ensures.items (c.loop-i.invariant f m) few in
+    repeat_up_to n c.loop-i._i (c.in-Some.most - c.args.least) c.args.least c.in-Some.most c.args.most f (omega arith) refl
+    c.in-Some.is c.requires (h _ all))

@@ -4,7 +4,7 @@ use Rattle.std.proofs.StrCases.{chars_of_empty}
 use Rattle.std.specs.Str.{chars, IsUtf8}
 use Rattle.std.specs.Str.Iter.{chars_rest}
 use Rattle.i_regexp.specs.Marked.{form_of, skips}
-use Rattle.i_regexp.proofs.Running.{Whole, whole_init, whole_step, whole_end}
+use Rattle.i_regexp.proofs.Running.{Whole, whole_init, whole_step, whole_end, whole_settled, whole_unmarked}
 use Rattle.i_regexp.proofs.run.matches_whole.Goals as goal
 
 pub loop-c-init : goal.loop-c-init
@@ -24,8 +24,44 @@ loop-c-preserved c =
     let parts = c.in-Some.ensures.steps.0 in (
       IsUtf8-past_char _ _ c.in-Some.c held.0 parts,
       whole_step _ _ _ _ _ _ c.in-Some.c _ _ _ held.1
-          (chars_past_char _ _ c.in-Some.c held.0 parts) c.shift-ends.ensures.marks c.shift-ends.ensures.ends,
+          (chars_past_char _ _ c.in-Some.c held.0 parts) c.shift-found.ensures.marks c.shift-found.ensures.ends,
     )
+
+pub returns-then-not-marked-clause-kept : goal.returns-then-not-marked-clause-kept
+returns-then-not-marked-clause-kept c =
+    (whole_step _ _ _ _ _ _ c.in-Some.c _ _ _ c.loop-c.invariant.1
+    (chars_past_char _ _ c.in-Some.c c.loop-c.invariant.0 c.in-Some.ensures.steps.0)
+    c.shift-found.ensures.marks c.shift-found.ensures.ends).kept
+
+pub returns-then-not-marked-clause-same : goal.returns-then-not-marked-clause-same
+returns-then-not-marked-clause-same c =
+    (whole_step _ _ _ _ _ _ c.in-Some.c _ _ _ c.loop-c.invariant.1
+    (chars_past_char _ _ c.in-Some.c c.loop-c.invariant.0 c.in-Some.ensures.steps.0)
+    c.shift-found.ensures.marks c.shift-found.ensures.ends).form
+
+pub returns-then-not-marked-clause-matched : goal.returns-then-not-marked-clause-matched
+returns-then-not-marked-clause-matched c =
+    whole_unmarked _ _ _ _ _ (whole_step _ _ _ _ _ _ c.in-Some.c _ _ _ c.loop-c.invariant.1
+    (chars_past_char _ _ c.in-Some.c c.loop-c.invariant.0 c.in-Some.ensures.steps.0)
+    c.shift-found.ensures.marks c.shift-found.ensures.ends) (sym c.shift-found.ensures.marked ∙ c.if-not-marked.true)
+
+pub returns-then-is_settled-clause-kept : goal.returns-then-is_settled-clause-kept
+returns-then-is_settled-clause-kept c =
+    (whole_step _ _ _ _ _ _ c.in-Some.c _ _ _ c.loop-c.invariant.1
+    (chars_past_char _ _ c.in-Some.c c.loop-c.invariant.0 c.in-Some.ensures.steps.0)
+    c.shift-found.ensures.marks c.shift-found.ensures.ends).kept
+
+pub returns-then-is_settled-clause-same : goal.returns-then-is_settled-clause-same
+returns-then-is_settled-clause-same c =
+    (whole_step _ _ _ _ _ _ c.in-Some.c _ _ _ c.loop-c.invariant.1
+    (chars_past_char _ _ c.in-Some.c c.loop-c.invariant.0 c.in-Some.ensures.steps.0)
+    c.shift-found.ensures.marks c.shift-found.ensures.ends).form
+
+pub returns-then-is_settled-clause-matched : goal.returns-then-is_settled-clause-matched
+returns-then-is_settled-clause-matched c =
+    whole_settled _ _ _ _ _ _ (whole_step _ _ _ _ _ _ c.in-Some.c _ _ _ c.loop-c.invariant.1
+    (chars_past_char _ _ c.in-Some.c c.loop-c.invariant.0 c.in-Some.ensures.steps.0)
+    c.shift-found.ensures.marks c.shift-found.ensures.ends) (sym c.is_settled.ensures ∙ c.if-is_settled.true)
 
 pub returns-clause-kept : goal.returns-clause-kept
 returns-clause-kept c = c.loop-c.invariant.1.kept
