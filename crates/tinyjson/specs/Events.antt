@@ -1,4 +1,4 @@
--- What stands while a text is read event by event, and what a reading into events returns.
+-- What holds while a text is read event by event, and what a reading into events returns.
 use Rattle.std.specs.Prelude.{◌≡◌, ℕ, List, [], ◌∷◌, ◌++◌, Option, Result, Ok, Err, MatchResult, IfErr, ◌⊎◌, ⊤}
 use Rattle.tinyjson.specs.Error.{error_kind, error_position}
 use Rattle.tinyjson.specs.Parser.{Parser, Remains}
@@ -16,7 +16,7 @@ pub use Rattle.tinyjson_grammar.specs.Tree.{literal_tree}
 pub use Rattle.tinyjson_grammar.specs.Machine.{Frame as Open, in_array, at_key, at_value}
 
 -- A complete value is put where it belongs, of equal keys the last; with nothing open it is the value of the text. Where a
--- key is awaited, nothing is said: what is no string is refused there.
+-- key is awaited, nothing is claimed: what is no string is refused there.
 abbrev pub Puts : {E : Type 0} → (E → List Open → Type 0) → (E → Tree → Type 0) → List Open → Tree → E → Type 0
 Puts holds is [] t e = is e t
 Puts holds is (in_array ts ∷ os) t e = holds e (in_array (ts ++ t ∷ []) ∷ os)
@@ -50,7 +50,7 @@ pub record IsBrokenOff (limit : Option ℕ) (consumed rest : List ℕ) : Type 0 
   pub place : IsInterrupted limit consumed
   pub begun : MayGrow (consumed ++ rest) ⊎ MeetsLiteral (consumed ++ rest)
 
--- What a text of these characters returns that is told to events: they are of its tree, or the error that a new parser returns,
+-- What reading these characters into events returns: events of their tree, or the error that a new parser returns,
 -- unless memory ran out or an event was refused.
 pub record TellsText {E : Type 0} (is : E → Tree → Type 0) (limit : Option ℕ) (xs : List ℕ) (result : Result E JsonParseError)
     : Type 0 where

@@ -1,4 +1,4 @@
--- What contracts say of numbers, by the names of the crate `tinyjson_number`, so that callers name one crate.
+-- What contracts use of numbers, by the names of the crate `tinyjson_number`, so that callers name one crate.
 pub use Rattle.tinyjson_number.specs.Canonical.{IsDecimal}
 pub use Rattle.tinyjson_number.specs.Decimal.{Decimal, zero_decimal}
 pub use Rattle.tinyjson_number.specs.Integer.{whole_decimal, integer_decimal}

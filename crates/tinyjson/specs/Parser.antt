@@ -51,7 +51,7 @@ pub record Parses
   pub whole : xs ≡ consumed ++ rest
   pub remains : Remains steps q rest
   pub position : q.position ≡ advance p.position consumed
-  -- all of a text, with its tree, or an error where the parser stands
+  -- all of a text, with its tree, or an error at the parser's position
   pub answer : MatchResult result
       (λ v. (rest ≡ []) × IsText p.limit xs (view v))
       (λ e. (error_position e ≡ q.position) × RefusalSays p.limit (error_kind e) consumed rest)

@@ -20,7 +20,7 @@ use std::io::{self, ErrorKind, Write};
 
 /// Writes JSON values to a writer, compact or indented.
 ///
-/// The keys of each object stand in the order of their UTF-8 bytes, so each value has one compact text.
+/// The keys of each object are in the order of their UTF-8 bytes, so each value has one compact text.
 ///
 /// ```
 /// let v = JsonValue::from("hello, world".to_string(alloc)?);

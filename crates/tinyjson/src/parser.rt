@@ -69,7 +69,7 @@ impl<I: Iterator<Item = char>> Model for JsonParser<I> {
 }
 
 impl<I: Iterator<Item = char>> JsonParser<I> {
-    /// A parser that stands at line 1, column 0. It takes no memory, and has no limit on depth.
+    /// A parser at line 1, column 0. It takes no memory, and has no limit on depth.
     ///
     /// Free a value that is nested deeper than some ten thousand levels with
     /// [`JsonValue::dismantle`]: where it goes out of scope, the language's own recursion can
@@ -163,7 +163,7 @@ impl<I: Iterator<Item = char>> JsonParser<I> {
 impl JsonValue {
     /// The value of a text: what [`JsonParser::parse`] of a new parser returns for its characters.
     ///
-    /// A deeply nested value is freed as [`JsonParser::new`] says: read the texts of strangers with
+    /// A deeply nested value is freed as [`JsonParser::new`] describes: read the texts of strangers with
     /// [`JsonValue::from_str_with_depth_limit`], or give their values to [`JsonValue::dismantle`].
     ///
     /// ```

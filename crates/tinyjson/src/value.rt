@@ -67,7 +67,7 @@ pub enum JsonValue {
 }
 
 impl JsonValue {
-    /// Which variant stands here.
+    /// Which variant this is.
     ///
     /// ```
     /// assert!(rt; JsonValue::Null.kind() == JsonKind::Null);

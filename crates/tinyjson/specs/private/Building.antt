@@ -50,7 +50,7 @@ module _ {B : Type 0} (holds : B → List Frame → Type 0) where
   IsWithin n f fs = holds n.events (f ∷ fs) × AgreeAround (awaited_of n) fs
 
 module _ {B : Type 0} (holds : B → List Frame → Type 0) (is : B → Tree → Type 0) where
-  -- a value is complete, and stands where it belongs: as an item of an array, or at a key
+  -- a value is complete, and was put where it belongs: as an item of an array, or at a key
   abbrev pub Completes : B → List Awaited → Next → Type 0
   Completes b [] n = (t : Tree) × (n ≡ next [] (finished t)) × is b t
   Completes b (Item ∷ os) n =
@@ -68,7 +68,7 @@ module _ {B : Type 0} (holds : B → List Frame → Type 0) (is : B → Tree →
   abbrev pub Joins : Next → Result Progress JsonParseErrorKind → Nest B → Type 0
   Joins n r s = MatchResult r (λ v. Stands s v n) (λ k. (n ≡ stop k true) ⊎ ((k ≡ OutOfMemory) × IsNext n))
 
-  -- a part of a text: the machine went from n to where the nest stands, or it refuses, or there was no memory
+  -- a part of a text: the machine went from n to the nest's state, or it refuses, or there was no memory
   abbrev pub Continues : {S : Type 0} → Sight S → Option ℕ → S → Next → Result Progress JsonParseErrorKind → Nest B → S → Type 0
   Continues sight limit p n r s q = MatchResult r (λ v. (m : Next) × Leads sight limit p n q m × Stands s v m)
       (λ k. Refuses sight limit p n k q)
@@ -82,7 +82,7 @@ module _ {B : Type 0} (holds : B → List Frame → Type 0) (is : B → Tree →
 abbrev pub KeepsEvents : {T E : Type 0} → Result T JsonParseErrorKind → Nest E → Nest E → Type 0
 KeepsEvents r old new = IfErr r (λ k. ¬ (k ≡ OutOfMemory) → new.events ≡ old.events)
 
--- one that left events which hold what they were told
+-- an error that is not out of memory left events that hold some open containers, or are of some value
 abbrev pub LeavesSome : {T E : Type 0} → (E → List Frame → Type 0) → (E → Tree → Type 0) → Result T JsonParseErrorKind → Nest E → Type 0
 LeavesSome holds is r new = IfErr r (λ k. ¬ (k ≡ OutOfMemory) → HoldsSome holds is new.events)
 
@@ -91,7 +91,7 @@ abbrev pub Tells : {B S : Type 0} → (B → Tree → Type 0) → Sight S → Op
 Tells is sight limit p n r q = MatchResult r (λ b. (t : Tree) × Leads sight limit p n q (next [] (finished t)) × is b t)
     (λ w. Refuses sight limit p n w.0 q)
 
--- the same, where an error says where the source stands
+-- the same, where an error has the place of the source
 abbrev pub TellsAll : {B S : Type 0} → (B → Tree → Type 0) → Sight S → Option ℕ → S → Result B (JsonParseError × B) → S → Type 0
 TellsAll is sight limit p r q = MatchResult r (λ b. (t : Tree) × Leads sight limit p (next [] awaited) q (next [] (finished t)) × is b t)
     (λ w. (error_position w.0 ≡ sight.place q) × Refuses sight limit p (next [] awaited) w.0.kind q)

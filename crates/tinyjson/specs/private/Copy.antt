@@ -1,4 +1,4 @@
--- What a copy under way stands for, and what of it is left. For private contracts.
+-- What a copy under way represents, and what of it is left. For private contracts.
 use Rattle.std.specs.Prelude.{ℕ, ◌+◌, List, [], ◌∷◌, ◌++◌, map, String}
 use Rattle.std.specs.Slice.Iter.{iter_rest}
 use Rattle.std.specs.declared.alloc.Global.{Global}

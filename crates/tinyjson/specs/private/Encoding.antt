@@ -16,7 +16,7 @@ use Rattle.tinyjson.specs.declared.generator.frames.Stack.{Stack}
 use Rattle.tinyjson.specs.declared.generator.encode.Encoder.{Encoder}
 use Rattle.tinyjson.specs.Indent.{indent_of}
 
--- the frames that don't fit in place stand in the vector
+-- the frames that don't fit in place are in the vector
 pub record IsStack (s : Stack) : Type 0 where
   pub near : length s.near ≡ 64
   pub far : length s.far.items ≡ s.depth - 64
@@ -49,7 +49,7 @@ module _ (w : Option (List ℕ)) where
   unwritten [] gs = []
   unwritten (f ∷ fs) gs = frame_text (length fs) f gs ++ unwritten fs (others f gs)
 
--- a container is begun: its bracket and what stands before it are sent, and the frame is what is left of it
+-- a container is begun: its bracket and what comes before it are sent, and the frame is what is left of it
 pub record Opened (w : Option (List ℕ)) (k : ℕ) (old new : Output) (bytes : List ℕ) (gs : List Gathered) (f : Frame)
     (hs : List Gathered) : Type 0 where
   pub written : Sent old new bytes (encode_utf8_all (frame_text w k f hs))

@@ -17,7 +17,7 @@ now_pair p = (p.0.now, p.1.now)
 abbrev pub listed_pair : Bor (String Global) × Bor JsonValue → List ℕ × JsonValue
 listed_pair p = (string_bytes p.0.now, p.1.now)
 
--- the members that the list has, as it stands
+-- the members of the list, in its order
 abbrev pub sorted_view : List (Bor (List ℕ) × Bor JsonValue) → Members
 sorted_view [] = no_members
 sorted_view (m ∷ ms) = member (chars m.0.now) (view m.1.now) (sorted_view ms)

@@ -1,4 +1,4 @@
--- What the parser's stack stands for, in the words of the machine. For private contracts.
+-- What the parser's stack represents, in the words of the machine. For private contracts.
 use Rattle.std.specs.Prelude.{◌≡◌, ℕ, suc, ◌+◌, ◌≤◌, List, [], ◌∷◌, ◌++◌, map, take, drop, reverse, length, String, ⊤}
 use Rattle.std.specs.declared.alloc.Global.{Global}
 use Rattle.tinyjson_grammar.specs.Tree.{Tree, Members, no_members, put}

@@ -12,12 +12,12 @@ use Rattle.tinyjson.specs.declared.value.JsonValue.{JsonValue}
 use Rattle.tinyjson_grammar.specs.declared.error.JsonParseErrorKind.{JsonParseErrorKind}
 use Rattle.tinyjson_grammar.specs.declared.error.JsonParseErrorKind.TheVariants.{OutOfMemory}
 
--- a whole text: its value, or an error where the source stands
+-- a whole text: its value, or an error at the place of the source
 abbrev pub ReadsText : {S : Type 0} → Sight S → Option ℕ → S → Result JsonValue JsonParseError → S → Type 0
 ReadsText sight limit p r q = MatchResult r (λ v. Leads sight limit p (next [] awaited) q (next [] (finished (view v))))
     (λ e. (error_position e ≡ sight.place q) × Refuses sight limit p (next [] awaited) e.kind q)
 
--- a whole text: it has a tree, or an error where the source stands
+-- a whole text: it has a tree, or an error at the place of the source
 abbrev pub FindsText : {S T : Type 0} → Sight S → Option ℕ → S → Result T JsonParseError → S → Type 0
 FindsText sight limit p r q = MatchResult r (λ _. (t : Tree) × Leads sight limit p (next [] awaited) q (next [] (finished t)))
     (λ e. (error_position e ≡ sight.place q) × Refuses sight limit p (next [] awaited) e.kind q)

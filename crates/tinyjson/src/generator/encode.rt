@@ -81,8 +81,7 @@ impl<'a> Encoder<'a> {
         }
     }
 
-    /// Writes all that is left of the container. A container that is opened meanwhile is finished before
-    /// the one that it stands in goes on.
+    /// Writes all that is left of the container. A container inside it is finished before it goes on.
     fn finish<W: Write>(&mut self, out: &mut W, frame: Frame<'a>) -> io::Result<()>
         ensures { SendsText W.contents out.old out.new self.old.buffer self.new.buffer
             (unwritten (indent_of self.old.indent) (frame.entry ∷ []) (gathered_in self.old))
@@ -211,7 +210,7 @@ impl<'a> Encoder<'a> {
         self.close(out, level, b"}")
     }
 
-    /// Writes the item, or how it begins, and what stands before it.
+    /// Writes what comes before the item, and the item or how it begins.
     fn item<W: Write>(
         &mut self,
         out: &mut W,
@@ -228,7 +227,7 @@ impl<'a> Encoder<'a> {
         self.begin(out, value)
     }
 
-    /// Writes the member, or its key and how its value begins, and what stands before it.
+    /// Writes what comes before the member, its key, and its value or how that begins.
     fn member<W: Write>(
         &mut self,
         out: &mut W,
@@ -253,7 +252,7 @@ impl<'a> Encoder<'a> {
         self.begin(out, value)
     }
 
-    /// Writes the bracket of a container whose items stand at the level.
+    /// Writes the closing bracket of a container whose items are at this level.
     #[inline(always)]
     fn close<W: Write>(&mut self, out: &mut W, level: usize, bracket: &[u8]) -> io::Result<()>
         requires { 0 < level }
@@ -266,8 +265,8 @@ impl<'a> Encoder<'a> {
         write_bytes(out, &mut self.buffer, bracket)
     }
 
-    /// Writes a value that holds no other. Of others it writes the opening bracket and what fits at
-    /// once, and returns what is left of them then.
+    /// Writes a scalar or an empty container. Of another container it writes the opening bracket and what
+    /// fits at once, and returns what is left of it.
     #[inline(always)]
     fn begin<W: Write>(
         &mut self,
@@ -306,8 +305,8 @@ impl<'a> Encoder<'a> {
         }
     }
 
-    /// Writes the opening bracket and, in compact text, the items at the front that hold no others,
-    /// as far as they fit. Returns what is left of the array then, and `None` where it is complete.
+    /// Writes the opening bracket and, in compact text, the scalars and empty containers at the front, as
+    /// far as they fit. Returns what is left of the array, and `None` where it is complete.
     fn begin_array<W: Write>(
         &mut self,
         out: &mut W,
@@ -329,8 +328,8 @@ impl<'a> Encoder<'a> {
         Ok(Some(Frame::Items { rest, first }))
     }
 
-    /// Writes the opening brace and, in compact text, the members at the front that hold no others, as far
-    /// as they fit. Members are put in order first; one alone needs no order, and so no memory.
+    /// Writes the opening brace and, in compact text, the members at the front whose values are scalars or
+    /// empty containers, as far as they fit. Members are put in order first; one alone needs no memory.
     fn begin_object<W: Write>(
         &mut self,
         out: &mut W,
@@ -368,8 +367,8 @@ impl<'a> Encoder<'a> {
         Ok(Some(Frame::Member { key, value }))
     }
 
-    /// Writes, in compact text, the items at the front that hold no others, as far as they fit.
-    /// Returns the items that are left, and whether none stands before them.
+    /// Writes, in compact text, the scalars and empty containers at the front, as far as they fit.
+    /// Returns the items that are left, and whether none was before them.
     #[inline(always)]
     fn run_of_items(&mut self, items: &'a [JsonValue], first: bool) -> (&'a [JsonValue], bool)
         ensures buffers { (k : ℕ) → Buffers (buffered self.old.buffer) (buffered self.new.buffer)
@@ -386,8 +385,8 @@ impl<'a> Encoder<'a> {
         }
     }
 
-    /// Writes, in compact text, those of so many gathered members that come first and hold no others, as
-    /// far as they fit. Returns how many are left, and whether none stands before them.
+    /// Writes, in compact text, the first of `left` gathered members whose values are scalars or empty
+    /// containers, as far as they fit. Returns how many are left, and whether none was before them.
     #[inline(always)]
     fn run_of_members(&mut self, left: usize, first: bool, flat: bool) -> (usize, bool)
         ensures buffers { (k : ℕ) → Buffers (buffered self.old.buffer) (buffered self.new.buffer)
@@ -406,7 +405,7 @@ impl<'a> Encoder<'a> {
         }
     }
 
-    /// Writes what stands before an item or a member.
+    /// Writes what comes before an item or a member: the comma, and the line and its indent.
     #[inline(always)]
     fn separate<W: Write>(&mut self, out: &mut W, level: usize, first: bool) -> io::Result<()>
         ensures sent { SendsText W.contents out.old out.new self.old.buffer self.new.buffer

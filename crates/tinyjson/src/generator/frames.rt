@@ -5,18 +5,18 @@ ghost use Rattle.tinyjson.specs.private.Encoding.{IsStack, frames};
 use crate::value::JsonValue;
 use std::alloc::{AllocError, Global};
 
-/// What an open container has still to write before its closing bracket. `first` says that nothing
-/// of it is written yet.
+/// What an open container has still to write before its closing bracket. With `first` nothing of it is
+/// written yet.
 #[derive(Clone, Copy, Drop)]
 pub(super) enum Frame<'a> {
     Items { rest: &'a [JsonValue], first: bool },
     /// The one member of an object that has no other.
     Member { key: &'a str, value: &'a JsonValue },
-    /// That many of the gathered members.
+    /// The first `left` of the gathered members.
     Members { left: usize, first: bool },
 }
 
-/// How many frames stand in place.
+/// How many frames are kept in place.
 const NEAR: usize = 64;
 
 /// The open containers, the innermost last. The first 64 take no memory.

@@ -1,4 +1,4 @@
-//! Values that hold no other, which are buffered in full, or not at all.
+//! Scalars and empty containers, which are buffered in full, or not at all.
 ghost use Rattle.std.specs.Prelude.{◌≡◌, ◌≤◌, ◌++◌, ◌∷◌, ℕ, List, Option, None, IsTrue, length};
 ghost use Rattle.std.specs.Prelude.{take, drop, reverse};
 ghost use Rattle.std.specs.Bool.{MatchBool};
@@ -13,7 +13,7 @@ use super::sorted::{first_member, next_member};
 use crate::value::{JsonValue, holds_others};
 use tinyjson_output::{Buffer, quick_key, quick_number, quick_text, quick_word};
 
-/// Appends the text of a value that holds no other to the buffer if it fits, and returns whether it did.
+/// Appends the text of a scalar or an empty container to the buffer if it fits, and returns whether it did.
 #[inline(always)]
 pub(super) fn quick_value(buffer: &mut Buffer, value: &JsonValue) -> bool
     ensures { (w : Option (List ℕ)) (k : ℕ) → MatchBool result
@@ -31,8 +31,8 @@ pub(super) fn quick_value(buffer: &mut Buffer, value: &JsonValue) -> bool
     }
 }
 
-/// The items at the front that hold no others, in compact text, as far as they fit. Returns the
-/// items that are left, and whether none stands before them.
+/// Buffers, in compact text, the scalars and empty containers at the front, as far as they fit. Returns the
+/// items that are left, and whether none was before them.
 #[inline(always)]
 pub(super) fn quick_items<'a>(
     buffer: &mut Buffer,
@@ -79,8 +79,8 @@ fn quick_item(buffer: &mut Buffer, first: bool, item: &JsonValue) -> bool
     false
 }
 
-/// The next members of an object, as far as they hold no others and fit, in compact text; their values may
-/// be known to hold no others. Returns how many are left, and whether none stands before them.
+/// Buffers, in compact text, the next members whose values are scalars or empty containers, as far as they
+/// fit. With `flat` all values are known to be such. Returns how many are left, and whether none was before.
 #[inline(always)]
 pub(super) fn quick_members<'a>(
     buffer: &mut Buffer,
@@ -111,8 +111,8 @@ pub(super) fn quick_members<'a>(
     (left, first)
 }
 
-/// Appends a member whose value holds no other to the buffer, with a comma before all but the first, if it
-/// fits, and returns whether it did.
+/// Appends a member whose value is a scalar or an empty container to the buffer, with a comma before all but
+/// the first, if it fits, and returns whether it did.
 #[inline(always)]
 pub(super) fn quick_member(
     buffer: &mut Buffer,

@@ -1,4 +1,4 @@
-//! A text checked, with nothing built.
+//! A text checked without building a value.
 ghost use Rattle.std.specs.Prelude.{◌≡◌, [], IfErr, None, OnOk, ⊤};
 ghost use Rattle.tinyjson_grammar.specs.Machine.{awaited, next};
 ghost use Rattle.tinyjson_grammar.specs.declared.error.JsonParseErrorKind.TheVariants.{OutOfMemory};
@@ -63,8 +63,8 @@ impl Events for Nothing {
 }
 
 impl<S: Tokens> Reader<S> {
-    /// Reads a whole text and builds nothing; an error says where the source stands. A literal alone
-    /// takes no memory.
+    /// Reads a whole text without building a value. An error has the place that was reached. A literal
+    /// alone takes no memory.
     pub(super) fn check(&mut self, limit: Option<usize>) -> Result<(), JsonParseError>
         ensures reads { FindsText S.sight limit self.old.tokens.source result
             self.new.tokens.source }

@@ -151,8 +151,8 @@ impl<E: Events> Events for Box<E> {
 }
 
 impl<S: Tokens> Reader<S> {
-    /// Reads a whole text into events, which it gives back; an error says where the source stands. For a
-    /// literal alone it is out of memory only where its event was refused.
+    /// Reads a whole text into events, which it returns, beside an error too. An error has the place that
+    /// was reached. For a literal alone it is out of memory only where its event was refused.
     pub(super) fn told<E: Events>(
         &mut self,
         limit: Option<usize>,

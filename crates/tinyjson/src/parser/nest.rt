@@ -35,7 +35,7 @@ pub(super) enum Awaited {
 pub(super) enum Progress {
     /// A value is awaited.
     Awaits,
-    /// A value is complete, and stands where it belongs.
+    /// A value is complete, and was put where it belongs.
     Complete,
 }
 
@@ -155,7 +155,8 @@ impl<E: Events> Nest<E> {
     pub(super) fn close_array(&mut self) -> Result<Progress, JsonParseErrorKind>
         requires { (ts : List Tree) × (fs : List Frame) ×
             E.holds self.old.events (in_array ts ∷ fs) }
-        ensures joins { (ts : List Tree) (fs : List Frame) → IsWithin E.holds self.old (in_array ts) fs →
+        ensures joins { (ts : List Tree) (fs : List Frame) →
+            IsWithin E.holds self.old (in_array ts) fs →
             Joins E.holds E.is (complete true fs (array (items_of ts)) true) result self.new }
         ensures kept { KeepsEvents result self.old self.new }
     {
@@ -168,7 +169,8 @@ impl<E: Events> Nest<E> {
     #[inline(always)]
     pub(super) fn close_object(&mut self) -> Result<Progress, JsonParseErrorKind>
         requires { (ms : Members) × (fs : List Frame) × E.holds self.old.events (at_key ms ∷ fs) }
-        ensures joins { (ms : Members) (fs : List Frame) → IsWithin E.holds self.old (at_key ms) fs →
+        ensures joins { (ms : Members) (fs : List Frame) →
+            IsWithin E.holds self.old (at_key ms) fs →
             Joins E.holds E.is (complete true fs (object ms) true) result self.new }
         ensures kept { KeepsEvents result self.old self.new }
     {

@@ -33,7 +33,7 @@ struct Place {
     keys: usize,
 }
 
-/// At most this many members of an object stand on the stack before they are put into its map.
+/// The members of an object that are on the stack at most, before they are put into its map.
 const MANY: usize = 64;
 
 /// The values and the keys that were read in open containers, and where those of each container begin, the
@@ -394,7 +394,7 @@ impl Stack {
 }
 
 impl<S: Tokens> Reader<S> {
-    /// Reads a whole text; an error says where the source stands. What it gives up is freed by a
+    /// Reads a whole text. An error has the place that was reached. What is not returned is freed by a
     /// loop. A literal alone takes no memory.
     pub(super) fn text(&mut self, limit: Option<usize>) -> Result<JsonValue, JsonParseError>
         ensures reads { ReadsText S.sight limit self.old.tokens.source result

@@ -14,8 +14,7 @@ use std::collections::HashMap;
 
 /// A type that sees a part of some values, for [`JsonValue::get`].
 ///
-/// `part` says which part that is, as a function of the value alone; most types see the content of
-/// one variant.
+/// `part` is that part, as a function of the value alone. Most types see the content of one variant.
 ///
 /// ```
 /// let value = JsonValue::Boolean(true);
@@ -34,7 +33,7 @@ pub trait InnerAsRef {
 
 /// A type that sees a part of some values for writing, for [`JsonValue::get_mut`].
 ///
-/// `part` says which part that is, and `put` what the value is once that part was written. Where
+/// `part` is that part, and `put` is the value once that part was written. Where
 /// there is a part, the part of what was put is what was put, and putting back the part changes
 /// nothing.
 ///
@@ -92,7 +91,7 @@ impl JsonValue {
     ///
     /// Where the write is to be proved, take this and not a `match` on a `&mut JsonValue`: after it
     /// the value is plainly `Object`, `Array` or the like of what was written, and a call on a part
-    /// of a part, as below, says of the whole what its own contract says of the part.
+    /// of a part, as below, gives of the whole what its own contract gives of the part.
     ///
     /// ```
     /// let mut value = JsonValue::from_str(alloc, "[1, 2, 3]")?;

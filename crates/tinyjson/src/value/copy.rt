@@ -88,7 +88,7 @@ fn copy<'v>(
     }
 }
 
-/// Copies a value that holds no other.
+/// Copies a scalar, or returns the content of a container.
 fn begin<'v>(value: &'v JsonValue, alloc: Global) -> Result<Step<'v>, AllocError>
     ensures view { IfOk result (λ s. step_view s ≡ view value.now) }
     ensures left { IfOk result (λ s. step_weight s ≤ weight value.now) }

@@ -22,8 +22,8 @@ impl JsonValue {
 /// How many levels are freed by a recursion.
 const NEAR: usize = 64;
 
-/// Frees so many levels by a recursion, and deeper ones by a loop. A container whose values hold no
-/// others is freed whole.
+/// Frees up to `levels` nested levels by a recursion, and deeper ones by a loop. A container whose values
+/// are scalars or empty containers is freed whole.
 fn dismantle_near(value: JsonValue, levels: usize) {
     let Some(levels) = levels.checked_sub(1) else {
         return dismantle_all(value);

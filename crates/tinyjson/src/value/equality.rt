@@ -121,7 +121,7 @@ fn compare_objects<'v>(
     Compared::Inside(Rest::Members(a.iter(), b))
 }
 
-/// Goes on up to two containers that stand at one place.
+/// Compares up to the next two containers that are at the same place.
 fn next(rest: Rest<'_>) -> Step<'_>
     ensures same { step_eq result ≡ rest_eq rest.entry }
     ensures left { step_weight result < rest_weight rest.entry }
@@ -173,7 +173,7 @@ fn next_members<'v>(
     Step::Known(true)
 }
 
-/// Compares so many levels by a recursion, and deeper ones by a loop.
+/// Compares up to `levels` nested levels by a recursion, and deeper ones by a loop.
 fn compare_near(rest: Rest<'_>, levels: usize, alloc: Global) -> bool
     ensures { result ≡ rest_eq rest.entry }
 {

@@ -41,7 +41,9 @@ returns-in-None-clause-reads g c = λ limit ts fs h.
     c.in-None.ensures.shows (end_after limit _) tt)
 
 pub returns-in-Some-eq93-clause-some : goal.returns-in-Some-eq93-clause-some
-returns-in-Some-eq93-clause-some g c = left_kept g.E.Events.holds g.E.Events.is _ c.args.nest.now c.close_array.new.self (inl (in_array c.requires.open.0 ∷ c.requires.open.1, c.requires.open.2.0)) c.close_array.ensures.kept
+returns-in-Some-eq93-clause-some g c =
+    left_kept g.E.Events.holds g.E.Events.is _ c.args.nest.now c.close_array.new.self
+    (inl (in_array c.requires.open.0 ∷ c.requires.open.1, c.requires.open.2.0)) c.close_array.ensures.kept
 
 pub returns-in-Some-clause-some : goal.returns-in-Some-clause-some
 returns-in-Some-clause-some g c = λ n. inl (in_array c.requires.open.0 ∷ c.requires.open.1, c.requires.open.2.0)

@@ -41,7 +41,9 @@ returns-in-None-clause-reads g c = λ limit ms fs h.
     c.in-None.ensures.shows (end_after limit _) tt)
 
 pub returns-in-Some-eq125-clause-some : goal.returns-in-Some-eq125-clause-some
-returns-in-Some-eq125-clause-some g c = left_kept g.E.Events.holds g.E.Events.is _ c.args.nest.now c.close_object.new.self (inl (at_key c.requires.within.0 ∷ c.requires.within.1, c.requires.within.2.0)) c.close_object.ensures.kept
+returns-in-Some-eq125-clause-some g c =
+    left_kept g.E.Events.holds g.E.Events.is _ c.args.nest.now c.close_object.new.self
+    (inl (at_key c.requires.within.0 ∷ c.requires.within.1, c.requires.within.2.0)) c.close_object.ensures.kept
 
 pub returns-in-Some-clause-some : goal.returns-in-Some-clause-some
 returns-in-Some-clause-some g c = λ n. inl (at_key c.requires.within.0 ∷ c.requires.within.1, c.requires.within.2.0)

@@ -63,7 +63,9 @@ pub returns-then-not-fits-clause-some : goal.returns-then-not-fits-clause-some
 returns-then-not-fits-clause-some g c = λ n. inl (c.requires.open.0, c.requires.open.1.0)
 
 pub returns-in-Some-eq93-clause-some : goal.returns-in-Some-eq93-clause-some
-returns-in-Some-eq93-clause-some g c = left_kept g.E.Events.holds g.E.Events.is _ c.args.nest.now c.empty_array.new.self (inl (c.requires.open.0, c.requires.open.1.0)) c.empty_array.ensures.kept
+returns-in-Some-eq93-clause-some g c =
+    left_kept g.E.Events.holds g.E.Events.is _ c.args.nest.now c.empty_array.new.self
+    (inl (c.requires.open.0, c.requires.open.1.0)) c.empty_array.ensures.kept
 
 pub returns-then-is_err-clause-some : goal.returns-then-is_err-clause-some
 returns-then-is_err-clause-some g c = λ n. absurd (n refl)

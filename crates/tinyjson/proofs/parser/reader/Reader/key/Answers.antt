@@ -32,4 +32,5 @@ returns-in_default-2-clause-reads g c = λ limit ms fs h.
     (Leads_whites g.S.Source.sight limit _ _ _ c.skip_white.ensures.white tt (white_awaited limit _)) h
 
 pub returns-in_err-lent-in-Some-eq34-clause-some : goal.returns-in_err-lent-in-Some-eq34-clause-some
-returns-in_err-lent-in-Some-eq34-clause-some g c = left_open g.E.Events.holds g.E.Events.is _ c.args.nest.now (at_key c.requires.open.0 ∷ c.requires.open.1) c.requires.open.2
+returns-in_err-lent-in-Some-eq34-clause-some g c =
+    left_open g.E.Events.holds g.E.Events.is _ c.args.nest.now (at_key c.requires.open.0 ∷ c.requires.open.1) c.requires.open.2

@@ -28,4 +28,5 @@ pub returns-in_err-lent-clause-some : goal.returns-in_err-lent-clause-some
 returns-in_err-lent-clause-some g c = left_open g.E.Events.holds g.E.Events.is _ c.args.nest.now c.requires.open.0 c.requires.open.1
 
 pub returns-clause-some : goal.returns-clause-some
-returns-clause-some g c = left_kept g.E.Events.holds g.E.Events.is _ c.args.nest.now c.string-2.new.self (inl (c.requires.open.0, c.requires.open.1.0)) c.string-2.ensures.kept
+returns-clause-some g c = left_kept g.E.Events.holds g.E.Events.is _ c.args.nest.now c.string-2.new.self
+    (inl (c.requires.open.0, c.requires.open.1.0)) c.string-2.ensures.kept

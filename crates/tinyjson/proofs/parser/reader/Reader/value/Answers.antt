@@ -43,10 +43,14 @@ pub returns-in-123-clause-memory : goal.returns-in-123-clause-memory
 returns-in-123-clause-memory g c = λ _. grows_for c.args.first c.object.result (rw c.in-123.is refl)
 
 pub returns-in-n-clause-some : goal.returns-in-n-clause-some
-returns-in-n-clause-some g c = left_kept g.E.Events.holds g.E.Events.is _ c.args.nest.now c.literal.new.nest (inl (c.requires.open.0, c.requires.open.1.0)) c.literal.ensures.kept
+returns-in-n-clause-some g c =
+    left_kept g.E.Events.holds g.E.Events.is _ c.args.nest.now c.literal.new.nest
+    (inl (c.requires.open.0, c.requires.open.1.0)) c.literal.ensures.kept
 
 pub returns-in_default-clause-some : goal.returns-in_default-clause-some
-returns-in_default-clause-some g c = left_kept g.E.Events.holds g.E.Events.is _ c.args.nest.now c.number.new.nest (inl (c.requires.open.0, c.requires.open.1.0)) c.number.ensures.kept
+returns-in_default-clause-some g c =
+    left_kept g.E.Events.holds g.E.Events.is _ c.args.nest.now c.number.new.nest
+    (inl (c.requires.open.0, c.requires.open.1.0)) c.number.ensures.kept
 
 pub returns-in_default-2-clause-some : goal.returns-in_default-2-clause-some
 returns-in_default-2-clause-some g c = λ n. inl (c.requires.open.0, c.requires.open.1.0)
