@@ -34,9 +34,9 @@ impl Record {
 }
 
 impl Events for Record {
-    ghost holds = { λ _ _. ⊤ };
+    ghost holds = { λ _ _ _. ⊤ };
 
-    ghost is = { λ _ _. ⊤ };
+    ghost is = { λ _ _ _. ⊤ };
 
     fn open_array(&mut self) -> Result<(), AllocError> {
         self.tell("[")

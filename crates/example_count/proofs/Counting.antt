@@ -1,13 +1,14 @@
 -- A value that is complete is counted where it belongs.
-use Rattle.std.proofs.Common.{◌≡◌, ℕ, ◌+◌, ◌≤◌, List, [], ◌∷◌, ◌++◌, Ordering, Less, Equal, Greater, Result, Ok, Err, OnOk, arith}
-use Rattle.example_count.specs.Counts.{AtLeast, count, counted, items_count, members_count, one, open_count}
+use Rattle.std.proofs.Common.{◌≡◌, ℕ, ◌+◌, ◌≤◌, List, [], ◌∷◌, ◌++◌, Ordering, Less, Equal, Greater, Result, Ok, Err, OnOk, Option, arith}
+use Rattle.example_count.specs.Counts.{Adds, AtLeast, count, counted, items_count, members_count, one, open_count}
 use Rattle.example_count.specs.declared.counts.Counts.{Counts}
-use Rattle.tinyjson.specs.Events.{Open, in_array, at_key, at_value, Puts}
+use Rattle.tinyjson.specs.Events.{Open, in_array, at_key, at_value, Puts, TellsText}
 use Rattle.tinyjson.specs.Tree.{Tree, Members, items_of, no_members, member, put, put_at, key_cmp}
 use Rattle.tinyjson.specs.JsonKind.{JsonKind}
+use Rattle.tinyjson.specs.declared.parser.error.JsonParseError.{JsonParseError}
 
-abbrev pub Holds : Counts → List Open → Type 0
-Holds e os = (k : JsonKind) → open_count k os ≤ counted e k
+abbrev pub Holds : Counts → Counts → List Open → Type 0
+Holds s e os = (k : JsonKind) → counted s k + open_count k os ≤ counted e k
 
 -- an item more
 items_appended : (k : JsonKind) (ts : List Tree) (t : Tree)
@@ -27,16 +28,37 @@ members_put k l t (member m u ms) = by (key_cmp l m) (put l t ms) (members_put k
     by Greater more h = omega (arith, h)
 
 -- a value that is complete, beside what is open
-pub puts_counted : (e : Counts) (os : List Open) (t : Tree) → ((k : JsonKind) → count k t + open_count k os ≤ counted e k)
-    → Puts Holds AtLeast os t e
-puts_counted e [] t h = λ k. omega (arith, h k)
-puts_counted e (in_array ts ∷ os) t h = λ k. omega (arith, h k, items_appended k ts t)
-puts_counted e (at_key ms ∷ os) t h = tt
-puts_counted e (at_value ms l ∷ os) t h = λ k. omega (arith, h k, members_put k l t ms)
+pub puts_counted : (s e : Counts) (os : List Open) (t : Tree)
+    → ((k : JsonKind) → counted s k + (count k t + open_count k os) ≤ counted e k)
+    → Puts (Holds s) (Adds s) os t e
+puts_counted s e [] t h = λ k. omega (arith, h k)
+puts_counted s e (in_array ts ∷ os) t h = λ k. omega (arith, h k, items_appended k ts t)
+puts_counted s e (at_key ms ∷ os) t h = tt
+puts_counted s e (at_value ms l ∷ os) t h = λ k. omega (arith, h k, members_put k l t ms)
 
 -- one of the kind j is added
-pub added : {T X : Type 0} (r : Result T X) (old new : Counts) (os : List Open) (t : Tree) (j : JsonKind)
-    → ((k : JsonKind) → count k t ≡ one k j) → OnOk r ((k : JsonKind) → counted new k ≡ one k j + counted old k) → Holds old os
-    → OnOk r (Puts Holds AtLeast os t new)
-added (Ok v) old new os t j c n h = puts_counted new os t (λ k. omega (arith, c k, n k, h k))
-added (Err e) old new os t j c n h = tt
+pub added : {T X : Type 0} (s : Counts) (r : Result T X) (old new : Counts) (os : List Open) (t : Tree) (j : JsonKind)
+    → ((k : JsonKind) → count k t ≡ one k j) → OnOk r ((k : JsonKind) → counted new k ≡ one k j + counted old k) → Holds s old os
+    → OnOk r (Puts (Holds s) (Adds s) os t new)
+added s (Ok v) old new os t j c n h = puts_counted s new os t (λ k. omega (arith, c k, n k, h k))
+added s (Err e) old new os t j c n h = tt
+
+-- what is added to no counts
+pub from_none : (s : Counts) → ((k : JsonKind) → counted s k ≡ 0) → (limit : Option ℕ) (xs : List ℕ)
+    (r : Result Counts JsonParseError) → TellsText (Adds s) limit xs r → TellsText AtLeast limit xs r
+from_none s z limit xs (Ok e) h = record {
+  consumed = h.consumed;
+  rest = h.rest;
+  whole = h.whole;
+  answer = (h.answer.0, h.answer.1, h.answer.2, λ k. omega (arith, z k, h.answer.3 k));
+  refused = tt;
+  broken_off = tt;
+}
+from_none s z limit xs (Err e) h = record {
+  consumed = h.consumed;
+  rest = h.rest;
+  whole = h.whole;
+  answer = h.answer;
+  refused = h.refused;
+  broken_off = h.broken_off;
+}

@@ -48,6 +48,10 @@ counted e kind.Object = e.objects
 abbrev pub AtLeast : Counts → Tree → Type 0
 AtLeast e t = (k : JsonKind) → count k t ≤ counted e k
 
+-- each count has grown by at least that of the tree
+abbrev pub Adds : Counts → Counts → Tree → Type 0
+Adds s e t = (k : JsonKind) → counted s k + count k t ≤ counted e k
+
 -- the values in the open containers, and these containers
 abbrev pub open_count : JsonKind → List Open → ℕ
 open_count k [] = 0

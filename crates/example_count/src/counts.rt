@@ -3,7 +3,7 @@ ghost use Rattle.std.specs.Prelude.{◌≡◌, ◌+◌, None, IfOk, OnOk};
 ghost use Rattle.std.specs.Str.{chars};
 ghost use Rattle.tinyjson.specs.Events.{TellsText};
 ghost use Rattle.tinyjson.specs.JsonKind.{JsonKind};
-ghost use Rattle.example_count.specs.Counts.{AtLeast, counted, one};
+ghost use Rattle.example_count.specs.Counts.{Adds, AtLeast, counted, one};
 
 use std::alloc::{AllocError, Global};
 use tinyjson::{Events, JsonKind, JsonNumber, JsonParseError, read_events};
@@ -60,13 +60,13 @@ fn one_more(count: u64) -> Result<u64, AllocError>
 }
 
 impl Events for Counts {
-    ghost use Rattle.std.specs.Prelude.{◌≤◌, ℕ};
+    ghost use Rattle.std.specs.Prelude.{◌+◌, ◌≤◌, ℕ};
     ghost use Rattle.tinyjson.specs.JsonKind.{JsonKind};
-    ghost use Rattle.example_count.specs.Counts.{AtLeast, counted, open_count};
+    ghost use Rattle.example_count.specs.Counts.{Adds, counted, open_count};
 
-    ghost holds = { λ e os. (k : JsonKind) → open_count k os ≤ counted e k };
+    ghost holds = { λ s e os. (k : JsonKind) → counted s k + open_count k os ≤ counted e k };
 
-    ghost is = { λ e t. AtLeast e t };
+    ghost is = { Adds };
 
     fn open_array(&mut self) -> Result<(), AllocError> {
         self.add(JsonKind::Array)
@@ -114,7 +114,19 @@ impl Events for Counts {
 pub fn count_values(alloc: Global, text: &str) -> Result<Counts, JsonParseError>
     ensures { TellsText AtLeast None (chars text.now) result }
 {
-    match read_events(alloc, text, Counts::none()) {
+    add_values(alloc, text, Counts::none())
+}
+
+/// Adds to these counts how many values of each kind a text has, if it has a value.
+///
+/// ```
+/// let counts = add_values(alloc, "[true, 3]", count_values(alloc, "[1, 2]")?)?;
+/// assert_eq!(rt; counts.numbers, 3);
+/// ```
+pub fn add_values(alloc: Global, text: &str, counts: Counts) -> Result<Counts, JsonParseError>
+    ensures { TellsText (Adds counts) None (chars text.now) result }
+{
+    match read_events(alloc, text, counts) {
         Ok(counts) => Ok(counts),
         Err((error, _)) => Err(error),
     }

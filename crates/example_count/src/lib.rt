@@ -10,4 +10,4 @@ mod counts;
 #[cfg(test)]
 mod tests;
 
-pub use counts::{Counts, count_values};
+pub use counts::{Counts, add_values, count_values};

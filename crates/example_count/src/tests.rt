@@ -1,6 +1,6 @@
 //! What is counted, and nothing else.
 
-use crate::{Counts, count_values};
+use crate::{Counts, add_values, count_values};
 use std::alloc::{AllocError, Global};
 use std::test::Fail;
 use tinyjson::JsonParseErrorKind;
@@ -74,6 +74,9 @@ fn each_value_counts_once(rt: HostRuntime) -> Result<(), Fail> {
 
     let counts = count_values(alloc, "[1, 2, {\"a\": null}]")?;
     assert_eq!(rt; counts.numbers, 2);
+
+    let counts = add_values(alloc, "[true, 3]", count_values(alloc, "[1, 2]")?)?;
+    assert!(rt; in_order(&counts) == [0, 1, 3, 0, 2, 0]);
 
     let refused = count_values(alloc, "[1, 2,]");
     assert!(rt;

@@ -95,10 +95,10 @@ impl<W: Wanted> Events for Picking<W> {
     ghost use Rattle.tinyjson.specs.View.{members_view, text};
     ghost use Rattle.example_pick.specs.Picking.{Holds, members_of, Picks};
 
-    ghost holds = { λ e os. Holds W.is_wanted e.depth (option_map text e.key)
+    ghost holds = { λ _ e os. Holds W.is_wanted e.depth (option_map text e.key)
         (members_view e.members.entries) os };
 
-    ghost is = { λ e t. Picks W.is_wanted (members_of t) (members_view e.members.entries) };
+    ghost is = { λ _ e t. Picks W.is_wanted (members_of t) (members_view e.members.entries) };
 
     fn open_array(&mut self) -> Result<(), AllocError> {
         self.open()

@@ -150,10 +150,10 @@ impl<I: Iterator<Item = char>> JsonParser<I> {
     /// assert_eq!(rt; numbers.count, 2);
     /// ```
     pub fn parse_events<E: Events>(&mut self, events: E) -> Result<E, (JsonParseError, E)>
-        requires { E.holds events [] }
+        requires { E.holds events events [] }
         ensures parses { (xs : List ℕ) → Remains I.next_gives self.old xs →
-            TellsRest I.next_gives E.is self.old xs (without_events result) self.new }
-        ensures back { GivesBack E.holds E.is result }
+            TellsRest I.next_gives (E.is events) self.old xs (without_events result) self.new }
+        ensures back { GivesBack (E.holds events) (E.is events) result }
         ensures limit { self.new.limit ≡ self.old.limit }
     {
         self.reader.told(self.limit, events)
@@ -252,9 +252,9 @@ pub fn read_events<E: Events>(
     text: &str,
     events: E,
 ) -> Result<E, (JsonParseError, E)>
-    requires { E.holds events [] }
-    ensures tells { TellsText E.is None (chars text.now) (without_events result) }
-    ensures back { GivesBack E.holds E.is result }
+    requires { E.holds events events [] }
+    ensures tells { TellsText (E.is events) None (chars text.now) (without_events result) }
+    ensures back { GivesBack (E.holds events) (E.is events) result }
 {
     tell_text(alloc, text, None, events)
 }
@@ -274,9 +274,9 @@ pub fn read_events_with_depth_limit<E: Events>(
     limit: usize,
     events: E,
 ) -> Result<E, (JsonParseError, E)>
-    requires { E.holds events [] }
-    ensures tells { TellsText E.is (Some limit) (chars text.now) (without_events result) }
-    ensures back { GivesBack E.holds E.is result }
+    requires { E.holds events events [] }
+    ensures tells { TellsText (E.is events) (Some limit) (chars text.now) (without_events result) }
+    ensures back { GivesBack (E.holds events) (E.is events) result }
 {
     tell_text(alloc, text, Some(limit), events)
 }
@@ -288,9 +288,9 @@ fn tell_text<E: Events>(
     limit: Option<usize>,
     events: E,
 ) -> Result<E, (JsonParseError, E)>
-    requires { E.holds events [] }
-    ensures tells { TellsText E.is limit (chars text.now) (without_events result) }
-    ensures back { GivesBack E.holds E.is result }
+    requires { E.holds events events [] }
+    ensures tells { TellsText (E.is events) limit (chars text.now) (without_events result) }
+    ensures back { GivesBack (E.holds events) (E.is events) result }
 {
     Reader::new(alloc, TextBytes::new(text)).told(limit, events)
 }

@@ -78,9 +78,9 @@ impl Arena {
 impl Events for Arena {
     ghost use Rattle.tinyjson_document.specs.Holding.{Holds, IsTree};
 
-    ghost holds = { Holds };
+    ghost holds = { λ _. Holds };
 
-    ghost is = { IsTree };
+    ghost is = { λ _. IsTree };
 
     fn open_array(&mut self) -> Result<(), AllocError> {
         self.open.push(Place {

@@ -123,9 +123,9 @@ impl Compact {
 impl Events for Compact {
     ghost use Rattle.tinyjson_normal.specs.Compacting.{Holds, IsOf};
 
-    ghost holds = { Holds };
+    ghost holds = { λ _. Holds };
 
-    ghost is = { IsOf };
+    ghost is = { λ _. IsOf };
 
     fn open_array(&mut self) -> Result<(), AllocError> {
         self.text.push(b'[')?;

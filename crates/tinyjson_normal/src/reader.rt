@@ -140,8 +140,8 @@ fn read_into<E: Events>(
     limit: Option<usize>,
     events: E,
 ) -> Result<E, (JsonParseError, E)>
-    requires { E.holds events [] }
-    ensures { TellsText E.is limit (chars text.now) (without_events result) }
+    requires { E.holds events events [] }
+    ensures { TellsText (E.is events) limit (chars text.now) (without_events result) }
 {
     match limit {
         None => read_events(alloc, text, events),

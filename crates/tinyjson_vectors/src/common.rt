@@ -55,9 +55,9 @@ pub(crate) fn is_answer(told: Result<(), JsonParseError>, expected: Answer) -> b
 pub(crate) struct Forget;
 
 impl Events for Forget {
-    ghost holds = { λ _ _. ⊤ };
+    ghost holds = { λ _ _ _. ⊤ };
 
-    ghost is = { λ _ _. ⊤ };
+    ghost is = { λ _ _ _. ⊤ };
 
     fn open_array(&mut self) -> Result<(), AllocError> {
         Ok(())

@@ -14,9 +14,9 @@ struct Numbers {
 }
 
 impl Events for Numbers {
-    ghost holds = { λ _ _. ⊤ };
+    ghost holds = { λ _ _ _. ⊤ };
 
-    ghost is = { λ _ _. ⊤ };
+    ghost is = { λ _ _ _. ⊤ };
 
     fn open_array(&mut self) -> Result<(), AllocError> {
         Ok(())

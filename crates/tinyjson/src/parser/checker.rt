@@ -17,9 +17,9 @@ use tinyjson_tokens::Tokens;
 struct Nothing;
 
 impl Events for Nothing {
-    ghost holds = { λ b fs. ⊤ };
+    ghost holds = { λ s b fs. ⊤ };
 
-    ghost is = { λ b t. ⊤ };
+    ghost is = { λ s b t. ⊤ };
 
     #[inline(always)]
     fn open_array(&mut self) -> Result<(), AllocError> {

@@ -22,9 +22,10 @@ use tinyjson_tokens::Tokens;
 /// What a text is read into, event by event, by [`read_events`](crate::read_events) or
 /// [`JsonParser::parse_events`](crate::JsonParser::parse_events), without building a value.
 ///
-/// `holds` relates it to the open containers, the innermost first, and `is` to the value, once all are
-/// closed: what is proved of each event is so proved of the text. An event that returns an error ends the
-/// reading, with out of memory. Of what an event left that returned an error nothing is known. A key or a
+/// `holds start now` is what the events hold of the open containers, the innermost first, and `is start now`
+/// of the value, once all are closed. Here `start` is the events that were given to the reading, as a counter
+/// that is not at 0. What is proved of each event is so proved of the text. An event that returns an error ends
+/// the reading, with out of memory. Of what an event left that returned an error nothing is known. A key or a
 /// string is lent for the call, so what keeps it makes a copy.
 ///
 /// ```
@@ -34,27 +35,29 @@ use tinyjson_tokens::Tokens;
 /// }
 /// ```
 pub trait Events: Drop {
-    ghost holds: { Self → List Open → Type 0 };
+    ghost holds: { Self → Self → List Open → Type 0 };
 
-    ghost is: { Self → Tree → Type 0 };
+    ghost is: { Self → Self → Tree → Type 0 };
 
     /// An array is opened.
     fn open_array(&mut self) -> Result<(), AllocError>
-        ensures { (os : List Open) → holds self.old os →
-            OnOk result (holds self.new (in_array [] ∷ os)) };
+        ensures { (start : Self) (os : List Open) → holds start self.old os →
+            OnOk result (holds start self.new (in_array [] ∷ os)) };
 
     /// The innermost container, an array, is closed.
     fn close_array(&mut self) -> Result<(), AllocError>
-        requires { (ts : List Tree) × (os : List Open) × holds self.old (in_array ts ∷ os) }
-        ensures { (ts : List Tree) (os : List Open) → holds self.old (in_array ts ∷ os) →
-            OnOk result (Puts holds is os (array (items_of ts)) self.new) };
+        requires { (start : Self) × (ts : List Tree) × (os : List Open) ×
+            holds start self.old (in_array ts ∷ os) }
+        ensures { (start : Self) (ts : List Tree) (os : List Open) →
+            holds start self.old (in_array ts ∷ os) →
+            OnOk result (Puts (holds start) (is start) os (array (items_of ts)) self.new) };
 
     /// An array that has no items: opened and closed.
     #[inline(always)]
     fn empty_array(&mut self) -> Result<(), AllocError>
-        requires { (os : List Open) × holds self.old os }
-        ensures { (os : List Open) → holds self.old os →
-            OnOk result (Puts holds is os (array (items_of [])) self.new) }
+        requires { (start : Self) × (os : List Open) × holds start self.old os }
+        ensures { (start : Self) (os : List Open) → holds start self.old os →
+            OnOk result (Puts (holds start) (is start) os (array (items_of [])) self.new) }
     {
         self.open_array()?;
         self.close_array()
@@ -62,21 +65,23 @@ pub trait Events: Drop {
 
     /// An object is opened.
     fn open_object(&mut self) -> Result<(), AllocError>
-        ensures { (os : List Open) → holds self.old os →
-            OnOk result (holds self.new (at_key no_members ∷ os)) };
+        ensures { (start : Self) (os : List Open) → holds start self.old os →
+            OnOk result (holds start self.new (at_key no_members ∷ os)) };
 
     /// The innermost container, an object, is closed.
     fn close_object(&mut self) -> Result<(), AllocError>
-        requires { (ms : Members) × (os : List Open) × holds self.old (at_key ms ∷ os) }
-        ensures { (ms : Members) (os : List Open) → holds self.old (at_key ms ∷ os) →
-            OnOk result (Puts holds is os (object ms) self.new) };
+        requires { (start : Self) × (ms : Members) × (os : List Open) ×
+            holds start self.old (at_key ms ∷ os) }
+        ensures { (start : Self) (ms : Members) (os : List Open) →
+            holds start self.old (at_key ms ∷ os) →
+            OnOk result (Puts (holds start) (is start) os (object ms) self.new) };
 
     /// An object that has no members: opened and closed.
     #[inline(always)]
     fn empty_object(&mut self) -> Result<(), AllocError>
-        requires { (os : List Open) × holds self.old os }
-        ensures { (os : List Open) → holds self.old os →
-            OnOk result (Puts holds is os (object no_members) self.new) }
+        requires { (start : Self) × (os : List Open) × holds start self.old os }
+        ensures { (start : Self) (os : List Open) → holds start self.old os →
+            OnOk result (Puts (holds start) (is start) os (object no_members) self.new) }
     {
         self.open_object()?;
         self.close_object()
@@ -84,30 +89,32 @@ pub trait Events: Drop {
 
     /// The innermost container, an object, is given a key.
     fn key(&mut self, key: &str) -> Result<(), AllocError>
-        requires { (ms : Members) × (os : List Open) × holds self.old (at_key ms ∷ os) }
-        ensures { (ms : Members) (os : List Open) → holds self.old (at_key ms ∷ os) →
-            OnOk result (holds self.new (at_value ms (chars key.now) ∷ os)) };
+        requires { (start : Self) × (ms : Members) × (os : List Open) ×
+            holds start self.old (at_key ms ∷ os) }
+        ensures { (start : Self) (ms : Members) (os : List Open) →
+            holds start self.old (at_key ms ∷ os) →
+            OnOk result (holds start self.new (at_value ms (chars key.now) ∷ os)) };
 
     /// A string is complete.
     fn string(&mut self, value: &str) -> Result<(), AllocError>
-        ensures { (os : List Open) → holds self.old os →
-            OnOk result (Puts holds is os (string (chars value.now)) self.new) };
+        ensures { (start : Self) (os : List Open) → holds start self.old os →
+            OnOk result (Puts (holds start) (is start) os (string (chars value.now)) self.new) };
 
     /// A number is complete.
     fn number(&mut self, value: JsonNumber) -> Result<(), AllocError>
-        ensures { (os : List Open) → holds self.old os →
-            OnOk result (Puts holds is os (number value.decimal) self.new) };
+        ensures { (start : Self) (os : List Open) → holds start self.old os →
+            OnOk result (Puts (holds start) (is start) os (number value.decimal) self.new) };
 
     /// A boolean is complete, or `null`.
     fn literal(&mut self, value: Option<bool>) -> Result<(), AllocError>
-        ensures { (os : List Open) → holds self.old os →
-            OnOk result (Puts holds is os (literal_tree value) self.new) };
+        ensures { (start : Self) (os : List Open) → holds start self.old os →
+            OnOk result (Puts (holds start) (is start) os (literal_tree value) self.new) };
 }
 
 impl<E: Events> Events for Box<E> {
-    ghost holds = { λ b os. E.holds b.value os };
+    ghost holds = { λ s b os. E.holds s.value b.value os };
 
-    ghost is = { λ b t. E.is b.value t };
+    ghost is = { λ s b t. E.is s.value b.value t };
 
     fn open_array(&mut self) -> Result<(), AllocError> {
         E::open_array(&mut **self)
@@ -158,13 +165,13 @@ impl<S: Tokens> Reader<S> {
         limit: Option<usize>,
         events: E,
     ) -> Result<E, (JsonParseError, E)>
-        requires { E.holds events [] }
-        ensures reads { TellsAll E.is S.sight limit self.old.tokens.source result
+        requires { E.holds events events [] }
+        ensures reads { TellsAll (E.is events) S.sight limit self.old.tokens.source result
             self.new.tokens.source }
         ensures end { OnOk result (S.sight.shows self.new.tokens.source None) }
         ensures memory { IfErr result (λ w.
             w.0.kind ≡ OutOfMemory → Meets S.sight self.old.tokens.source) }
-        ensures back { GivesBack E.holds E.is result }
+        ensures back { GivesBack (E.holds events) (E.is events) result }
     {
         match self.tell(limit, events) {
             Ok(events) => Ok(events),
@@ -181,13 +188,14 @@ impl<S: Tokens> Reader<S> {
         limit: Option<usize>,
         events: E,
     ) -> Result<E, (JsonParseErrorKind, E)>
-        requires { E.holds events [] }
-        ensures reads { Tells E.is S.sight limit self.old.tokens.source (next [] awaited) result
-            self.new.tokens.source }
+        requires { E.holds events events [] }
+        ensures reads { Tells (E.is events) S.sight limit self.old.tokens.source
+            (next [] awaited) result self.new.tokens.source }
         ensures end { OnOk result (S.sight.shows self.new.tokens.source None) }
         ensures memory { IfErr result (λ w.
             w.0 ≡ OutOfMemory → Meets S.sight self.old.tokens.source) }
-        ensures some { IfErr result (λ w. ¬ (w.0 ≡ OutOfMemory) → HoldsSome E.holds E.is w.1) }
+        ensures some { IfErr result (λ w. ¬ (w.0 ≡ OutOfMemory) →
+            HoldsSome (E.holds events) (E.is events) w.1) }
     {
         match self.tokens.skip_white() {
             Some(first @ ('n' | 't' | 'f')) => self.tell_literal(first, events),
@@ -204,11 +212,13 @@ impl<S: Tokens> Reader<S> {
     ) -> Result<E, (JsonParseErrorKind, E)>
         requires shown { S.sight.shows self.old.tokens.source (Some first) }
         requires begins { BeginsLiteral first }
-        requires holds { E.holds events [] }
-        ensures reads { (limit : Option ℕ) → Tells E.is S.sight limit self.old.tokens.source
+        requires holds { E.holds events events [] }
+        ensures reads { (limit : Option ℕ) →
+            Tells (E.is events) S.sight limit self.old.tokens.source
             (next [] awaited) result self.new.tokens.source }
         ensures end { OnOk result (S.sight.shows self.new.tokens.source None) }
-        ensures some { IfErr result (λ w. ¬ (w.0 ≡ OutOfMemory) → HoldsSome E.holds E.is w.1) }
+        ensures some { IfErr result (λ w. ¬ (w.0 ≡ OutOfMemory) →
+            HoldsSome (E.holds events) (E.is events) w.1) }
     {
         let mut events = events;
         let literal = match self.tokens.literal(first) {
@@ -234,12 +244,13 @@ impl<S: Tokens> Reader<S> {
         requires shown { S.sight.shows self.old.tokens.source (Some first) }
         requires no_white { is_white first ≡ false }
         requires no_literal { ¬ (BeginsLiteral first) }
-        requires holds { E.holds events [] }
-        ensures reads { Tells E.is S.sight limit self.old.tokens.source (next [] awaited) result
-            self.new.tokens.source }
+        requires holds { E.holds events events [] }
+        ensures reads { Tells (E.is events) S.sight limit self.old.tokens.source
+            (next [] awaited) result self.new.tokens.source }
         ensures end { OnOk result (S.sight.shows self.new.tokens.source None) }
         ensures memory { IfErr result (λ w. w.0 ≡ OutOfMemory → IsTrue (begins_growth first)) }
-        ensures some { IfErr result (λ w. ¬ (w.0 ≡ OutOfMemory) → HoldsSome E.holds E.is w.1) }
+        ensures some { IfErr result (λ w. ¬ (w.0 ≡ OutOfMemory) →
+            HoldsSome (E.holds events) (E.is events) w.1) }
     {
         let mut nest = Nest::new(self.alloc, events);
         match self.build(limit, &mut nest, first) {

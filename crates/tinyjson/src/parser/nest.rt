@@ -110,8 +110,9 @@ impl<E: Events> Nest<E> {
     /// Lets the innermost container, an object after a member, await a key.
     #[inline(always)]
     pub(super) fn await_key(&mut self)
-        ensures { (ms : Members) (fs : List Frame) → IsWithin E.holds self.old (at_key ms) fs →
-            IsOpen E.holds self.new (at_key ms ∷ fs) }
+        ensures { (start : E) (ms : Members) (fs : List Frame) →
+            IsWithin (E.holds start) self.old (at_key ms) fs →
+            IsOpen (E.holds start) self.new (at_key ms ∷ fs) }
     {
         self.set_innermost(Awaited::Key);
     }
@@ -119,9 +120,11 @@ impl<E: Events> Nest<E> {
     /// Gives the innermost container, an object, a key.
     #[inline(always)]
     pub(super) fn key(&mut self, key: &str) -> Result<(), AllocError>
-        requires { (ms : Members) × (fs : List Frame) × E.holds self.old.events (at_key ms ∷ fs) }
-        ensures { (ms : Members) (fs : List Frame) → IsWithin E.holds self.old (at_key ms) fs →
-            OnOk result (IsOpen E.holds self.new (at_value ms (chars key.now) ∷ fs)) }
+        requires { (start : E) × (ms : Members) × (fs : List Frame) ×
+            E.holds start self.old.events (at_key ms ∷ fs) }
+        ensures { (start : E) (ms : Members) (fs : List Frame) →
+            IsWithin (E.holds start) self.old (at_key ms) fs →
+            OnOk result (IsOpen (E.holds start) self.new (at_value ms (chars key.now) ∷ fs)) }
     {
         self.events.key(key)?;
         self.set_innermost(Awaited::Value);
@@ -131,8 +134,8 @@ impl<E: Events> Nest<E> {
     /// Opens an array.
     #[inline(always)]
     pub(super) fn open_array(&mut self) -> Result<(), AllocError>
-        ensures { (fs : List Frame) → IsOpen E.holds self.old fs →
-            OnOk result (IsOpen E.holds self.new (in_array [] ∷ fs)) }
+        ensures { (start : E) (fs : List Frame) → IsOpen (E.holds start) self.old fs →
+            OnOk result (IsOpen (E.holds start) self.new (in_array [] ∷ fs)) }
     {
         self.events.open_array()?;
         self.awaited.push(Awaited::Item)?;
@@ -142,8 +145,8 @@ impl<E: Events> Nest<E> {
     /// Opens an object.
     #[inline(always)]
     pub(super) fn open_object(&mut self) -> Result<(), AllocError>
-        ensures { (fs : List Frame) → IsOpen E.holds self.old fs →
-            OnOk result (IsOpen E.holds self.new (at_key no_members ∷ fs)) }
+        ensures { (start : E) (fs : List Frame) → IsOpen (E.holds start) self.old fs →
+            OnOk result (IsOpen (E.holds start) self.new (at_key no_members ∷ fs)) }
     {
         self.events.open_object()?;
         self.awaited.push(Awaited::Key)?;
@@ -153,11 +156,12 @@ impl<E: Events> Nest<E> {
     /// Closes the innermost container, an array, which is complete then.
     #[inline(always)]
     pub(super) fn close_array(&mut self) -> Result<Progress, JsonParseErrorKind>
-        requires { (ts : List Tree) × (fs : List Frame) ×
-            E.holds self.old.events (in_array ts ∷ fs) }
-        ensures joins { (ts : List Tree) (fs : List Frame) →
-            IsWithin E.holds self.old (in_array ts) fs →
-            Joins E.holds E.is (complete true fs (array (items_of ts)) true) result self.new }
+        requires { (start : E) × (ts : List Tree) × (fs : List Frame) ×
+            E.holds start self.old.events (in_array ts ∷ fs) }
+        ensures joins { (start : E) (ts : List Tree) (fs : List Frame) →
+            IsWithin (E.holds start) self.old (in_array ts) fs →
+            Joins (E.holds start) (E.is start)
+            (complete true fs (array (items_of ts)) true) result self.new }
         ensures kept { KeepsEvents result self.old self.new }
     {
         self.awaited.pop();
@@ -168,10 +172,11 @@ impl<E: Events> Nest<E> {
     /// Closes the innermost container, an object, which is complete then.
     #[inline(always)]
     pub(super) fn close_object(&mut self) -> Result<Progress, JsonParseErrorKind>
-        requires { (ms : Members) × (fs : List Frame) × E.holds self.old.events (at_key ms ∷ fs) }
-        ensures joins { (ms : Members) (fs : List Frame) →
-            IsWithin E.holds self.old (at_key ms) fs →
-            Joins E.holds E.is (complete true fs (object ms) true) result self.new }
+        requires { (start : E) × (ms : Members) × (fs : List Frame) ×
+            E.holds start self.old.events (at_key ms ∷ fs) }
+        ensures joins { (start : E) (ms : Members) (fs : List Frame) →
+            IsWithin (E.holds start) self.old (at_key ms) fs →
+            Joins (E.holds start) (E.is start) (complete true fs (object ms) true) result self.new }
         ensures kept { KeepsEvents result self.old self.new }
     {
         self.awaited.pop();
@@ -182,9 +187,10 @@ impl<E: Events> Nest<E> {
     /// Puts an array that has no items where it belongs.
     #[inline(always)]
     pub(super) fn empty_array(&mut self) -> Result<Progress, JsonParseErrorKind>
-        requires { (fs : List Frame) × E.holds self.old.events fs }
-        ensures joins { (fs : List Frame) → IsOpen E.holds self.old fs →
-            Joins E.holds E.is (complete true fs (array (items_of [])) true) result self.new }
+        requires { (start : E) × (fs : List Frame) × E.holds start self.old.events fs }
+        ensures joins { (start : E) (fs : List Frame) → IsOpen (E.holds start) self.old fs →
+            Joins (E.holds start) (E.is start)
+            (complete true fs (array (items_of [])) true) result self.new }
         ensures kept { KeepsEvents result self.old self.new }
     {
         self.refuse_key(JsonKind::Array)?;
@@ -194,9 +200,10 @@ impl<E: Events> Nest<E> {
     /// Puts an object that has no members where it belongs.
     #[inline(always)]
     pub(super) fn empty_object(&mut self) -> Result<Progress, JsonParseErrorKind>
-        requires { (fs : List Frame) × E.holds self.old.events fs }
-        ensures joins { (fs : List Frame) → IsOpen E.holds self.old fs →
-            Joins E.holds E.is (complete true fs (object no_members) true) result self.new }
+        requires { (start : E) × (fs : List Frame) × E.holds start self.old.events fs }
+        ensures joins { (start : E) (fs : List Frame) → IsOpen (E.holds start) self.old fs →
+            Joins (E.holds start) (E.is start)
+            (complete true fs (object no_members) true) result self.new }
         ensures kept { KeepsEvents result self.old self.new }
     {
         self.refuse_key(JsonKind::Object)?;
@@ -206,8 +213,10 @@ impl<E: Events> Nest<E> {
     /// Puts a string where it belongs, which is no key.
     #[inline(always)]
     pub(super) fn string(&mut self, value: &str) -> Result<Progress, JsonParseErrorKind>
-        ensures joins { (fs : List Frame) → IsOpen E.holds self.old fs → TakesValue fs →
-            Joins E.holds E.is (complete true fs (string (chars value.now)) true) result self.new }
+        ensures joins { (start : E) (fs : List Frame) → IsOpen (E.holds start) self.old fs →
+            TakesValue fs →
+            Joins (E.holds start) (E.is start)
+            (complete true fs (string (chars value.now)) true) result self.new }
         ensures kept { KeepsEvents result self.old self.new }
     {
         completed(self.events.string(value))
@@ -216,8 +225,9 @@ impl<E: Events> Nest<E> {
     /// Puts a number where it belongs.
     #[inline(always)]
     pub(super) fn number(&mut self, value: JsonNumber) -> Result<Progress, JsonParseErrorKind>
-        ensures joins { (fs : List Frame) → IsOpen E.holds self.old fs →
-            Joins E.holds E.is (complete true fs (number value.decimal) true) result self.new }
+        ensures joins { (start : E) (fs : List Frame) → IsOpen (E.holds start) self.old fs →
+            Joins (E.holds start) (E.is start)
+            (complete true fs (number value.decimal) true) result self.new }
         ensures kept { KeepsEvents result self.old self.new }
     {
         self.refuse_key(JsonKind::Number)?;
@@ -227,8 +237,9 @@ impl<E: Events> Nest<E> {
     /// Puts a boolean, or null, where it belongs.
     #[inline(always)]
     pub(super) fn literal(&mut self, value: Option<bool>) -> Result<Progress, JsonParseErrorKind>
-        ensures joins { (fs : List Frame) → IsOpen E.holds self.old fs →
-            Joins E.holds E.is (complete true fs (literal_tree value) true) result self.new }
+        ensures joins { (start : E) (fs : List Frame) → IsOpen (E.holds start) self.old fs →
+            Joins (E.holds start) (E.is start)
+            (complete true fs (literal_tree value) true) result self.new }
         ensures kept { KeepsEvents result self.old self.new }
     {
         self.refuse_key(literal_kind(value))?;

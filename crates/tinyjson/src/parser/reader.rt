@@ -57,12 +57,14 @@ impl<S: Tokens> Reader<S> {
         requires shown { S.sight.shows self.old.tokens.source (Some first) }
         requires no_white { is_white first ≡ false }
         requires no_literal { ¬ (BeginsLiteral first) }
-        requires open { IsOpen E.holds nest.old [] }
-        ensures reads { Builds E.holds E.is S.sight limit self.old.tokens.source (next [] awaited)
-            result nest.new self.new.tokens.source }
+        requires open { (start : E) × IsOpen (E.holds start) nest.old [] }
+        ensures reads { (start : E) → IsOpen (E.holds start) nest.old [] →
+            Builds (E.holds start) (E.is start) S.sight limit self.old.tokens.source
+            (next [] awaited) result nest.new self.new.tokens.source }
         ensures end { OnOk result (S.sight.shows self.new.tokens.source None) }
         ensures memory { IfErr result (λ kind. kind ≡ OutOfMemory → IsTrue (begins_growth first)) }
-        ensures some { LeavesSome E.holds E.is result nest.new }
+        ensures some { (start : E) → IsOpen (E.holds start) nest.old [] →
+            LeavesSome (E.holds start) (E.is start) result nest.new }
     {
         let progress = self.value(limit, nest, first)?;
         self.rest(limit, nest, progress)
@@ -75,12 +77,16 @@ impl<S: Tokens> Reader<S> {
         nest: &mut Nest<E>,
         progress: Progress,
     ) -> Result<(), JsonParseErrorKind>
-        requires sound { (n : Next) × Stands E.holds E.is nest.old progress n }
-        ensures reads { (n : Next) → Stands E.holds E.is nest.old progress n →
-            Builds E.holds E.is S.sight limit self.old.tokens.source n result nest.new
-            self.new.tokens.source }
+        requires sound { (start : E) × (n : Next) ×
+            Stands (E.holds start) (E.is start) nest.old progress n }
+        ensures reads { (start : E) (n : Next) →
+            Stands (E.holds start) (E.is start) nest.old progress n →
+            Builds (E.holds start) (E.is start) S.sight limit self.old.tokens.source n result
+            nest.new self.new.tokens.source }
         ensures end { OnOk result (S.sight.shows self.new.tokens.source None) }
-        ensures some { LeavesSome E.holds E.is result nest.new }
+        ensures some { (start : E) (n : Next) →
+            Stands (E.holds start) (E.is start) nest.old progress n →
+            LeavesSome (E.holds start) (E.is start) result nest.new }
     {
         let mut progress = progress;
         loop {
@@ -118,12 +124,13 @@ impl<S: Tokens> Reader<S> {
         limit: Option<usize>,
         nest: &mut Nest<E>,
     ) -> Result<Progress, JsonParseErrorKind>
-        requires open { (fs : List Frame) × IsOpen E.holds nest.old fs }
-        ensures reads { (fs : List Frame) → IsOpen E.holds nest.old fs →
-            Continues E.holds E.is S.sight limit self.old.tokens.source (next fs awaited) result
-            nest.new self.new.tokens.source }
+        requires open { (start : E) × (fs : List Frame) × IsOpen (E.holds start) nest.old fs }
+        ensures reads { (start : E) (fs : List Frame) → IsOpen (E.holds start) nest.old fs →
+            Continues (E.holds start) (E.is start) S.sight limit self.old.tokens.source
+            (next fs awaited) result nest.new self.new.tokens.source }
         ensures left { OnOk result (S.left self.new.tokens.source < S.left self.old.tokens.source) }
-        ensures some { LeavesSome E.holds E.is result nest.new }
+        ensures some { (start : E) (fs : List Frame) → IsOpen (E.holds start) nest.old fs →
+            LeavesSome (E.holds start) (E.is start) result nest.new }
     {
         match self.tokens.skip_white() {
             Some(first) => self.value(limit, nest, first),
@@ -141,13 +148,14 @@ impl<S: Tokens> Reader<S> {
     ) -> Result<Progress, JsonParseErrorKind>
         requires shown { S.sight.shows self.old.tokens.source (Some first) }
         requires no_white { is_white first ≡ false }
-        requires open { (fs : List Frame) × IsOpen E.holds nest.old fs }
-        ensures reads { (fs : List Frame) → IsOpen E.holds nest.old fs →
-            Continues E.holds E.is S.sight limit self.old.tokens.source (next fs awaited) result
-            nest.new self.new.tokens.source }
+        requires open { (start : E) × (fs : List Frame) × IsOpen (E.holds start) nest.old fs }
+        ensures reads { (start : E) (fs : List Frame) → IsOpen (E.holds start) nest.old fs →
+            Continues (E.holds start) (E.is start) S.sight limit self.old.tokens.source
+            (next fs awaited) result nest.new self.new.tokens.source }
         ensures left { OnOk result (S.left self.new.tokens.source < S.left self.old.tokens.source) }
         ensures memory { ¬ (BeginsLiteral first) → GrowsFor first result }
-        ensures some { LeavesSome E.holds E.is result nest.new }
+        ensures some { (start : E) (fs : List Frame) → IsOpen (E.holds start) nest.old fs →
+            LeavesSome (E.holds start) (E.is start) result nest.new }
     {
         match first {
             'n' | 't' | 'f' => self.literal(nest, first),
@@ -168,9 +176,10 @@ impl<S: Tokens> Reader<S> {
     ) -> Result<Progress, JsonParseErrorKind>
         requires shown { S.sight.shows self.old.tokens.source (Some first) }
         requires begins { BeginsLiteral first }
-        ensures reads { (limit : Option ℕ) (fs : List Frame) → IsOpen E.holds nest.old fs →
-            Continues E.holds E.is S.sight limit self.old.tokens.source (next fs awaited) result
-            nest.new self.new.tokens.source }
+        ensures reads { (start : E) (limit : Option ℕ) (fs : List Frame) →
+            IsOpen (E.holds start) nest.old fs →
+            Continues (E.holds start) (E.is start) S.sight limit self.old.tokens.source
+            (next fs awaited) result nest.new self.new.tokens.source }
         ensures left { OnOk result (S.left self.new.tokens.source < S.left self.old.tokens.source) }
         ensures kept { KeepsEvents result nest.old nest.new }
     {
@@ -182,12 +191,14 @@ impl<S: Tokens> Reader<S> {
     #[inline(always)]
     fn string<E: Events>(&mut self, nest: &mut Nest<E>) -> Result<Progress, JsonParseErrorKind>
         requires shown { S.sight.shows self.old.tokens.source (Some quotation_mark) }
-        requires open { (fs : List Frame) × IsOpen E.holds nest.old fs }
-        ensures reads { (limit : Option ℕ) (fs : List Frame) → IsOpen E.holds nest.old fs →
-            Continues E.holds E.is S.sight limit self.old.tokens.source (next fs awaited) result
-            nest.new self.new.tokens.source }
+        requires open { (start : E) × (fs : List Frame) × IsOpen (E.holds start) nest.old fs }
+        ensures reads { (start : E) (limit : Option ℕ) (fs : List Frame) →
+            IsOpen (E.holds start) nest.old fs →
+            Continues (E.holds start) (E.is start) S.sight limit self.old.tokens.source
+            (next fs awaited) result nest.new self.new.tokens.source }
         ensures left { OnOk result (S.left self.new.tokens.source < S.left self.old.tokens.source) }
-        ensures some { LeavesSome E.holds E.is result nest.new }
+        ensures some { (start : E) (fs : List Frame) → IsOpen (E.holds start) nest.old fs →
+            LeavesSome (E.holds start) (E.is start) result nest.new }
     {
         let lent = self.tokens.string(&mut self.string)?;
         if nest.awaits_key() {
@@ -201,9 +212,10 @@ impl<S: Tokens> Reader<S> {
     #[inline(always)]
     fn number<E: Events>(&mut self, nest: &mut Nest<E>) -> Result<Progress, JsonParseErrorKind>
         requires begins { BeginsNumber S.sight self.old.tokens.source }
-        ensures reads { (limit : Option ℕ) (fs : List Frame) → IsOpen E.holds nest.old fs →
-            Continues E.holds E.is S.sight limit self.old.tokens.source (next fs awaited) result
-            nest.new self.new.tokens.source }
+        ensures reads { (start : E) (limit : Option ℕ) (fs : List Frame) →
+            IsOpen (E.holds start) nest.old fs →
+            Continues (E.holds start) (E.is start) S.sight limit self.old.tokens.source
+            (next fs awaited) result nest.new self.new.tokens.source }
         ensures left { OnOk result (S.left self.new.tokens.source < S.left self.old.tokens.source) }
         ensures kept { KeepsEvents result nest.old nest.new }
     {
@@ -219,12 +231,13 @@ impl<S: Tokens> Reader<S> {
         nest: &mut Nest<E>,
     ) -> Result<Progress, JsonParseErrorKind>
         requires shown { S.sight.shows self.old.tokens.source (Some begin_array) }
-        requires open { (fs : List Frame) × IsOpen E.holds nest.old fs }
-        ensures reads { (fs : List Frame) → IsOpen E.holds nest.old fs →
-            Continues E.holds E.is S.sight limit self.old.tokens.source (next fs awaited) result
-            nest.new self.new.tokens.source }
+        requires open { (start : E) × (fs : List Frame) × IsOpen (E.holds start) nest.old fs }
+        ensures reads { (start : E) (fs : List Frame) → IsOpen (E.holds start) nest.old fs →
+            Continues (E.holds start) (E.is start) S.sight limit self.old.tokens.source
+            (next fs awaited) result nest.new self.new.tokens.source }
         ensures left { OnOk result (S.left self.new.tokens.source < S.left self.old.tokens.source) }
-        ensures some { LeavesSome E.holds E.is result nest.new }
+        ensures some { (start : E) (fs : List Frame) → IsOpen (E.holds start) nest.old fs →
+            LeavesSome (E.holds start) (E.is start) result nest.new }
     {
         if !fits(limit, nest.depth()) {
             return Err(JsonParseErrorKind::TooDeep('['));
@@ -252,12 +265,13 @@ impl<S: Tokens> Reader<S> {
         nest: &mut Nest<E>,
     ) -> Result<Progress, JsonParseErrorKind>
         requires shown { S.sight.shows self.old.tokens.source (Some begin_object) }
-        requires open { (fs : List Frame) × IsOpen E.holds nest.old fs }
-        ensures reads { (fs : List Frame) → IsOpen E.holds nest.old fs →
-            Continues E.holds E.is S.sight limit self.old.tokens.source (next fs awaited) result
-            nest.new self.new.tokens.source }
+        requires open { (start : E) × (fs : List Frame) × IsOpen (E.holds start) nest.old fs }
+        ensures reads { (start : E) (fs : List Frame) → IsOpen (E.holds start) nest.old fs →
+            Continues (E.holds start) (E.is start) S.sight limit self.old.tokens.source
+            (next fs awaited) result nest.new self.new.tokens.source }
         ensures left { OnOk result (S.left self.new.tokens.source < S.left self.old.tokens.source) }
-        ensures some { LeavesSome E.holds E.is result nest.new }
+        ensures some { (start : E) (fs : List Frame) → IsOpen (E.holds start) nest.old fs →
+            LeavesSome (E.holds start) (E.is start) result nest.new }
     {
         if !fits(limit, nest.depth()) {
             return Err(JsonParseErrorKind::TooDeep('{'));
@@ -280,14 +294,16 @@ impl<S: Tokens> Reader<S> {
     /// Reads a string as the key of its object, and the colon, if a string comes next.
     #[inline(always)]
     fn key<E: Events>(&mut self, nest: &mut Nest<E>) -> Result<Progress, JsonParseErrorKind>
-        requires open { (ms : Members) × (fs : List Frame) ×
-            IsOpen E.holds nest.old (at_key ms ∷ fs) }
-        ensures reads { (limit : Option ℕ) (ms : Members) (fs : List Frame) →
-            IsOpen E.holds nest.old (at_key ms ∷ fs) →
-            Continues E.holds E.is S.sight limit self.old.tokens.source
+        requires open { (start : E) × (ms : Members) × (fs : List Frame) ×
+            IsOpen (E.holds start) nest.old (at_key ms ∷ fs) }
+        ensures reads { (start : E) (limit : Option ℕ) (ms : Members) (fs : List Frame) →
+            IsOpen (E.holds start) nest.old (at_key ms ∷ fs) →
+            Continues (E.holds start) (E.is start) S.sight limit self.old.tokens.source
             (next (at_key ms ∷ fs) awaited) result nest.new self.new.tokens.source }
         ensures left { OnOk result (S.left self.new.tokens.source ≤ S.left self.old.tokens.source) }
-        ensures some { LeavesSome E.holds E.is result nest.new }
+        ensures some { (start : E) (ms : Members) (fs : List Frame) →
+            IsOpen (E.holds start) nest.old (at_key ms ∷ fs) →
+            LeavesSome (E.holds start) (E.is start) result nest.new }
     {
         match self.tokens.skip_white() {
             Some('"') => {
@@ -305,16 +321,18 @@ impl<S: Tokens> Reader<S> {
         nest: &mut Nest<E>,
         lent: bool,
     ) -> Result<Progress, JsonParseErrorKind>
-        requires open { (ms : Members) × (fs : List Frame) ×
-            IsOpen E.holds nest.old (at_key ms ∷ fs) }
-        ensures reads { (limit : Option ℕ) (ms : Members) (fs : List Frame) →
-            IsOpen E.holds nest.old (at_key ms ∷ fs) →
-            Continues E.holds E.is S.sight limit self.old.tokens.source
+        requires open { (start : E) × (ms : Members) × (fs : List Frame) ×
+            IsOpen (E.holds start) nest.old (at_key ms ∷ fs) }
+        ensures reads { (start : E) (limit : Option ℕ) (ms : Members) (fs : List Frame) →
+            IsOpen (E.holds start) nest.old (at_key ms ∷ fs) →
+            Continues (E.holds start) (E.is start) S.sight limit self.old.tokens.source
             (next (at_key ms ∷ fs)
             (colon (cond lent (S.lent self.old.tokens.source) (text self.old.string))))
             result nest.new self.new.tokens.source }
         ensures left { OnOk result (S.left self.new.tokens.source ≤ S.left self.old.tokens.source) }
-        ensures some { LeavesSome E.holds E.is result nest.new }
+        ensures some { (start : E) (ms : Members) (fs : List Frame) →
+            IsOpen (E.holds start) nest.old (at_key ms ∷ fs) →
+            LeavesSome (E.holds start) (E.is start) result nest.new }
     {
         if nest
             .key(self.tokens.characters(lent, &self.string))
@@ -342,13 +360,17 @@ impl<S: Tokens> Reader<S> {
         nest: &mut Nest<E>,
         awaited: Awaited,
     ) -> Result<Progress, JsonParseErrorKind>
-        requires sound { (n : Next) × Stands E.holds E.is nest.old Complete n }
+        requires sound { (start : E) × (n : Next) ×
+            Stands (E.holds start) (E.is start) nest.old Complete n }
         requires innermost { (os : List Awaited) × (awaited_of nest.old ≡ awaited ∷ os) }
-        ensures reads { (limit : Option ℕ) (n : Next) → Stands E.holds E.is nest.old Complete n →
-            Continues E.holds E.is S.sight limit self.old.tokens.source n result nest.new
-            self.new.tokens.source }
+        ensures reads { (start : E) (limit : Option ℕ) (n : Next) →
+            Stands (E.holds start) (E.is start) nest.old Complete n →
+            Continues (E.holds start) (E.is start) S.sight limit self.old.tokens.source n result
+            nest.new self.new.tokens.source }
         ensures left { OnOk result (S.left self.new.tokens.source < S.left self.old.tokens.source) }
-        ensures some { LeavesSome E.holds E.is result nest.new }
+        ensures some { (start : E) (n : Next) →
+            Stands (E.holds start) (E.is start) nest.old Complete n →
+            LeavesSome (E.holds start) (E.is start) result nest.new }
     {
         match awaited {
             Awaited::Item => self.after_item(nest),
@@ -360,14 +382,16 @@ impl<S: Tokens> Reader<S> {
     /// Reads a comma or the bracket that closes the array, after an item.
     #[inline(always)]
     fn after_item<E: Events>(&mut self, nest: &mut Nest<E>) -> Result<Progress, JsonParseErrorKind>
-        requires open { (ts : List Tree) × (fs : List Frame) ×
-            IsOpen E.holds nest.old (in_array ts ∷ fs) }
-        ensures reads { (limit : Option ℕ) (ts : List Tree) (fs : List Frame) →
-            IsOpen E.holds nest.old (in_array ts ∷ fs) →
-            Continues E.holds E.is S.sight limit self.old.tokens.source
+        requires open { (start : E) × (ts : List Tree) × (fs : List Frame) ×
+            IsOpen (E.holds start) nest.old (in_array ts ∷ fs) }
+        ensures reads { (start : E) (limit : Option ℕ) (ts : List Tree) (fs : List Frame) →
+            IsOpen (E.holds start) nest.old (in_array ts ∷ fs) →
+            Continues (E.holds start) (E.is start) S.sight limit self.old.tokens.source
             (next (in_array ts ∷ fs) after) result nest.new self.new.tokens.source }
         ensures left { OnOk result (S.left self.new.tokens.source < S.left self.old.tokens.source) }
-        ensures some { LeavesSome E.holds E.is result nest.new }
+        ensures some { (start : E) (ts : List Tree) (fs : List Frame) →
+            IsOpen (E.holds start) nest.old (in_array ts ∷ fs) →
+            LeavesSome (E.holds start) (E.is start) result nest.new }
     {
         match self.tokens.skip_white() {
             Some(',') => {
@@ -392,14 +416,16 @@ impl<S: Tokens> Reader<S> {
         &mut self,
         nest: &mut Nest<E>,
     ) -> Result<Progress, JsonParseErrorKind>
-        requires within { (ms : Members) × (fs : List Frame) ×
-            IsWithin E.holds nest.old (at_key ms) fs }
-        ensures reads { (limit : Option ℕ) (ms : Members) (fs : List Frame) →
-            IsWithin E.holds nest.old (at_key ms) fs →
-            Continues E.holds E.is S.sight limit self.old.tokens.source
+        requires within { (start : E) × (ms : Members) × (fs : List Frame) ×
+            IsWithin (E.holds start) nest.old (at_key ms) fs }
+        ensures reads { (start : E) (limit : Option ℕ) (ms : Members) (fs : List Frame) →
+            IsWithin (E.holds start) nest.old (at_key ms) fs →
+            Continues (E.holds start) (E.is start) S.sight limit self.old.tokens.source
             (next (at_key ms ∷ fs) after) result nest.new self.new.tokens.source }
         ensures left { OnOk result (S.left self.new.tokens.source < S.left self.old.tokens.source) }
-        ensures some { LeavesSome E.holds E.is result nest.new }
+        ensures some { (start : E) (ms : Members) (fs : List Frame) →
+            IsWithin (E.holds start) nest.old (at_key ms) fs →
+            LeavesSome (E.holds start) (E.is start) result nest.new }
     {
         match self.tokens.skip_white() {
             Some(',') => {

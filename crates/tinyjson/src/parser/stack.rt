@@ -51,9 +51,9 @@ pub(super) struct Stack {
 impl Events for Stack {
     ghost use Rattle.tinyjson.specs.private.Stack.{holds, is};
 
-    ghost holds = { holds };
+    ghost holds = { λ s. holds };
 
-    ghost is = { is };
+    ghost is = { λ s. is };
 
     #[inline(always)]
     fn open_array(&mut self) -> Result<(), AllocError> {

@@ -12,7 +12,7 @@ use Rattle.tinyjson.proofs.parser.tell_text.Goals as goal
 pub returns-clause-tells : goal.returns-clause-tells
 returns-clause-tells g c =
     let text = c.args.text.now in
-    let is = g.E.Events.is in
+    let is = g.E.Events.is c.args.events in
     let gives = sym (ap (λ (p : TextBytes). chars_after p.text.now p.at) c.new-2.ensures ∙ c.new.ensures.gives) in
     let start = ap (λ (p : TextBytes). advance origin (before p.text.now p.at)) c.new-2.ensures ∙ c.new.ensures.start in
     heard_text _ c.args.limit is _ _ (chars text) (without_events c.told.result) start

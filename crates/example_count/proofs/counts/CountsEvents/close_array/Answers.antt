@@ -3,4 +3,4 @@ use Rattle.tinyjson.specs.Tree.{array, items_of}
 use Rattle.example_count.proofs.counts.CountsEvents.close_array.Goals as goal
 
 pub returns : goal.returns
-returns c = λ ts os h. puts_counted c.args.self.now os (array (items_of ts)) h
+returns c = λ s ts os h. puts_counted s c.args.self.now os (array (items_of ts)) h

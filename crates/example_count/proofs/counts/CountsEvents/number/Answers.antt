@@ -5,5 +5,5 @@ use Rattle.tinyjson.specs.JsonKind.TheVariants as kind
 use Rattle.example_count.proofs.counts.CountsEvents.number.Goals as goal
 
 pub returns : goal.returns
-returns c = λ os h.
-    added c.add.result c.args.self.now c.add.new.self os (number c.args.arg2.decimal) kind.Number (λ k. refl) c.add.ensures h
+returns c = λ s os h.
+    added s c.add.result c.args.self.now c.add.new.self os (number c.args.arg2.decimal) kind.Number (λ k. refl) c.add.ensures h

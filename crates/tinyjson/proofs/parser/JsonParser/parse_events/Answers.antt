@@ -12,7 +12,7 @@ returns-clause-parses g c = rw (← c.self.view_is) (λ xs r.
     let steps = g.I.Iterator.next_gives in
     let gives = follows_gives steps c.self.inside.reader.tokens.source.cursor xs r.later r.whole r.follows in
     let t = c.told.ensures in
-    let a = heard _ limit g.E.Events.is _ _ c.told.result t.reads t.end t.memory xs gives r.scalars in
+    let a = heard _ limit (g.E.Events.is c.args.events) _ _ c.told.result t.reads t.end t.memory xs gives r.scalars in
     let l = gives_follows steps c.told.new.self.tokens.source.cursor a.rest a.gives in
     record {
       consumed = a.consumed;

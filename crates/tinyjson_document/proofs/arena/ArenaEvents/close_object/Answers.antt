@@ -5,7 +5,7 @@ use Rattle.tinyjson_document.proofs.Waiting.{closes_object}
 use Rattle.tinyjson_document.proofs.arena.ArenaEvents.close_object.Goals as goal
 
 pub returns : goal.returns
-returns c = λ ms fs h.
+returns c = λ _ ms fs h.
     let a = c.args.self.now in
     let place = c.in-Some.place in
     let ks = c.in-Some-get.keys.now in

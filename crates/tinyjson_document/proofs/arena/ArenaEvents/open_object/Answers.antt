@@ -4,7 +4,7 @@ use Rattle.tinyjson_grammar.specs.Tree.{no_members}
 use Rattle.tinyjson_document.proofs.arena.ArenaEvents.open_object.Goals as goal
 
 pub returns : goal.returns
-returns c = λ fs h.
+returns c = λ _ fs h.
     let a = c.args.self.now in
     let none : Gathers a.store no_members [] [] = record { entries = []; members = refl; waiting = tt } in (
       waiting_in a,

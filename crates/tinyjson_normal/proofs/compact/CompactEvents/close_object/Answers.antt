@@ -5,7 +5,7 @@ use Rattle.tinyjson_document.proofs.Callers.{slice_rest}
 use Rattle.tinyjson_normal.proofs.compact.CompactEvents.close_object.Goals as goal
 
 pub returns : goal.returns
-returns c = λ ms os h.
+returns c = λ _ ms os h.
     let a = c.args.self.now in
     let start = c.in-Some.start in
     let b = c.order.new.self in

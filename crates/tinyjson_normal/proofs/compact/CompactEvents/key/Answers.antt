@@ -3,7 +3,7 @@ use Rattle.tinyjson_normal.proofs.Compacting.{awaits_result}
 use Rattle.tinyjson_normal.proofs.compact.CompactEvents.key.Goals as goal
 
 pub returns : goal.returns
-returns c = λ ms os h.
+returns c = λ _ ms os h.
     let a = c.args.self.now in
     awaits_result c.push_quoted.result a (record a {
       store = c.add_text.new.self;

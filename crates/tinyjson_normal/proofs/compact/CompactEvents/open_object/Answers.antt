@@ -5,7 +5,7 @@ use Rattle.tinyjson_normal.proofs.Compacting.{opens}
 use Rattle.tinyjson_normal.proofs.compact.CompactEvents.open_object.Goals as goal
 
 pub returns : goal.returns
-returns c = λ os h.
+returns c = λ _ os h.
     let a = c.args.self.now in
     opens a (record a { text = c.push.new.self; opened = c.push-2.new.self }) os (at_key no_members) 123 _ h refl
     (record { entries = []; members = refl; written = refl; begun = tt })

@@ -5,7 +5,7 @@ use Rattle.tinyjson.proofs.Reading.Building.{renewed}
 use Rattle.tinyjson.proofs.parser.nest.Nest.await_key.Goals as goal
 
 pub returns : goal.returns
-returns g c = λ ms fs h.
+returns g c = λ start ms fs h.
     let w = c.set_innermost.ensures in
-    renewed g.E.Events.holds c.args.self.now c.set_innermost.new.self Key (at_key ms) fs
-    (subst (λ b. g.E.Events.holds b (at_key ms ∷ fs)) (sym w.events) h.0) h.1 w.awaited (λ os k. k)
+    renewed (g.E.Events.holds start) c.args.self.now c.set_innermost.new.self Key (at_key ms) fs
+    (subst (λ b. g.E.Events.holds start b (at_key ms ∷ fs)) (sym w.events) h.0) h.1 w.awaited (λ os k. k)

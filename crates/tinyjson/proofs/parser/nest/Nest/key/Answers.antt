@@ -6,8 +6,9 @@ use Rattle.tinyjson.proofs.Reading.Building.{renewed}
 use Rattle.tinyjson.proofs.parser.nest.Nest.key.Goals as goal
 
 pub returns : goal.returns
-returns g c = λ ms fs h.
+returns g c = λ start ms fs h.
     let w = c.set_innermost.ensures in
     let k = chars c.args.key.now in
-    renewed g.E.Events.holds (record c.args.self.now { events = c.key.new.self }) c.set_innermost.new.self Value (at_value ms k) fs
-    (subst (λ b. g.E.Events.holds b (at_value ms k ∷ fs)) (sym w.events) (c.in_ok-key.ensures ms fs h.0)) h.1 w.awaited (λ os j. j)
+    renewed (g.E.Events.holds start) (record c.args.self.now { events = c.key.new.self }) c.set_innermost.new.self Value (at_value ms k) fs
+    (subst (λ b. g.E.Events.holds start b (at_value ms k ∷ fs)) (sym w.events) (c.in_ok-key.ensures start ms fs h.0)) h.1 w.awaited
+    (λ os j. j)

@@ -11,7 +11,7 @@ use Rattle.tinyjson.proofs.parser.reader.Reader.array.Goals as goal
 use Rattle.tinyjson.proofs.parser.reader.Reader.array.Goals.{in_default-via-in-Some+in_default, in_default-via-in_default}
 
 pub returns-then-not-fits-clause-reads : goal.returns-then-not-fits-clause-reads
-returns-then-not-fits-clause-reads g c = λ fs h.
+returns-then-not-fits-clause-reads g c = λ start fs h.
     let sight = g.S.Source.sight in
     let limit = c.args.limit in
     let w : fits limit c.depth.result ≡ false = search rules in
@@ -19,21 +19,21 @@ returns-then-not-fits-clause-reads g c = λ fs h.
     (array_too_deep sight limit _ c.args.self.now.tokens.source fs _ (c.depth.ensures fs h.1) w c.requires.shown)
 
 pub returns-in-Some-eq93-clause-reads : goal.returns-in-Some-eq93-clause-reads
-returns-in-Some-eq93-clause-reads g c = λ fs h.
+returns-in-Some-eq93-clause-reads g c = λ start fs h.
     let sight = g.S.Source.sight in
     let limit = c.args.limit in
-    let holds = g.E.Events.holds in
-    let is = g.E.Events.is in
+    let holds = g.E.Events.holds start in
+    let is = g.E.Events.is start in
     let w : fits limit c.depth.result ≡ true = search rules in
     Continues_after holds is sight limit _ _ _ _ c.empty_array.new.self
     (array_begins sight limit _ _ fs _ (c.depth.ensures fs h.1) w c.consume.ensures.takes)
     (joined holds is sight limit _ _ (in_array [] ∷ fs) first _ c.empty_array.new.self
     (Leads_one sight limit _ _ _ 93 (Leads_whites sight limit _ _ _ c.skip_white.ensures.white tt (white_first limit _))
     c.consume-in-Some-eq93.ensures.takes tt (array_closes_first limit fs 93 (search rules)) (taken_complete _ _))
-    (c.empty_array.ensures.joins fs h))
+    (c.empty_array.ensures.joins start fs h))
 
 pub returns-then-is_err-clause-reads : goal.returns-then-is_err-clause-reads
-returns-then-is_err-clause-reads g c = λ fs h.
+returns-then-is_err-clause-reads g c = λ start fs h.
     let sight = g.S.Source.sight in
     let limit = c.args.limit in
     let w : fits limit c.depth.result ≡ true = search rules in
@@ -42,14 +42,14 @@ returns-then-is_err-clause-reads g c = λ fs h.
     (Leads_whites sight limit _ _ _ c.skip_white.ensures.white tt (white_first limit _))) tt tt)
 
 pub returns-else-is_err-clause-reads : goal.returns-else-is_err-clause-reads
-returns-else-is_err-clause-reads g c = λ fs h.
+returns-else-is_err-clause-reads g c = λ start fs h.
     let sight = g.S.Source.sight in
     let limit = c.args.limit in
     let w : fits limit c.depth.result ≡ true = search rules in
     let other : IfSome c.skip_white.result (λ d. d ≡ 93 → ⊥) = elim c.in_default.branch
     [ in_default-via-in-Some+in_default w ↦ rw w.in_default.is (search rules) | in_default-via-in_default w ↦ rw w.in_default.is tt ] in
-    let opened : IsOpen g.E.Events.holds c.open_array.new.self (in_array [] ∷ fs) = search rules in
-    awaits g.E.Events.holds g.E.Events.is sight limit _ _ (in_array [] ∷ fs) c.open_array.new.self
+    let opened : IsOpen (g.E.Events.holds start) c.open_array.new.self (in_array [] ∷ fs) = search rules in
+    awaits (g.E.Events.holds start) (g.E.Events.is start) sight limit _ _ (in_array [] ∷ fs) c.open_array.new.self
     (Leads_trans sight limit _ _ _
     (array_begins sight limit _ _ fs _ (c.depth.ensures fs h.1) w c.consume.ensures.takes)
     (array_goes_on sight limit _ _ fs c.skip_white.result (Leads_whites sight limit _ _ _ c.skip_white.ensures.white tt
@@ -57,15 +57,15 @@ returns-else-is_err-clause-reads g c = λ fs h.
     opened
 
 pub empty_array-requires : goal.empty_array-requires
-empty_array-requires g c = (c.requires.open.0, c.requires.open.1.0)
+empty_array-requires g c = (c.requires.open.0, c.requires.open.1, c.requires.open.2.0)
 
 pub returns-then-not-fits-clause-some : goal.returns-then-not-fits-clause-some
-returns-then-not-fits-clause-some g c = λ n. inl (c.requires.open.0, c.requires.open.1.0)
+returns-then-not-fits-clause-some g c = λ start fs h n. inl (fs, h.0)
 
 pub returns-in-Some-eq93-clause-some : goal.returns-in-Some-eq93-clause-some
-returns-in-Some-eq93-clause-some g c =
-    left_kept g.E.Events.holds g.E.Events.is _ c.args.nest.now c.empty_array.new.self
-    (inl (c.requires.open.0, c.requires.open.1.0)) c.empty_array.ensures.kept
+returns-in-Some-eq93-clause-some g c = λ start fs h.
+    left_kept (g.E.Events.holds start) (g.E.Events.is start) _ c.args.nest.now c.empty_array.new.self
+    (inl (fs, h.0)) c.empty_array.ensures.kept
 
 pub returns-then-is_err-clause-some : goal.returns-then-is_err-clause-some
-returns-then-is_err-clause-some g c = λ n. absurd (n refl)
+returns-then-is_err-clause-some g c = λ start fs h n. absurd (n refl)

@@ -1,4 +1,4 @@
-use Rattle.std.proofs.Common.{[]}
+use Rattle.std.proofs.Common.{rules, []}
 use Rattle.std.specs.Prelude.{⊤}
 use Rattle.std.proofs.lemmas.Result.{err_from_is_err_and}
 use Rattle.tinyjson_grammar.specs.Tree.{literal_tree}
@@ -30,7 +30,8 @@ returns-in-Some-clause-reads g c =
     let sight = g.S.Source.sight in
     let limit = c.args.limit in
     let l = Leads_whites sight limit _ _ _ c.skip_white.ensures.white tt (white_awaited limit []) in
-    finds_built sight limit _ _ _ (λ b fs. ⊤) (λ b t. ⊤) c.build.result c.build.new.nest l c.build.ensures.reads
+    finds_built sight limit _ _ _ (λ b fs. ⊤) (λ b t. ⊤) c.build.result c.build.new.nest l
+    (c.build.ensures.reads c.new-nest.result.events (search rules))
 
 pub returns-in-Some-clause-memory : goal.returns-in-Some-clause-memory
 returns-in-Some-clause-memory g c = grows_text g.S.Source.sight _ _ c.in-Some.first c.build.result c.skip_white.ensures.white

@@ -10,23 +10,23 @@ use Rattle.tinyjson.proofs.Reading.Loop.{awaits}
 use Rattle.tinyjson.proofs.parser.reader.Reader.colon.Goals as goal
 
 pub returns-then-is_err-clause-reads : goal.returns-then-is_err-clause-reads
-returns-then-is_err-clause-reads g c = λ limit ms fs h.
+returns-then-is_err-clause-reads g c = λ start limit ms fs h.
     let sight = g.S.Source.sight in
     Refuses_memory sight limit _ _ (Halts_here sight limit _ _ (Leads_nil sight limit _ _) tt tt)
 
 pub returns-in-Some-eq58-clause-reads : goal.returns-in-Some-eq58-clause-reads
-returns-in-Some-eq58-clause-reads g c = λ limit ms fs h.
+returns-in-Some-eq58-clause-reads g c = λ start limit ms fs h.
     let sight = g.S.Source.sight in
-    let holds = g.E.Events.holds in
+    let holds = g.E.Events.holds start in
     let key = cond c.args.lent (g.S.Source.lent c.args.self.now.tokens.source) (text c.args.self.now.string) in
     let keyed : IsOpen holds c.key.new.self (at_value ms (chars c.characters.result.now) ∷ fs) = search rules in
-    awaits holds g.E.Events.is sight limit _ _ (at_value ms key ∷ fs) c.key.new.self
+    awaits holds (g.E.Events.is start) sight limit _ _ (at_value ms key ∷ fs) c.key.new.self
     (Leads_one sight limit _ _ _ 58 (Leads_whites sight limit _ _ _ c.skip_white.ensures.white tt (white_colon limit _ _))
     c.consume.ensures.takes tt (colon_read limit fs ms key 58 (search rules)) tt)
     (subst (λ k. IsOpen holds c.key.new.self (at_value ms k ∷ fs)) c.characters.ensures keyed)
 
 pub returns-in-Some-clause-reads : goal.returns-in-Some-clause-reads
-returns-in-Some-clause-reads g c = λ limit ms fs h.
+returns-in-Some-clause-reads g c = λ start limit ms fs h.
     let sight = g.S.Source.sight in
     let key = cond c.args.lent (g.S.Source.lent c.args.self.now.tokens.source) (text c.args.self.now.string) in
     let d = c.in-Some.c in
@@ -35,25 +35,21 @@ returns-in-Some-clause-reads g c = λ limit ms fs h.
     c.consume-in-Some.ensures.takes tt (colon_other limit fs ms key d c.in-Some.ensures.stops (search rules)) tt)
 
 pub returns-in-None-clause-reads : goal.returns-in-None-clause-reads
-returns-in-None-clause-reads g c = λ limit ms fs h.
+returns-in-None-clause-reads g c = λ start limit ms fs h.
     let sight = g.S.Source.sight in
     Refuses_as sight limit _ _ UnexpectedEof
     (Leads_end sight limit _ _ (Leads_whites sight limit _ _ _ c.skip_white.ensures.white tt (white_colon limit _ _))
     c.in-None.ensures.shows (end_colon limit _ _) tt)
 
 pub returns-then-is_err-clause-some : goal.returns-then-is_err-clause-some
-returns-then-is_err-clause-some g c = λ n. absurd (n refl)
+returns-then-is_err-clause-some g c = λ start ms fs h n. absurd (n refl)
 
 pub returns-in-Some-clause-some : goal.returns-in-Some-clause-some
-returns-in-Some-clause-some g c =
-    let o = c.requires.open in
-    let h : IsOpen g.E.Events.holds c.args.nest.now (at_key o.0 ∷ o.1) = o.2 in
-    let keyed : IsOpen g.E.Events.holds c.key.new.self (at_value o.0 (chars c.characters.result.now) ∷ o.1) = search rules in
-    λ n. inl (at_value o.0 (chars c.characters.result.now) ∷ o.1, keyed.0)
+returns-in-Some-clause-some g c = λ start ms fs h n.
+    let keyed : IsOpen (g.E.Events.holds start) c.key.new.self (at_value ms (chars c.characters.result.now) ∷ fs) = search rules in
+    inl (at_value ms (chars c.characters.result.now) ∷ fs, keyed.0)
 
 pub returns-in-None-clause-some : goal.returns-in-None-clause-some
-returns-in-None-clause-some g c =
-    let o = c.requires.open in
-    let h : IsOpen g.E.Events.holds c.args.nest.now (at_key o.0 ∷ o.1) = o.2 in
-    let keyed : IsOpen g.E.Events.holds c.key.new.self (at_value o.0 (chars c.characters.result.now) ∷ o.1) = search rules in
-    λ n. inl (at_value o.0 (chars c.characters.result.now) ∷ o.1, keyed.0)
+returns-in-None-clause-some g c = λ start ms fs h n.
+    let keyed : IsOpen (g.E.Events.holds start) c.key.new.self (at_value ms (chars c.characters.result.now) ∷ fs) = search rules in
+    inl (at_value ms (chars c.characters.result.now) ∷ fs, keyed.0)

@@ -5,14 +5,14 @@ use Rattle.tinyjson.proofs.Reading.Loop.{Continues_after}
 use Rattle.tinyjson.proofs.parser.reader.Reader.next.Goals as goal
 
 pub returns-in-Some-clause-reads : goal.returns-in-Some-clause-reads
-returns-in-Some-clause-reads g c = λ fs h.
+returns-in-Some-clause-reads g c = λ start fs h.
     let sight = g.S.Source.sight in
     let limit = c.args.limit in
-    Continues_after g.E.Events.holds g.E.Events.is sight limit _ _ _ _ c.value.new.nest
-    (Leads_whites sight limit _ _ _ c.skip_white.ensures.white tt (white_awaited limit _)) (c.value.ensures.reads fs h)
+    Continues_after (g.E.Events.holds start) (g.E.Events.is start) sight limit _ _ _ _ c.value.new.nest
+    (Leads_whites sight limit _ _ _ c.skip_white.ensures.white tt (white_awaited limit _)) (c.value.ensures.reads start fs h)
 
 pub returns-in-None-clause-reads : goal.returns-in-None-clause-reads
-returns-in-None-clause-reads g c = λ fs h.
+returns-in-None-clause-reads g c = λ start fs h.
     let sight = g.S.Source.sight in
     let limit = c.args.limit in
     Refuses_as sight limit _ _ UnexpectedEof
@@ -20,4 +20,4 @@ returns-in-None-clause-reads g c = λ fs h.
     c.in-None.ensures.shows (end_awaited limit _) tt)
 
 pub returns-in-None-clause-some : goal.returns-in-None-clause-some
-returns-in-None-clause-some g c = λ n. inl (c.requires.open.0, c.requires.open.1.0)
+returns-in-None-clause-some g c = λ start fs h n. inl (fs, h.0)

@@ -12,7 +12,7 @@ use Rattle.tinyjson.proofs.parser.reader.Reader.object.Goals as goal
 use Rattle.tinyjson.proofs.parser.reader.Reader.object.Goals.{in_default-via-in-Some+in_default, in_default-via-in_default}
 
 pub returns-then-not-fits-clause-reads : goal.returns-then-not-fits-clause-reads
-returns-then-not-fits-clause-reads g c = λ fs h.
+returns-then-not-fits-clause-reads g c = λ start fs h.
     let sight = g.S.Source.sight in
     let limit = c.args.limit in
     let w : fits limit c.depth.result ≡ false = search rules in
@@ -20,21 +20,21 @@ returns-then-not-fits-clause-reads g c = λ fs h.
     (object_too_deep sight limit _ c.args.self.now.tokens.source fs _ (c.depth.ensures fs h.1) w c.requires.shown)
 
 pub returns-in-Some-eq125-clause-reads : goal.returns-in-Some-eq125-clause-reads
-returns-in-Some-eq125-clause-reads g c = λ fs h.
+returns-in-Some-eq125-clause-reads g c = λ start fs h.
     let sight = g.S.Source.sight in
     let limit = c.args.limit in
-    let holds = g.E.Events.holds in
-    let is = g.E.Events.is in
+    let holds = g.E.Events.holds start in
+    let is = g.E.Events.is start in
     let w : fits limit c.depth.result ≡ true = search rules in
     Continues_after holds is sight limit _ _ _ _ c.empty_object.new.self
     (object_begins sight limit _ _ fs _ (c.depth.ensures fs h.1) w c.consume.ensures.takes)
     (joined holds is sight limit _ _ (at_key no_members ∷ fs) first _ c.empty_object.new.self
     (Leads_one sight limit _ _ _ 125 (Leads_whites sight limit _ _ _ c.skip_white.ensures.white tt (white_first limit _))
     c.consume-in-Some-eq125.ensures.takes tt (object_closes_first limit fs 125 (search rules)) (taken_complete _ _))
-    (c.empty_object.ensures.joins fs h))
+    (c.empty_object.ensures.joins start fs h))
 
 pub returns-then-is_err-clause-reads : goal.returns-then-is_err-clause-reads
-returns-then-is_err-clause-reads g c = λ fs h.
+returns-then-is_err-clause-reads g c = λ start fs h.
     let sight = g.S.Source.sight in
     let limit = c.args.limit in
     let w : fits limit c.depth.result ≡ true = search rules in
@@ -43,30 +43,30 @@ returns-then-is_err-clause-reads g c = λ fs h.
     (Leads_whites sight limit _ _ _ c.skip_white.ensures.white tt (white_first limit _))) tt tt)
 
 pub returns-else-is_err-clause-reads : goal.returns-else-is_err-clause-reads
-returns-else-is_err-clause-reads g c = λ fs h.
+returns-else-is_err-clause-reads g c = λ start fs h.
     let sight = g.S.Source.sight in
     let limit = c.args.limit in
     let w : fits limit c.depth.result ≡ true = search rules in
     let other : IfSome c.skip_white.result (λ d. d ≡ 125 → ⊥) = elim c.in_default.branch
     [ in_default-via-in-Some+in_default w ↦ rw w.in_default.is (search rules) | in_default-via-in_default w ↦ rw w.in_default.is tt ] in
-    let opened : IsOpen g.E.Events.holds c.open_object.new.self (at_key no_members ∷ fs) = search rules in
-    Continues_after g.E.Events.holds g.E.Events.is sight limit _ _ _ _ c.key.new.nest
+    let opened : IsOpen (g.E.Events.holds start) c.open_object.new.self (at_key no_members ∷ fs) = search rules in
+    Continues_after (g.E.Events.holds start) (g.E.Events.is start) sight limit _ _ _ _ c.key.new.nest
     (Leads_trans sight limit _ _ _
     (object_begins sight limit _ _ fs _ (c.depth.ensures fs h.1) w c.consume.ensures.takes)
     (object_goes_on sight limit _ _ fs c.skip_white.result (Leads_whites sight limit _ _ _ c.skip_white.ensures.white tt
     (white_first limit _)) c.skip_white.ensures.shows c.skip_white.ensures.stops other))
-    (c.key.ensures.reads limit no_members fs opened)
+    (c.key.ensures.reads start limit no_members fs opened)
 
 pub empty_object-requires : goal.empty_object-requires
-empty_object-requires g c = (c.requires.open.0, c.requires.open.1.0)
+empty_object-requires g c = (c.requires.open.0, c.requires.open.1, c.requires.open.2.0)
 
 pub returns-then-not-fits-clause-some : goal.returns-then-not-fits-clause-some
-returns-then-not-fits-clause-some g c = λ n. inl (c.requires.open.0, c.requires.open.1.0)
+returns-then-not-fits-clause-some g c = λ start fs h n. inl (fs, h.0)
 
 pub returns-in-Some-eq125-clause-some : goal.returns-in-Some-eq125-clause-some
-returns-in-Some-eq125-clause-some g c =
-    left_kept g.E.Events.holds g.E.Events.is _ c.args.nest.now c.empty_object.new.self
-    (inl (c.requires.open.0, c.requires.open.1.0)) c.empty_object.ensures.kept
+returns-in-Some-eq125-clause-some g c = λ start fs h.
+    left_kept (g.E.Events.holds start) (g.E.Events.is start) _ c.args.nest.now c.empty_object.new.self
+    (inl (fs, h.0)) c.empty_object.ensures.kept
 
 pub returns-then-is_err-clause-some : goal.returns-then-is_err-clause-some
-returns-then-is_err-clause-some g c = λ n. absurd (n refl)
+returns-then-is_err-clause-some g c = λ start fs h n. absurd (n refl)

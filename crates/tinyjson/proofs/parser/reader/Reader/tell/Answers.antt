@@ -10,7 +10,7 @@ returns-in-Some-n-clause-reads g c =
     let sight = g.S.Source.sight in
     let limit = c.args.limit in
     let l = Leads_whites sight limit _ _ _ c.skip_white.ensures.white tt (white_awaited limit []) in
-    Tells_after sight limit g.E.Events.is _ _ _ c.tell_literal.result l (c.tell_literal.ensures.reads limit)
+    Tells_after sight limit (g.E.Events.is c.args.events) _ _ _ c.tell_literal.result l (c.tell_literal.ensures.reads limit)
 
 pub returns-in-Some-n-clause-memory : goal.returns-in-Some-n-clause-memory
 returns-in-Some-n-clause-memory g c =
@@ -22,7 +22,7 @@ returns-in-Some-clause-reads g c =
     let sight = g.S.Source.sight in
     let limit = c.args.limit in
     let l = Leads_whites sight limit _ _ _ c.skip_white.ensures.white tt (white_awaited limit []) in
-    Tells_after sight limit g.E.Events.is _ _ _ c.tell_value.result l c.tell_value.ensures.reads
+    Tells_after sight limit (g.E.Events.is c.args.events) _ _ _ c.tell_value.result l c.tell_value.ensures.reads
 
 pub returns-in-Some-clause-memory : goal.returns-in-Some-clause-memory
 returns-in-Some-clause-memory g c = grows_meets g.S.Source.sight _ _ c.in-Some.first c.tell_value.result c.skip_white.ensures.white

@@ -12,19 +12,19 @@ grows_for c (Ok v) h = h
 grows_for c (Err k) h = λ _. h
 
 pub returns-in-n-clause-reads : goal.returns-in-n-clause-reads
-returns-in-n-clause-reads g c = c.literal.ensures.reads c.args.limit
+returns-in-n-clause-reads g c = λ start. c.literal.ensures.reads start c.args.limit
 
 pub returns-in-34-clause-reads : goal.returns-in-34-clause-reads
-returns-in-34-clause-reads g c = c.string.ensures.reads c.args.limit
+returns-in-34-clause-reads g c = λ start. c.string.ensures.reads start c.args.limit
 
 pub returns-in-34-clause-memory : goal.returns-in-34-clause-memory
 returns-in-34-clause-memory g c = λ _. grows_for c.args.first c.string.result (rw c.in-34.is refl)
 
 pub returns-in_default-clause-reads : goal.returns-in_default-clause-reads
-returns-in_default-clause-reads g c = c.number.ensures.reads c.args.limit
+returns-in_default-clause-reads g c = λ start. c.number.ensures.reads start c.args.limit
 
 pub returns-in_default-2-clause-reads : goal.returns-in_default-2-clause-reads
-returns-in_default-2-clause-reads g c = λ fs h.
+returns-in_default-2-clause-reads g c = λ start fs h.
     let sight = g.S.Source.sight in
     let limit = c.args.limit in
     let d = c.args.first in
@@ -43,14 +43,12 @@ pub returns-in-123-clause-memory : goal.returns-in-123-clause-memory
 returns-in-123-clause-memory g c = λ _. grows_for c.args.first c.object.result (rw c.in-123.is refl)
 
 pub returns-in-n-clause-some : goal.returns-in-n-clause-some
-returns-in-n-clause-some g c =
-    left_kept g.E.Events.holds g.E.Events.is _ c.args.nest.now c.literal.new.nest
-    (inl (c.requires.open.0, c.requires.open.1.0)) c.literal.ensures.kept
+returns-in-n-clause-some g c = λ start fs h.
+    left_kept (g.E.Events.holds start) (g.E.Events.is start) _ c.args.nest.now c.literal.new.nest (inl (fs, h.0)) c.literal.ensures.kept
 
 pub returns-in_default-clause-some : goal.returns-in_default-clause-some
-returns-in_default-clause-some g c =
-    left_kept g.E.Events.holds g.E.Events.is _ c.args.nest.now c.number.new.nest
-    (inl (c.requires.open.0, c.requires.open.1.0)) c.number.ensures.kept
+returns-in_default-clause-some g c = λ start fs h.
+    left_kept (g.E.Events.holds start) (g.E.Events.is start) _ c.args.nest.now c.number.new.nest (inl (fs, h.0)) c.number.ensures.kept
 
 pub returns-in_default-2-clause-some : goal.returns-in_default-2-clause-some
-returns-in_default-2-clause-some g c = λ n. inl (c.requires.open.0, c.requires.open.1.0)
+returns-in_default-2-clause-some g c = λ start fs h n. inl (fs, h.0)

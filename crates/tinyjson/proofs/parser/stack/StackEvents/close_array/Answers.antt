@@ -9,7 +9,7 @@ use Rattle.tinyjson.proofs.Values.View.{view_Array}
 use Rattle.tinyjson.proofs.parser.stack.StackEvents.close_array.Goals as goal
 
 pub returns : goal.returns
-returns c = λ ts fs h.
+returns c = λ _ ts fs h.
     let s = c.args.self.now in
     let o = c.in-Some.place in
     let rest = c.pop.new.self.items in

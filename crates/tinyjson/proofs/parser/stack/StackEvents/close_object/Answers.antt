@@ -8,7 +8,7 @@ use Rattle.tinyjson.proofs.Values.View.{view_Object}
 use Rattle.tinyjson.proofs.parser.stack.StackEvents.close_object.Goals as goal
 
 pub returns : goal.returns
-returns c = λ ms fs h.
+returns c = λ _ ms fs h.
     let s = c.args.self.now in
     let o = c.in-Some.place in
     let rest = c.pop.new.self.items in

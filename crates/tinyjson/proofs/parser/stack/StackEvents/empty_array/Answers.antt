@@ -8,7 +8,7 @@ use Rattle.tinyjson.proofs.Values.View.{view_Array}
 use Rattle.tinyjson.proofs.parser.stack.StackEvents.empty_array.Goals as goal
 
 pub returns : goal.returns
-returns c = λ fs h.
+returns c = λ _ fs h.
     let s = c.args.self.now in
     let items = c.new.result in
     let none : items.items ≡ [] = search rules in

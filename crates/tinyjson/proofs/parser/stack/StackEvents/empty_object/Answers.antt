@@ -8,7 +8,7 @@ use Rattle.tinyjson.proofs.Values.View.{view_Object}
 use Rattle.tinyjson.proofs.parser.stack.StackEvents.empty_object.Goals as goal
 
 pub returns : goal.returns
-returns c = λ fs h.
+returns c = λ _ fs h.
     let s = c.args.self.now in
     let members = c.new.result in
     let none : members_view members.entries ≡ no_members = search rules in

@@ -7,7 +7,7 @@ use Rattle.tinyjson.proofs.Reading.Stack.{holds_key, holds_by}
 use Rattle.tinyjson.proofs.parser.stack.StackEvents.key.Goals as goal
 
 pub returns : goal.returns
-returns c = λ ms fs h.
+returns c = λ _ ms fs h.
     let t = c.settle.new.self in
     let k = c.in_ok-key.key in
     let os = reverse t.places.items in

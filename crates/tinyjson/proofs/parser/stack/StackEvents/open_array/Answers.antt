@@ -5,7 +5,7 @@ use Rattle.tinyjson.proofs.Reading.Stack.{pushed, holds_array, holds_by}
 use Rattle.tinyjson.proofs.parser.stack.StackEvents.open_array.Goals as goal
 
 pub returns : goal.returns
-returns c = λ fs h.
+returns c = λ _ fs h.
     let s = c.args.self.now in
     let o = c.end-place.result in
     let e : c.push.new.self.items ≡ s.places.items ++ o ∷ [] = search rules in

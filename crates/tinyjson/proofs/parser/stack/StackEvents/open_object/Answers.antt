@@ -6,7 +6,7 @@ use Rattle.tinyjson.proofs.Reading.Stack.{pushed, holds_object, holds_by}
 use Rattle.tinyjson.proofs.parser.stack.StackEvents.open_object.Goals as goal
 
 pub returns : goal.returns
-returns c = λ fs h.
+returns c = λ _ fs h.
     let s = c.args.self.now in
     let t = c.open_map.new.self in
     let w = c.in_ok-open_map.ensures in

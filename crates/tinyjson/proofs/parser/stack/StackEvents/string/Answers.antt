@@ -8,7 +8,7 @@ use Rattle.tinyjson.proofs.Values.View.{view_String}
 use Rattle.tinyjson.proofs.parser.stack.StackEvents.string.Goals as goal
 
 pub returns : goal.returns
-returns c = λ fs h.
+returns c = λ _ fs h.
     let s = c.args.self.now in
     let v = c.in_ok-value.value in
     holds_value s.values.items (is.String v) s.keys.items (maps_of s) (reverse s.places.items) fs _ _ h
