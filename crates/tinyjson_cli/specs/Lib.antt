@@ -1,4 +1,5 @@
 pub mod Arguments
+pub mod Ending
 pub mod Failures
 pub mod Shown
 pub mod Misuses

@@ -23,8 +23,8 @@ pub trait Answer {
     ) -> Result<Status, Failure>;
 }
 
-/// Answers each file, or standard input for `-` and where there are no files. What is wrong is told, of an input by its
-/// name. The status is the greatest.
+/// Answers each file, or standard input for `-` and if there are no files. A message about a file begins with its name.
+/// The status is the greatest.
 pub fn answer_files<A: Answer>(
     rt: &HostRuntime,
     program: Program<'_>,

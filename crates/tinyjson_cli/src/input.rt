@@ -1,6 +1,8 @@
 //! The texts that a program reads.
 ghost use Rattle.std.specs.IoError.{error_kind};
-ghost use Rattle.std.specs.Prelude.{◌≡◌};
+ghost use Rattle.std.specs.Prelude.{◌≡◌, IfErr, MatchResult, string_bytes};
+ghost use Rattle.std.specs.Str.{IsUtf8};
+ghost use Rattle.tinyjson_cli.specs.Ending.{IsOfInput, IsOfNamed};
 ghost use Rattle.tinyjson_cli.specs.Failures.{reading_failure, writing_failure};
 
 use crate::failure::{Failure, Place};
@@ -10,13 +12,25 @@ use std::alloc::Global;
 use std::io::{self, ErrorKind, Read};
 use std::{fs, str};
 
-/// The text of a file, or of standard input where there is no name.
-pub fn read_text(rt: &HostRuntime, file: Option<&str>) -> Result<String, Failure> {
+/// The text of a file, or of standard input if there is no name. It fails with `Reading`, `NotUtf8` or `OutOfMemory`.
+pub fn read_text(rt: &HostRuntime, file: Option<&str>) -> Result<String, Failure>
+    ensures { IfErr result IsOfInput }
+{
     let read = match file {
         Some(file) => fs::read(rt, file),
         None => read_input(rt),
     };
-    let bytes = read.map_err(reading_error)?;
+    match read {
+        Ok(bytes) => text_of(bytes),
+        Err(error) => Err(reading_error(error)),
+    }
+}
+
+/// The text of these bytes, unless they are not UTF-8 from a place on.
+fn text_of(bytes: Vec<u8>) -> Result<String, Failure>
+    ensures { MatchResult result (λ text. string_bytes text ≡ bytes.items)
+        (λ failure. ¬ IsUtf8 bytes.items × IsOfInput failure) }
+{
     let bad = match str::from_utf8(bytes.as_slice()) {
         Ok(_) => None,
         Err(error) => Some(error.valid_up_to()),
@@ -30,8 +44,11 @@ pub fn read_text(rt: &HostRuntime, file: Option<&str>) -> Result<String, Failure
     }
 }
 
-/// The text of a file that the arguments name, as a patch or a schema.
-pub fn read_named(rt: &HostRuntime, file: &str) -> Result<String, Failure> {
+/// The text of a file that the arguments name, as a patch or a schema. It fails with `Misused`, whose words name the
+/// file, or `OutOfMemory`.
+pub fn read_named(rt: &HostRuntime, file: &str) -> Result<String, Failure>
+    ensures { IfErr result IsOfNamed }
+{
     let source = if file == "-" { None } else { Some(file) };
     match read_text(rt, source) {
         Ok(text) => Ok(text),
@@ -39,8 +56,10 @@ pub fn read_named(rt: &HostRuntime, file: &str) -> Result<String, Failure> {
     }
 }
 
-/// That a file which the arguments name can't be read.
-fn named_failure(alloc: Global, file: &str, failure: Failure) -> Failure {
+/// The failure of a file that the arguments name, from that of an input.
+fn named_failure(alloc: Global, file: &str, failure: Failure) -> Failure
+    ensures { IsOfInput failure → IsOfNamed result }
+{
     let words = match &failure {
         Failure::NotUtf8(Place { line, column }) => {
             format!(in alloc; "{}:{line}:{column}: {failure}", Shown(file))

@@ -14,8 +14,8 @@ const BUFFER_LEN: usize = 64 * 1024;
 
 /// What a program answers for the lines of an input.
 pub trait AnswerLines {
-    /// Writes the answer for each line, and tells `errors` of those that are refused, by the name of the file if there
-    /// is one. Returns whether the next input is answered, too, and the status.
+    /// Writes the answer for each line, and to `errors` a message about each line that is rejected, with the name of the
+    /// file if there is one. Returns whether the next input is answered, too, and the status.
     fn answer<R: BufRead, W: Write, E: Write>(
         &mut self,
         file: Option<&str>,
@@ -25,7 +25,7 @@ pub trait AnswerLines {
     ) -> io::Result<(bool, Status)>;
 }
 
-/// Answers the lines of each file, or of standard input for `-` and where there are no files. What is complete is
+/// Answers the lines of each file, or of standard input for `-` and if there are no files. What is complete is
 /// written before the program waits for more input. The status is the greatest.
 pub fn answer_lines<A: AnswerLines>(
     rt: &HostRuntime,

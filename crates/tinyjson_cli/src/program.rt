@@ -1,4 +1,7 @@
 //! A program: its name, its options and its help page.
+ghost use Rattle.std.specs.Prelude.{◌≡◌, IfErr, map, string_bytes};
+ghost use Rattle.tinyjson_cli.specs.Failures.{failure_status};
+ghost use Rattle.tinyjson_cli.specs.Ending.{Asks, IsOfArguments, IsOfPage, misuse_status};
 
 use crate::arguments::{Arguments, Known, Misuse, read_arguments};
 use crate::failure::{Failure, Message};
@@ -35,8 +38,11 @@ pub struct Program<'a> {
     pub help: &'a str,
 }
 
-/// The arguments after the program's name. What is wrong with them is told, and gives the status.
-pub fn argument_words(rt: &HostRuntime, program: Program<'_>) -> Result<Vec<String>, Status> {
+/// The arguments after the program's name. If they cannot be read, a message is printed, and the program ends with the
+/// status: `Misused` where one is not UTF-8, `Failed` where memory ran out.
+pub fn argument_words(rt: &HostRuntime, program: Program<'_>) -> Result<Vec<String>, Status>
+    ensures { IfErr result IsOfArguments }
+{
     let words = match env::args(rt) {
         Ok(words) => words.skip(1).collect::<Vec<String>>(rt.alloc()),
         Err(error) if error.kind() == ErrorKind::OutOfMemory => {
@@ -50,13 +56,16 @@ pub fn argument_words(rt: &HostRuntime, program: Program<'_>) -> Result<Vec<Stri
     }
 }
 
-/// What the words give. Where they ask for help or the version, or are not understood, that is printed, and the
-/// program ends with the status.
+/// What the words give. If they ask for help or the version, that is printed, and the program ends with `Done`. If
+/// they are not understood, a message is printed, and it ends with `Misused`. `Failed`: memory ran out, or the page
+/// was not written.
 pub fn arguments_of<'a>(
     rt: &HostRuntime,
     program: Program<'_>,
     words: &'a [String],
-) -> Result<Arguments<'a>, Status> {
+) -> Result<Arguments<'a>, Status>
+    ensures { Asks program.entry.options.now (map string_bytes words.now) result }
+{
     match read_arguments(rt.alloc(), program.options, words) {
         Ok(arguments) => {
             if arguments.has(b'h') {
@@ -80,15 +89,19 @@ pub fn arguments_of<'a>(
 }
 
 /// The status after a page was printed, or was not.
-fn printed(rt: &HostRuntime, program: Program<'_>, done: io::Result<()>) -> Status {
+fn printed(rt: &HostRuntime, program: Program<'_>, done: io::Result<()>) -> Status
+    ensures { IsOfPage result }
+{
     match done {
         Ok(()) => Status::Done,
         Err(error) => report(rt, program, None, &writing_error(error)),
     }
 }
 
-/// Tells what is wrong with the arguments, and how help is asked for.
-pub fn misused(rt: &HostRuntime, program: Program<'_>, misuse: Misuse<'_>) -> Status {
+/// Prints what is wrong with the arguments and how to ask for help, and returns the status.
+pub fn misused(rt: &HostRuntime, program: Program<'_>, misuse: Misuse<'_>) -> Status
+    ensures { result ≡ misuse_status misuse.entry }
+{
     let name = program.name;
     if let Misuse::OutOfMemory = misuse {
         return report(rt, program, None, &Failure::OutOfMemory);
@@ -97,13 +110,15 @@ pub fn misused(rt: &HostRuntime, program: Program<'_>, misuse: Misuse<'_>) -> St
     Status::Misused
 }
 
-/// Tells of a failure, unless it is that the reader of the output has gone, and gives its status.
+/// Prints the message of a failure, unless the reader of the output has gone, and returns its status.
 pub fn report(
     rt: &HostRuntime,
     program: Program<'_>,
     file: Option<&str>,
     failure: &Failure,
-) -> Status {
+) -> Status
+    ensures { result ≡ failure_status failure.now }
+{
     if let Failure::Closed = failure {
         return failure.status();
     }

@@ -1,4 +1,4 @@
-//! What is told of a line that is refused.
+//! The message about a line that is rejected.
 ghost use Rattle.std.specs.Prelude.{Some, option_map};
 ghost use Rattle.tinyjson.specs.Written.{WritesPrefix};
 ghost use Rattle.tinyjson_cli.specs.Refusals.{refusal_line, refusal_text};
@@ -9,7 +9,7 @@ use std::fmt;
 use std::io::{self, Write};
 use tinyjson_lines::{Cause, Refusal, write_all};
 
-/// A refused line as a program prints it, without the line feed: with the name of the file, or of the program where
+/// A rejected line as a program prints it, without the line feed: with the name of the file, or of the program where
 /// the input has no name.
 #[derive(Clone, Copy)]
 pub struct RefusedLine<'a> {
@@ -39,7 +39,7 @@ impl fmt::Display for RefusedLine<'_> {
     }
 }
 
-/// Writes one line about a line that is refused. It is written at once, where the writer takes it.
+/// Writes one line about a line that is rejected, at once if the writer takes it.
 pub fn tell<E: Write>(alloc: Global, errors: &mut E, refused: &RefusedLine<'_>) -> io::Result<()>
     ensures { WritesPrefix (E.contents errors.old) (E.contents errors.new)
         (refusal_line refused.now.program.now (option_map (λ s. s.now) refused.now.file)
