@@ -1,0 +1,5 @@
+pub mod Dialects
+pub mod Pointers
+pub mod Reading
+pub mod Rules
+pub mod Translated

@@ -1,0 +1,114 @@
+-- What becomes of the members of a schema of draft 6 or 7 in the words of 2020-12. Sections are of draft 7: Core
+-- (draft-handrews-json-schema-01) and Validation (draft-handrews-json-schema-validation-01).
+use Rattle.std.specs.Prelude.{ℕ, Bool, true, false, not, ◌&&◌, ◌==◌, List, [], ◌∷◌, Option, Some, None, cond, codes, is_some, encode_utf8_all}
+use Rattle.std.specs.Option.{option_map_or}
+use Rattle.std.specs.Str.{bytes_eq}
+use Rattle.tinyjson.specs.Access.{is_array}
+use Rattle.tinyjson.specs.Characters.{solidus}
+use Rattle.tinyjson.specs.Tree.{Tree, string}
+use Rattle.uri_reference.specs.Resolving.{is_empty, without_fragment, fragment_of}
+use Rattle.tinyjson_schema_keywords.specs.Applied.{schema_at}
+use Rattle.tinyjson_schema_keywords.specs.Names.{keywords, keyword_among}
+use Rattle.tinyjson_schema_keywords.specs.declared.keyword.Keyword.{Keyword}
+use Rattle.tinyjson_schema_keywords.specs.declared.keyword.Keyword.TheVariants as kw
+use Rattle.tinyjson_schema_drafts.specs.Dialects.{dialect_named}
+use Rattle.tinyjson_schema_drafts.specs.declared.draft.Dialect.{Dialect}
+use Rattle.tinyjson_schema_drafts.specs.declared.draft.Dialect.TheVariants.{Known}
+use Rattle.tinyjson_schema_drafts.specs.declared.draft.Draft.{Draft}
+use Rattle.tinyjson_schema_drafts.specs.declared.draft.Draft.TheVariants.{Draft6, Draft7}
+use Rattle.tinyjson_schema_drafts.specs.declared.rule.Rule.{Rule}
+use Rattle.tinyjson_schema_drafts.specs.declared.rule.Rule.TheVariants as rule
+use Rattle.tinyjson_schema_drafts.specs.declared.rule.Traits.{Traits}
+
+-- `items` is an array (Validation, 6.4.1)
+abbrev pub has_list : Tree → Bool
+has_list s = option_map_or is_array (schema_at s kw.Items) false
+
+abbrev pub traits_of : Draft → Tree → Traits
+traits_of d s = record { draft = d; has_reference = is_some (schema_at s kw.Ref); has_list = has_list s }
+
+-- In a schema inside, the draft's own name is left out (Core, 7).
+abbrev pub dialect_rule_by : Draft → Dialect → Rule
+dialect_rule_by Draft6 (Known Draft6) = rule.Drop
+dialect_rule_by Draft7 (Known Draft7) = rule.Drop
+dialect_rule_by _ _ = rule.Reject
+
+abbrev pub dialect_rule : Draft → Tree → Rule
+dialect_rule d w = dialect_rule_by d (dialect_named w)
+
+-- An `$id` that is a fragment is a name (Core, 8.2.3); one that is a pointer, or empty, is left out.
+abbrev pub fragment_rule : List ℕ → Rule
+fragment_rule [] = rule.Drop
+fragment_rule (b ∷ bs) = cond (b == solidus) rule.Drop rule.Name
+
+abbrev pub id_rule_by : List ℕ → Rule
+id_rule_by bs = cond (is_empty (without_fragment bs)) (option_map_or fragment_rule (fragment_of bs) rule.Drop) rule.Id
+
+abbrev pub id_rule : Tree → Rule
+id_rule (string cs) = id_rule_by (encode_utf8_all cs)
+id_rule _ = rule.Keep
+
+-- `if`, `then` and `else` came with draft 7 (Validation, 6.6).
+abbrev pub if_rule : Draft → Rule
+if_rule Draft6 = rule.Reject
+if_rule _ = rule.Schema
+
+-- An array at `items` is for the first items (Validation, 6.4.1).
+abbrev pub items_rule : Bool → Rule
+items_rule list = cond list rule.Prefix rule.Schema
+
+-- A keyword that came later and would apply is rejected.
+abbrev pub rule_by : Traits → Keyword → Tree → Rule
+rule_by x kw.Schema w = dialect_rule x.draft w
+rule_by x kw.Id w = id_rule w
+rule_by x kw.Ref w = rule.Reference
+rule_by x kw.Defs w = rule.Map
+rule_by x kw.Definitions w = rule.Map
+rule_by x kw.Properties w = rule.Map
+rule_by x kw.PatternProperties w = rule.Map
+rule_by x kw.AllOf w = rule.Schemas
+rule_by x kw.AnyOf w = rule.Schemas
+rule_by x kw.OneOf w = rule.Schemas
+rule_by x kw.Not w = rule.Schema
+rule_by x kw.Contains w = rule.Schema
+rule_by x kw.AdditionalProperties w = rule.Schema
+rule_by x kw.PropertyNames w = rule.Schema
+rule_by x kw.If w = if_rule x.draft
+rule_by x kw.Then w = if_rule x.draft
+rule_by x kw.Else w = if_rule x.draft
+rule_by x kw.Items w = items_rule x.has_list
+rule_by x kw.Anchor w = rule.Reject
+rule_by x kw.DynamicRef w = rule.Reject
+rule_by x kw.DynamicAnchor w = rule.Reject
+rule_by x kw.DependentSchemas w = rule.Reject
+rule_by x kw.DependentRequired w = rule.Reject
+rule_by x kw.PrefixItems w = rule.Reject
+rule_by x kw.UnevaluatedItems w = rule.Reject
+rule_by x kw.UnevaluatedProperties w = rule.Reject
+rule_by x kw.MaxContains w = rule.Reject
+rule_by x kw.MinContains w = rule.Reject
+rule_by x kw.ContentSchema w = rule.Reject
+rule_by x _ w = rule.Keep
+
+-- `additionalItems` is for the items that an array at `items` leaves (Validation, 6.4.2), and is left out without one; of
+-- `dependencies` see Validation, 6.5.7.
+abbrev pub other_rule : Traits → List ℕ → Rule
+other_rule x key = cond (bytes_eq key (codes "additionalItems")) (cond x.has_list rule.Rest rule.Drop)
+    (cond (bytes_eq key (codes "dependencies")) rule.Dependencies rule.Keep)
+
+abbrev pub rule_at : Traits → List ℕ → Tree → Option Keyword → Rule
+rule_at x key w None = other_rule x key
+rule_at x key w (Some k) = rule_by x k w
+
+-- `$ref` hides what is beside it (Core, 8.3), but not the schemas that references lead to.
+abbrev pub is_kept_beside : Option Keyword → Bool
+is_kept_beside (Some kw.Ref) = true
+is_kept_beside (Some kw.Defs) = true
+is_kept_beside (Some kw.Definitions) = true
+is_kept_beside _ = false
+
+abbrev pub rule_for : Traits → List ℕ → Tree → Option Keyword → Rule
+rule_for x key w k = cond (x.has_reference && not (is_kept_beside k)) rule.Drop (rule_at x key w k)
+
+abbrev pub rule_of : Traits → List ℕ → Tree → Rule
+rule_of x key w = rule_for x key w (keyword_among keywords key)

@@ -1,0 +1,150 @@
+//! The drafts, and the names that schemas give them.
+ghost use Rattle.std.specs.Prelude.{◌≡◌, option_map};
+ghost use Rattle.tinyjson.specs.View.{view};
+ghost use Rattle.tinyjson_schema_drafts.specs.Dialects.{dialect_of, dialect_named, draft_named};
+ghost use Rattle.tinyjson_schema_drafts.specs.Dialects.{is_draft_6, is_draft_7, is_2020_12};
+ghost use Rattle.tinyjson_schema_drafts.specs.Dialects.{without_dialect, unknown_dialect};
+ghost use Rattle.tinyjson_schema_drafts.specs.Dialects.{unknown_in, unknown_uri};
+
+use tinyjson::{JsonValue, discard_member};
+use tinyjson_schema_keywords::{Keyword, schema_at};
+
+/// A version of JSON Schema.
+#[derive(Clone, Copy)]
+pub enum Draft {
+    /// Draft 6 (draft-wright-json-schema-01).
+    Draft6,
+    /// Draft 7 (draft-handrews-json-schema-01).
+    Draft7,
+    /// 2020-12.
+    Draft202012,
+}
+
+/// What `$schema` names.
+#[derive(Clone, Copy)]
+pub enum Dialect {
+    /// Nothing: the schema has no `$schema`, or one that is no string.
+    Missing,
+    /// One of the drafts.
+    Known(Draft),
+    /// Something else.
+    Unknown,
+}
+
+/// What the `$schema` of a schema names: a draft by the URI of its meta-schema, also with `https` in place of `http`,
+/// with or without an empty fragment.
+///
+/// ```
+/// // Of {"$schema": "http://json-schema.org/draft-07/schema#"}:
+/// let dialect = dialect_of(&schema); // Dialect::Known(Draft::Draft7)
+/// ```
+pub fn dialect_of(schema: &JsonValue) -> Dialect
+    ensures { result ≡ dialect_of (view schema.now) }
+{
+    match schema_at(schema, Keyword::Schema) {
+        Some(uri) => dialect_named(uri),
+        None => Dialect::Missing,
+    }
+}
+
+/// What a value of `$schema` names.
+pub fn dialect_named(uri: &JsonValue) -> Dialect
+    ensures { result ≡ dialect_named (view uri.now) }
+{
+    match uri {
+        JsonValue::String(uri) => draft_named(uri.as_str()),
+        _ => Dialect::Missing,
+    }
+}
+
+fn draft_named(uri: &str) -> Dialect
+    ensures { result ≡ draft_named uri.now }
+{
+    if is_2020_12(uri) {
+        return Dialect::Known(Draft::Draft202012);
+    }
+    if is_draft_7(uri) {
+        return Dialect::Known(Draft::Draft7);
+    }
+    if is_draft_6(uri) {
+        return Dialect::Known(Draft::Draft6);
+    }
+    Dialect::Unknown
+}
+
+fn is_2020_12(uri: &str) -> bool
+    ensures { result ≡ is_2020_12 uri.now }
+{
+    matches!(
+        uri,
+        "https://json-schema.org/draft/2020-12/schema"
+            | "https://json-schema.org/draft/2020-12/schema#"
+            | "http://json-schema.org/draft/2020-12/schema"
+            | "http://json-schema.org/draft/2020-12/schema#"
+    )
+}
+
+fn is_draft_7(uri: &str) -> bool
+    ensures { result ≡ is_draft_7 uri.now }
+{
+    matches!(
+        uri,
+        "http://json-schema.org/draft-07/schema#"
+            | "http://json-schema.org/draft-07/schema"
+            | "https://json-schema.org/draft-07/schema#"
+            | "https://json-schema.org/draft-07/schema"
+    )
+}
+
+fn is_draft_6(uri: &str) -> bool
+    ensures { result ≡ is_draft_6 uri.now }
+{
+    matches!(
+        uri,
+        "http://json-schema.org/draft-06/schema#"
+            | "http://json-schema.org/draft-06/schema"
+            | "https://json-schema.org/draft-06/schema#"
+            | "https://json-schema.org/draft-06/schema"
+    )
+}
+
+/// The `$schema` of a schema, if it is a string and names none of the drafts.
+pub fn unknown_dialect(schema: &JsonValue) -> Option<&str>
+    ensures { option_map (λ x. x.now) result ≡ unknown_dialect (view schema.now) }
+{
+    match schema_at(schema, Keyword::Schema) {
+        Some(uri) => unknown_in(uri),
+        None => None,
+    }
+}
+
+fn unknown_in(uri: &JsonValue) -> Option<&str>
+    ensures { option_map (λ x. x.now) result ≡ unknown_in (view uri.now) }
+{
+    match uri {
+        JsonValue::String(uri) => unknown_uri(uri.as_str()),
+        _ => None,
+    }
+}
+
+fn unknown_uri(uri: &str) -> Option<&str>
+    ensures { option_map (λ x. x.now) result ≡ unknown_uri uri.now }
+{
+    match draft_named(uri) {
+        Dialect::Unknown => Some(uri),
+        _ => None,
+    }
+}
+
+/// The schema without its `$schema`; those of schemas inside it stay.
+pub fn without_dialect(schema: JsonValue) -> JsonValue
+    ensures { view result ≡ without_dialect (view schema) }
+{
+    match schema {
+        JsonValue::Object(mut members) => {
+            discard_member(&mut members, Keyword::Schema.name());
+            JsonValue::Object(members)
+        }
+        other => other,
+    }
+}

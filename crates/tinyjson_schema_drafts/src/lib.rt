@@ -1,0 +1,16 @@
+//! Schemas of older drafts of JSON Schema, drafts 6 and 7, as what they are in the words of 2020-12.
+//!
+//! ```
+//! let schema = read_as(schema, Draft::Draft202012, alloc)?; // in the draft that it names, or in 2020-12
+//! ```
+#![tactic(auto)]
+
+mod draft;
+mod read;
+mod reference;
+mod rule;
+mod translate;
+
+pub use draft::{Dialect, Draft, dialect_of, unknown_dialect};
+pub use read::read_as;
+pub use translate::translated;
