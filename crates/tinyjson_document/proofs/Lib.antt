@@ -10,6 +10,10 @@ pub mod Order
 pub mod Gathered
 -- Members whose keys rise.
 pub mod Rising
+-- Members that were picked from others.
+pub mod Picked
+-- Lines with two spaces a level.
+pub mod Lines
 -- Texts that grow by more than is meant.
 pub mod Appending
 -- What a walk writes.

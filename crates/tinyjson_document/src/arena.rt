@@ -31,6 +31,9 @@ pub struct Arena {
     pub(crate) keys: Vec<Span>,
     pub(crate) values: Vec<Cell>,
     /// The members of the object that is being closed.
+    gathered: Vec<Member>,
+    /// The order of the members of the last object, and those members.
+    ranks: Vec<u64>,
     sorted: Vec<Member>,
     /// The greatest number of containers that were open at once.
     pub(crate) deepest: usize,
@@ -46,6 +49,8 @@ impl Arena {
             open: Vec::new(alloc),
             keys: Vec::new(alloc),
             values: Vec::new(alloc),
+            gathered: Vec::new(alloc),
+            ranks: Vec::new(alloc),
             sorted: Vec::new(alloc),
             deepest: 0,
         }
@@ -120,8 +125,10 @@ impl Events for Arena {
         let Some(values) = self.values.get(place.values..) else {
             return Err(AllocError);
         };
-        pair(&mut self.sorted, keys, values)?;
-        let span = self.store.add_object(&mut self.sorted)?;
+        pair(&mut self.gathered, keys, values)?;
+        let span = self
+            .store
+            .add_object(&mut self.gathered, &mut self.ranks, &mut self.sorted)?;
         self.keys.truncate(place.keys);
         self.values.truncate(place.values);
         self.values.push(Cell::Object(span))?;

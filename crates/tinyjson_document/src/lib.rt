@@ -9,7 +9,10 @@ pub mod arena;
 pub mod document;
 mod equality;
 pub mod iterators;
+mod layout;
 pub mod node;
+#[doc(hidden)]
+pub mod ranking;
 #[doc(hidden)]
 pub mod sorting;
 #[doc(hidden)]

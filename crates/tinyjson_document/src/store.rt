@@ -6,7 +6,8 @@ ghost use Rattle.tinyjson_document.specs.declared.store.Member.{Member};
 ghost use Rattle.tinyjson_document.specs.Order.{IsOrdered, lasts, part};
 
 use crate::append::append;
-use crate::sorting::{push_lasts, rise, sort};
+use crate::ranking::keep_ordered;
+use crate::sorting::rise;
 use std::alloc::{AllocError, Global};
 use std::{mem, str};
 use tinyjson_number::JsonNumber;
@@ -145,42 +146,34 @@ impl Store {
         }
     }
 
-    /// Appends the members of an object in the order of their keys; of those with equal keys, only the last.
-    pub fn add_object(&mut self, members: &mut Vec<Member>) -> Result<Span, AllocError>
+    /// Appends the members of an object in the order of their keys; of those with equal keys, only the last. The
+    /// ranks have the order of the object before ([`keep_ordered`]).
+    pub fn add_object(
+        &mut self,
+        members: &mut Vec<Member>,
+        ranks: &mut Vec<u64>,
+        kept: &mut Vec<Member>,
+    ) -> Result<Span, AllocError>
         ensures members { IfOk result (λ span. (ns : List Member)
             × IsOrdered self.old.texts.items members.old.items ns
             × IsRun self.new.members.items span (lasts self.old.texts.items ns)) }
         ensures grows { OnOk result (Grows self.old self.new) }
     {
         if rise(&self.texts, members) {
-            return self.add_rising(members);
+            return self.add_members(members);
         }
-        sort(&self.texts, members)?;
-        self.add_members(members)
+        keep_ordered(&self.texts, members, ranks, kept)?;
+        self.add_members(kept)
     }
 
-    /// Appends the members of an object, of which each key is less than the next one.
-    fn add_rising(&mut self, members: &[Member]) -> Result<Span, AllocError>
+    /// Appends members as they are.
+    fn add_members(&mut self, members: &[Member]) -> Result<Span, AllocError>
         ensures members { IfOk result (λ span.
             IsRun self.new.members.items span members.now) }
         ensures grows { OnOk result (Grows self.old self.new) }
     {
         let from = self.members.len();
         self.members.extend_from_slice(members)?;
-        Ok(Span {
-            from,
-            to: self.members.len(),
-        })
-    }
-
-    /// Appends the sorted members of an object; of those with equal keys, only the last.
-    pub fn add_members(&mut self, sorted: &[Member]) -> Result<Span, AllocError>
-        ensures members { IfOk result (λ span. IsRun self.new.members.items span
-            (lasts self.old.texts.items sorted.now)) }
-        ensures grows { OnOk result (Grows self.old self.new) }
-    {
-        let from = self.members.len();
-        push_lasts(&self.texts, &mut self.members, sorted)?;
         Ok(Span {
             from,
             to: self.members.len(),

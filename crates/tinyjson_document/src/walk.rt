@@ -15,13 +15,13 @@ ghost use Rattle.tinyjson_document.specs.Walking.{rest_cost, left_cost};
 ghost use Rattle.tinyjson_output.specs.Buffer.{buffered, Sends, SendsText};
 ghost use Rattle.tinyjson_output.specs.Written.{WritesPrefix};
 
+use crate::layout::separate;
 use crate::store::{Cell, Member, Store, part};
 use std::alloc::{AllocError, Global};
 use std::io::{self, ErrorKind, Write};
 use tinyjson_number::JsonNumber;
 use tinyjson_output::{
-    Buffer, flush, quick_number, quick_text, quote, separate, write_bytes, write_colon,
-    write_newline, write_number,
+    Buffer, flush, quick_number, quick_text, quote, write_bytes, write_colon, write_number,
 };
 
 /// What is left to write of an open container, before its closing bracket. `first` is true while nothing of it is
@@ -466,7 +466,7 @@ fn close<W: Write>(
         ++ bracket.now) result }
 {
     if !is_empty {
-        write_newline(out, buffer, indent, level)?;
+        separate(out, buffer, indent, level, true)?;
     }
     write_bytes(out, buffer, bracket)
 }

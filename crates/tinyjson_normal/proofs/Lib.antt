@@ -1,5 +1,3 @@
--- Members that were picked from others.
-pub mod Picked
 -- What stands in compact text.
 pub mod Compacting
 -- The characters of a compact text.

@@ -11,11 +11,11 @@ ghost use Rattle.tinyjson_document.specs.Order.{IsOrdered, lasts};
 ghost use Rattle.tinyjson_document.specs.declared.store.Member.{Member as Pair};
 ghost use Rattle.tinyjson_number.specs.Text.{decimal_text};
 
-use crate::ranking::keep_ordered;
 use std::alloc::{AllocError, Global};
 use tinyjson::{Events, JsonNumber};
 use tinyjson_bytes::plain_end;
 use tinyjson_document::append::{ROOM, append, append_number, append_quoted};
+use tinyjson_document::ranking::keep_ordered;
 use tinyjson_document::sorting::rise;
 use tinyjson_document::store::{Cell, Member, Span, Store, part};
 use tinyjson_output::{Buffer, flush, quote, write_number};

@@ -4,7 +4,6 @@
 
 mod compact;
 pub mod normal;
-mod ranking;
 pub mod reader;
 
 pub use normal::{NormalText, is_normal};

@@ -1,8 +1,8 @@
 use Rattle.std.proofs.Common.{sym, ap, subst, ◌∙◌, ltb-true}
 use Rattle.std.specs.List.{All, Contains}
 use Rattle.std.proofs.lemmas.List.Elements.{All-push}
-use Rattle.tinyjson_normal.proofs.ranking.pick.Goals as goal
-use Rattle.tinyjson_normal.proofs.ranking.pick.Goals.{in-Some+in_ok-push, in_default}
+use Rattle.tinyjson_document.proofs.ranking.pick.Goals as goal
+use Rattle.tinyjson_document.proofs.ranking.pick.Goals.{in-Some+in_ok-push, in_default}
 
 pub loop-rank-preserved : goal.loop-rank-preserved
 loop-rank-preserved c =

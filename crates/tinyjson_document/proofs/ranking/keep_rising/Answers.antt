@@ -1,7 +1,7 @@
 use Rattle.std.proofs.Common.{sym, ◌∙◌, ap, arith}
 use Rattle.tinyjson_document.specs.Order.{rise}
-use Rattle.tinyjson_normal.proofs.Picked.{picked_ordered}
-use Rattle.tinyjson_normal.proofs.ranking.keep_rising.Goals as goal
+use Rattle.tinyjson_document.proofs.Picked.{picked_ordered}
+use Rattle.tinyjson_document.proofs.ranking.keep_rising.Goals as goal
 
 pub returns-then-len-members : goal.returns-then-len-members
 returns-then-len-members c = λ h.

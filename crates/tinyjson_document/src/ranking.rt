@@ -5,10 +5,10 @@ ghost use Rattle.std.specs.List.{All, Contains};
 ghost use Rattle.tinyjson_document.specs.Order.{IsOrdered, lasts};
 ghost use Rattle.tinyjson_document.specs.declared.store.Member.{Member as Pair};
 
+use crate::sorting::{push_lasts, rise, sort};
+use crate::store::{Member, part};
 use std::alloc::AllocError;
 use tinyjson_bytes::{Keys, place_mask, rank};
-use tinyjson_document::sorting::{push_lasts, rise, sort};
-use tinyjson_document::store::{Member, part};
 
 /// Up to this many members are sorted without ranks, unless the object before had as many keys.
 const FEW: usize = 32;
@@ -16,7 +16,7 @@ const FEW: usize = 32;
 /// Keeps the members in the order of their keys; of equal keys only the last. It first tries the order of
 /// the last object, which the ranks have, since many objects of a text have the same keys. If that object
 /// had equal keys, there are no ranks, and few members are simply sorted.
-pub(crate) fn keep_ordered(
+pub fn keep_ordered(
     texts: &[u8],
     members: &mut Vec<Member>,
     ranks: &mut Vec<u64>,
