@@ -5,6 +5,7 @@ or a value that `json.dumps` writes compactly with all characters as they are.
 """
 
 import dataclasses
+import itertools
 import json
 import pathlib
 import random
@@ -320,10 +321,50 @@ CLASSES = [
     Input("lines", lines, mode="lines"),
 ]
 
+# ---- keys of one object
+
+HASH_START, HASH_MULTIPLIER = 0x243F6A8885A308D3, 0x9E3779B97F4A7C15
+
+
+def folded(one, other):
+    """The step of the hash of the toolchain's maps, whose start is fixed."""
+    product = one * other
+    return (product ^ product >> 64) & (1 << 64) - 1
+
+
+def colliding_keys(_random, count=25_000):
+    """Keys of 32 bytes with one hash: the third 8 bytes take away the state after the first 16, where they are ASCII."""
+    keys = {}
+    for number in itertools.count():
+        front = b"%016d" % number
+        one, other = (int.from_bytes(part, "little") for part in (front[:8], front[8:]))
+        state = folded(one ^ (HASH_START + 32), other ^ HASH_MULTIPLIER)
+        if not state & 0x8080808080808080:
+            keys[(front + state.to_bytes(8, "little")).decode() + "." * 8] = 1
+        if len(keys) == count:
+            return keys
+
+
+def random_keys(random, count=25_000):
+    return {"".join(random.choices("0123456789abcdefghijklmnopqrstuv", k=32)): 1 for _ in range(count)}
+
+
+def falling_keys(_random, count=25_000):
+    return {f"{number:032}": 1 for number in reversed(range(count))}
+
+
+KEYS = [
+    Input("25,000 keys of one hash", colliding_keys),
+    Input("25,000 random keys", random_keys),
+    Input("25,000 falling keys", falling_keys),
+    Input("keys of one prefix", common_prefixes),
+]
+
 # Records of about 1, 10 and 100 MB, and one object with this many members.
+LARGE = Input("records, 10 MB", lambda random: records(random, 43_500))
 GROWTH = [
     Input("records, 1 MB", lambda random: records(random, 4_350)),
-    Input("records, 10 MB", lambda random: records(random, 43_500)),
+    LARGE,
     Input("records, 100 MB", lambda random: records(random, 435_000)),
     Input("members, 500,000", lambda random: wide(random, 500_000)),
     Input("members, 1,000,000", lambda random: wide(random, 1_000_000)),

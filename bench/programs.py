@@ -69,10 +69,31 @@ print(status, used.ru_utime + used.ru_stime, used.ru_maxrss)
 # Programs that are built for the bench alone, and the library that each is written over. (`rt ci` refuses a `.rt` file here.)
 OWN = HERE / "own"
 OVER = {"chars": "tinyjson", "values": "tinyjson", "json": "json", "serde_json": "serde_json"}
+# The last of the large records.
+LAST = "/43499"
 # Programs that write compact text alone.
 COMPACT = (*OVER, "documents")
-# What a program over `tinyjson` needs, the lowest first.
-LIBRARIES = ("tinyjson_bytes", "tinyjson_number", "tinyjson_grammar", "tinyjson_tokens", "tinyjson_output", "tinyjson")
+# Programs that read and free, by what they are called: the library, what they take of it, and how they read.
+READERS = {
+    "value": ("tinyjson", "tinyjson::JsonValue", "let Ok(_read) = JsonValue::from_str(alloc, text)"),
+    "document": ("tinyjson_document", "tinyjson_document::Document", "let Ok(_read) = Document::read(alloc, text)"),
+    "json": (
+        "json",
+        "json::{Scratch, Value}",
+        "let mut scratch = Scratch::new(alloc);\n    let Ok(_read) = Value::parse(alloc, text, &mut scratch)",
+    ),
+    "serde_json": ("serde_json", "serde_json::Value", "let Ok(_read) = Value::from_str(alloc, text)"),
+}
+# What a program over `tinyjson` or `tinyjson_document` needs, the lowest first.
+LIBRARIES = (
+    "tinyjson_bytes",
+    "tinyjson_number",
+    "tinyjson_grammar",
+    "tinyjson_tokens",
+    "tinyjson_output",
+    "tinyjson",
+    "tinyjson_document",
+)
 
 
 def quietly(command, folder, text=""):
@@ -145,20 +166,38 @@ def of_command(command):
 
 
 def own(name, work, folder):
-    """A program of OWN: the folder's, or proved and built in a repository of its own, with copies of what it needs."""
+    """A program of OWN, which writes compact text."""
+    return alone(name, OVER[name], (OWN / f"{name}.rt.txt").read_text(), work, folder)
+
+
+def readers(work, folder):
+    """The programs of READERS."""
+    whole = (OWN / "read.rt.txt").read_text()
+    for name, (library, taken, read) in READERS.items():
+        yield name, alone(f"read_{name}", library, whole.replace("{TYPE}", taken).replace("{READ}", read), work, folder)
+
+
+def records(work, folder):
+    """What is done with large records, beside their normal text."""
+    normal, part = (built(name, work, folder, "null", *words) for name, words in (("jsonnorm", []), ("json_part", [""])))
+    return {name: {"text": words} for name, words in {"jsonnorm": [normal], "jsonnorm -i": [normal, "-i"], "json_part": [part, LAST]}.items()}
+
+
+def alone(name, library, text, work, folder):
+    """A program with this text: the folder's, or proved and built in a repository of its own, with copies of what it needs."""
     if path := found(name, folder):
         return {"text": [path]}
     scratch = work / f"{name}-built"
     crate = scratch / f"crates/bench_{name}"
     (crate / "src").mkdir(parents=True, exist_ok=True)
     quietly(["git", "init", "-q"], scratch)
-    shutil.copy2(OWN / f"{name}.rt.txt", crate / "src/main.rt")
-    lines = [f"bench_{name}: {OVER[name]}"]
-    if OVER[name] in LIBRARIES:
+    (crate / "src/main.rt").write_text(text)
+    lines = [f"bench_{name}: {library}"]
+    if library in LIBRARIES:
         # what is proved of the libraries is copied with them
         checkout = folder if folder and (folder / "crates.txt").is_file() else TOP
-        for library in LIBRARIES:
-            quietly(["cp", "-a", "--reflink=auto", "-u", checkout / "crates" / library, scratch / "crates"], scratch)
+        for below in LIBRARIES:
+            quietly(["cp", "-a", "--reflink=auto", "-u", checkout / "crates" / below, scratch / "crates"], scratch)
         lines += [line for line in (checkout / "crates.txt").read_text().splitlines() if line.split(":")[0] in LIBRARIES]
     (scratch / "crates.txt").write_text("\n".join(lines) + "\n")
     quietly(["rt", "run"], crate, "null")

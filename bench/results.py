@@ -15,25 +15,34 @@ HERE = pathlib.Path(__file__).resolve().parent
 # What is below this heading was written by hand, and stays.
 KEPT = "\n## Measured apart\n"
 
+# What is said of the tables that are not beside the original.
+ABOUT = {
+    "Reading alone": "A text is read and freed, and nothing is written: into a `JsonValue`, a `Document`, and the values of the"
+    " toolchain's `json` and `serde_json`.",
+    "Keys of one object": "The same, of objects whose keys have one hash in the toolchain's map, are random, fall, or begin alike.",
+    "Large records": "A text of records to its normal text, to indented text, and to its last record, beside the first.",
+}
+
 
 @dataclasses.dataclass(frozen=True)
 class Row:
-    """An input with the time and the memory of each program that can do it, the original's first."""
+    """An input with the time and the memory of each program that can do it, beside those of one of them."""
 
     name: str
     megabytes: float
     results: dict
+    base: str = "original"
 
     def speed(self, name):
-        """How many times as fast as the original a program is."""
-        return self.results["original"][0] / self.results[name][0] if name in self.results else None
+        """How many times as fast as the base a program is."""
+        return self.results[self.base][0] / self.results[name][0] if name in self.results else None
 
     def memory(self, name):
-        """How much of the original's memory a program takes."""
-        return self.results[name][1] / self.results["original"][1] if name in self.results else None
+        """How much of the base's memory a program takes."""
+        return self.results[name][1] / self.results[self.base][1] if name in self.results else None
 
     def cells(self, names):
-        seconds, _memory = self.results["original"]
+        seconds, _memory = self.results[self.base]
         yield from (self.name, f"{self.megabytes:.1f}", f"{seconds * 1000:.1f}")
         for name in names:
             yield figures(self.speed(name), self.memory(name))
@@ -53,8 +62,8 @@ def means(rows, names):
 # ---- tables
 
 
-def heads(names):
-    return ["input", "MB", "original ms", *names]
+def heads(names, base="original"):
+    return ["input" if base == "original" else "text", "MB", f"{base} ms", *names]
 
 
 def show_line(cells, names):
@@ -64,7 +73,7 @@ def show_line(cells, names):
 
 
 def markdown(rows, names):
-    lines = [heads(names), ["---", *["--:"] * (2 + len(names))], *(row.cells(names) for row in rows), means(rows, names)]
+    lines = [heads(names, rows[0].base), ["---", *["--:"] * (2 + len(names))], *(row.cells(names) for row in rows), means(rows, names)]
     return "\n".join("| " + " | ".join(cells) + " |" for cells in lines)
 
 
@@ -119,6 +128,9 @@ def document(tables, names, runs):
     """The page of results; the tables are lists of rows, by their titles."""
     parts = ["# Times beside the original crate", "Written by `bench/run`, apart from the last section.", heading(runs), "![Times as fast](results.svg)"]
     for title, rows in tables.items():
+        if rows[0].base != "original":
+            parts += [f"## {title}", ABOUT[title], markdown(rows, [name for name in rows[0].results if name != rows[0].base])]
+            continue
         parts += [f"## {title}", markdown(rows, names)]
         parts += [f"Times as long: {line}." for line in growth(title, rows, names)]
         for name in ("jsonnorm", "values"):
