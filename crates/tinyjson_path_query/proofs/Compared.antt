@@ -2,7 +2,8 @@
 use Rattle.std.proofs.Common.{◌≡◌, ℕ, suc, zero, Bool, true, false, ◌==◌, cond, List, [], ◌∷◌, ◌++◌, length, Option, Some, None}
 use Rattle.std.proofs.Common.{option_map, refl, sym, ap, ◌∙◌, subst}
 use Rattle.tinyjson_path_query.specs.declared.query.ComparisonOperator.{ComparisonOperator}
-use Rattle.tinyjson_path_query.specs.declared.query.ComparisonOperator.TheVariants.{Equal, NotEqual, Less, LessOrEqual, Greater, GreaterOrEqual}
+use Rattle.tinyjson_path_query.specs.declared.query.ComparisonOperator.TheVariants.{Equal, NotEqual, Less}
+use Rattle.tinyjson_path_query.specs.declared.query.ComparisonOperator.TheVariants.{LessOrEqual, Greater, GreaterOrEqual}
 use Rattle.tinyjson_path_query.specs.declared.query.Origin.TheVariants.{Root, CurrentNode}
 use Rattle.tinyjson_path_query.specs.Forms as form
 use Rattle.tinyjson_path_query.specs.Values.{Literal, SingularSegment}
@@ -14,7 +15,8 @@ use Rattle.tinyjson_path_query.specs.Fronts.{quoted_front, int_front, behind, be
 use Rattle.tinyjson_path_query.specs.Fronts.{numbered, meaning, as_string, is_quote, name_before, index_before, bracketed_front, name_front}
 use Rattle.tinyjson_path_query.specs.Fronts.{singular_segment_front, singular_end, singular_turn, singular_front, as_singular, as_literal}
 use Rattle.tinyjson_path_query.specs.Fronts.{compared_front, comparable_front, or_equal, with_operator, operator_front, origin_of, turns}
-use Rattle.tinyjson_path_query.specs.Fronts.{then_turn, with_first, FrontOf, segments_front, as_query, begun_front, filter_query_front, held}
+use Rattle.tinyjson_path_query.specs.Fronts.{then_turn, with_first, FrontOf, segments_front}
+use Rattle.tinyjson_path_query.specs.Fronts.{as_query, begun_front, filter_query_front, held}
 use Rattle.tinyjson_path_query.specs.Fronts.{in_parentheses, closed_front, as_length, as_count, as_value, value_end, count_end, length_end}
 use Rattle.tinyjson_path_query.specs.Fronts.{function_front, begins_call, as_function}
 use Rattle.tinyjson_path_query.specs.Grammar.{TextsOf, FilterQueryText, ClosedText, FunctionText}

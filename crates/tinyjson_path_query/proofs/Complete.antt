@@ -53,7 +53,8 @@ use Rattle.tinyjson_path_query.specs.Fronts.{conjunction_front, disjunction_fron
 use Rattle.tinyjson_path_query.specs.Fronts.{literal_front, as_string, name_before, index_before, bracketed_front}
 use Rattle.tinyjson_path_query.specs.Fronts.{singular_segment_front, singular_end, singular_turn, singular_front, as_singular, as_literal}
 use Rattle.tinyjson_path_query.specs.Fronts.{compared_front, comparable_front, or_equal, operator_front, as_comparison, operated_front}
-use Rattle.tinyjson_path_query.specs.Fronts.{left_end, as_query, filter_query_front, held, in_parentheses, closed_front, as_length, as_count}
+use Rattle.tinyjson_path_query.specs.Fronts.{left_end, as_query, filter_query_front, held}
+use Rattle.tinyjson_path_query.specs.Fronts.{in_parentheses, closed_front, as_length, as_count}
 use Rattle.tinyjson_path_query.specs.Fronts.{as_value, function_front, begins_call, as_function, argument_front, as_pattern}
 use Rattle.tinyjson_path_query.specs.Fronts.{second_front, first_end, arguments_front, begins_pattern}
 use Rattle.tinyjson_path_query.proofs.Before.{Ends, ends_at, ends_no_segment, ends_no_operator}

@@ -10,7 +10,8 @@ use Rattle.tinyjson_path_query.specs.Forms as form
 use Rattle.tinyjson_path_query.specs.Grammar as is
 use Rattle.tinyjson_path_query.specs.Grammar.{after_blanks, TextsOf, SegmentsText, ComparableText, OperatorText, OperandText, BasicText}
 use Rattle.tinyjson_path_query.specs.Grammar.{JoinedText, ExpressionText, QueryText}
-use Rattle.tinyjson_path_query.specs.Fronts.{turns, then_turn, with_first, FrontOf, segments_front, behind, closed, closing, tested, origin_of}
+use Rattle.tinyjson_path_query.specs.Fronts.{turns, then_turn, with_first, FrontOf, segments_front}
+use Rattle.tinyjson_path_query.specs.Fronts.{behind, closed, closing, tested, origin_of}
 use Rattle.tinyjson_path_query.specs.Fronts.{tested_front, operand_front, comparable_front, operator_front, as_affirmed, as_negated}
 use Rattle.tinyjson_path_query.specs.Fronts.{as_comparison, operated_front, left_end, basic_front, behind_both, joint, joined}
 use Rattle.tinyjson_path_query.specs.Fronts.{joined_turn, joined_front, expression_front, ended, query_front, behind_word, closed_front}

@@ -20,9 +20,11 @@ use Rattle.tinyjson_path_query.specs.Reading.{Fronts}
 use Rattle.tinyjson_path_query.specs.Fronts.{FrontOf, end, last, more, more_of, selector_front, filtered, as_plain, plain_front, separator}
 use Rattle.tinyjson_path_query.specs.Fronts.{separated, selection_turn, selection_front, shorthand_front, begins_segment, segment_front}
 use Rattle.tinyjson_path_query.specs.Fronts.{descendant_front, descendant_of, alone, dotted_front, child_of, segments_turn, segments_front}
-use Rattle.tinyjson_path_query.specs.Fronts.{operand_front, closing, closed, behind, tested, tested_front, origin_of, basic_front, as_negated}
+use Rattle.tinyjson_path_query.specs.Fronts.{operand_front, closing, closed, behind, tested}
+use Rattle.tinyjson_path_query.specs.Fronts.{tested_front, origin_of, basic_front, as_negated}
 use Rattle.tinyjson_path_query.specs.Fronts.{as_affirmed, behind_both, joint, joined, joined_turn, conjunction_front, disjunction_front}
-use Rattle.tinyjson_path_query.specs.Fronts.{expression_front, ended, query_front, comparable_front, operator_front, left_end, operated_front}
+use Rattle.tinyjson_path_query.specs.Fronts.{expression_front, ended, query_front, comparable_front}
+use Rattle.tinyjson_path_query.specs.Fronts.{operator_front, left_end, operated_front}
 use Rattle.tinyjson_path_query.specs.Fronts.{as_comparison, argument_front, as_singular, as_function, as_literal, compared_front}
 use Rattle.tinyjson_path_query.specs.Fronts.{function_front, literal_front}
 use Rattle.tinyjson_path_query.specs.Fronts.{singular_front, begins_call, closed_front, in_parentheses, held, filter_query_front, as_query}

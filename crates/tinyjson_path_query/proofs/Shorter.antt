@@ -16,8 +16,10 @@ use Rattle.tinyjson_path_query.specs.Grammar.{SingularSegmentText, SingularSegme
 use Rattle.tinyjson_path_query.specs.Grammar.{ClosedText}
 use Rattle.tinyjson_path_query.specs.Grammar.{FunctionText}
 use Rattle.tinyjson_path_query.specs.Fronts.{singular_segment_front, singular_end, singular_turn}
-use Rattle.tinyjson_path_query.specs.Fronts.{string_turn, selector_front, separator, separated, selection_turn, begins_segment, segments_turn}
-use Rattle.tinyjson_path_query.specs.Fronts.{more_of, character_front, segment_front, FrontOf, behind, behind_both, joint, joined, joined_turn}
+use Rattle.tinyjson_path_query.specs.Fronts.{string_turn, selector_front, separator, separated}
+use Rattle.tinyjson_path_query.specs.Fronts.{selection_turn, begins_segment, segments_turn}
+use Rattle.tinyjson_path_query.specs.Fronts.{more_of, character_front, segment_front, FrontOf, behind}
+use Rattle.tinyjson_path_query.specs.Fronts.{behind_both, joint, joined, joined_turn}
 use Rattle.tinyjson_path_query.proofs.Compared.{singular_segment_sound}
 use Rattle.tinyjson_path_query.proofs.Finds.{Finds, finds_none, finds_some, finds_cond, finds_map, finds_then, finds_as}
 use Rattle.tinyjson_path_query.proofs.Turns.{Falls, Shortens}

@@ -18,7 +18,8 @@ use Rattle.tinyjson_path_query.specs.Fronts.{escape_front, character_front, turn
 use Rattle.tinyjson_path_query.specs.Fronts.{step_front, slice_front, slice_end, index_end, int_end, int_selector_front, plain_front}
 use Rattle.tinyjson_path_query.specs.Fronts.{separator, separated, selection_turn, selection_front, shorthand_front, descendant_front}
 use Rattle.tinyjson_path_query.specs.Fronts.{dotted_front, segment_front, begins_segment, segments_turn}
-use Rattle.tinyjson_path_query.specs.Fronts.{with_minus, unsigned, before, with_first, then_turn, more_of, present_bound, whole_slice, named}
+use Rattle.tinyjson_path_query.specs.Fronts.{with_minus, unsigned, before, with_first, then_turn}
+use Rattle.tinyjson_path_query.specs.Fronts.{more_of, present_bound, whole_slice, named}
 use Rattle.tinyjson_path_query.specs.Fronts.{FrontOf, filtered, as_plain, selector_front, behind}
 use Rattle.tinyjson_path_query.specs.Fronts.{child_of, descendant_of, alone, is_quote}
 use Rattle.tinyjson_path_query.proofs.Before.{Before}

@@ -20,13 +20,15 @@ use Rattle.tinyjson_path_query.proofs.Levels.{
 use Rattle.tinyjson_path_query.proofs.Levels.{conjunction_smaller, segment_smaller, selector_smaller, filter_at, plain_from}
 use Rattle.tinyjson_path_query.proofs.Levels.{selection_at, selection_none, segments_end, segments_more, segments_none, descendant_bracket}
 use Rattle.tinyjson_path_query.proofs.Levels.{descendant_short, segment_bracket, segment_short, closed_at}
-use Rattle.tinyjson_path_query.proofs.Levels.{query_from, call_from, literal_from, length_from, count_from, value_from, closed_from, begun_from}
+use Rattle.tinyjson_path_query.proofs.Levels.{query_from, call_from, literal_from, length_from}
+use Rattle.tinyjson_path_query.proofs.Levels.{count_from, value_from, closed_from, begun_from}
 use Rattle.tinyjson_path_query.proofs.Levels.{argument_at, pattern_from, basics_at, conjunctions_at, IsOperandAt, IsComparableAt, IsBasicAt}
 use Rattle.tinyjson_path_query.proofs.Levels.{IsConjunctionAt}
 use Rattle.tinyjson_path_query.proofs.Levels.{pattern_at, match_from, search_from, arguments_at}
 use Rattle.tinyjson_path_query.proofs.Levels.{operated_from, compared_at, tested_at, negated_from, affirmed_from, joined_at, joined_none}
 use Rattle.tinyjson_path_query.proofs.Levels.{separator_nothing}
-use Rattle.tinyjson_path_query.proofs.Levels.{separator_closes, separator_more, separator_other, one_selector, expression_at, expression_none}
+use Rattle.tinyjson_path_query.proofs.Levels.{separator_closes, separator_more, separator_other}
+use Rattle.tinyjson_path_query.proofs.Levels.{one_selector, expression_at, expression_none}
 use Rattle.tinyjson_path_query.proofs.parse.+reader.Goals as goal
 
 pub segments-loop-alloc-init : goal.segments-loop-alloc-init
