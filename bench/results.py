@@ -17,8 +17,8 @@ KEPT = "\n## Measured apart\n"
 
 # What is said of the tables that are not beside the original.
 ABOUT = {
-    "Reading alone": "A text is read and freed, and nothing is written: into a `JsonValue`, a `Document`, and the values of the"
-    " toolchain's `json` and `serde_json`.",
+    "Reading alone": "Texts are read and freed: into a `JsonValue`, a `Document`, and the values of the toolchain's `json` and"
+    " `serde_json`.",
     "Keys of one object": "The same, of objects whose keys have one hash in the toolchain's map, are random, fall, or begin alike.",
     "Large records": "A text of records to its normal text, to indented text, and to its last record, beside the first.",
 }
