@@ -14,6 +14,8 @@ from pictures import mean
 HERE = pathlib.Path(__file__).resolve().parent
 # What is below this heading was written by hand, and stays.
 KEPT = "\n## Measured apart\n"
+# The programs of which the page says how their time grows.
+GROWN = ("original", "jsonnorm", "documents", "values")
 
 # What is said of the tables that are not beside the original.
 ABOUT = {
@@ -108,12 +110,12 @@ def slower(rows, name):
     return sorted((row for row in rows if (row.speed(name) or 1) < 1), key=lambda row: row.speed(name))
 
 
-def growth(title, rows, names):
+def growth(title, rows):
     """How many times as long the programs take as for the row before, where both are of one kind."""
     for less, more in zip(rows, rows[1:]) if title == "Growth" else ():
         kind, _, count = more.name.partition(", ")
         if less.name.startswith(f"{kind}, "):
-            known = [name for name in ("original", *names) if name in less.results and name in more.results]
+            known = [name for name in GROWN if name in less.results and name in more.results]
             times = [f"{name} {more.results[name][0] / less.results[name][0]:.2f}" for name in known]
             yield f"{less.name} to {count}: {', '.join(times)}"
 
@@ -132,7 +134,7 @@ def document(tables, names, runs):
             parts += [f"## {title}", ABOUT[title], markdown(rows, [name for name in rows[0].results if name != rows[0].base])]
             continue
         parts += [f"## {title}", markdown(rows, names)]
-        parts += [f"Times as long: {line}." for line in growth(title, rows, names)]
+        parts += [f"Times as long: {line}." for line in growth(title, rows)]
         for name in ("jsonnorm", "values"):
             below = slower(rows, name)
             if below:
