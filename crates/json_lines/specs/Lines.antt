@@ -17,11 +17,11 @@ use Rattle.json_lines.specs.declared.lines.Outcome.TheVariants.{AllWritten, Some
 use Rattle.tinyjson_lines.specs.declared.refusal.Cause.{Cause}
 use Rattle.tinyjson_lines.specs.declared.refusal.Cause.TheVariants.{NotUtf8, NotJson}
 
--- what a line gives: the tree of its text, or the cause why it is refused
+-- what a line gives: the tree of its text, or the cause why it is rejected
 abbrev pub Fate : Type 0
 Fate = Result Tree Cause
 
--- the characters are no text, and this is what the parser says of them
+-- the characters are no text, and this is the parser's error
 abbrev pub IsRefused : Option ℕ → List ℕ → JsonParseError → Type 0
 IsRefused limit xs e = ParsesText limit xs (Err e) × ¬ (error_kind e ≡ kind.OutOfMemory) × ¬ IsAccepted limit xs
 
@@ -31,7 +31,7 @@ HasFate limit line (Ok t) = IsUtf8 (content line) × IsText limit (chars (conten
 HasFate limit line (Err NotUtf8) = ¬ IsUtf8 (content line)
 HasFate limit line (Err (NotJson e)) = IsUtf8 (content line) × IsRefused limit (chars (content line)) e
 
--- each line gives what stands at its place
+-- the lines give these, in order
 abbrev pub HaveFates : Option ℕ → List (List ℕ) → List Fate → Type 0
 HaveFates limit [] [] = ⊤
 HaveFates limit (line ∷ more) (f ∷ fs) = HasFate limit line f × HaveFates limit more fs
@@ -46,12 +46,12 @@ abbrev pub outputs_of : List Fate → List ℕ
 outputs_of [] = []
 outputs_of (f ∷ fs) = output_of f ++ outputs_of fs
 
--- what is told of the line of this number: nothing, or why it is refused
+-- the message about the line of this number: none, or why it is rejected
 abbrev pub telling_of : Options → ℕ → Fate → List ℕ
 telling_of o n (Ok t) = []
 telling_of o n (Err c) = refusal_line (codes "json_lines") (option_map (λ f. f.now) o.file) record { number = n; cause = c }
 
--- what is told of lines that are counted from this number
+-- the messages about lines that are counted from this number
 abbrev pub tellings_of : Options → ℕ → List Fate → List ℕ
 tellings_of o n [] = []
 tellings_of o n (f ∷ fs) = telling_of o n f ++ tellings_of o (suc n) fs

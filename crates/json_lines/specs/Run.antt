@@ -13,16 +13,16 @@ use Rattle.json_lines.specs.declared.lines.Outcome.{Outcome}
 use Rattle.json_lines.specs.declared.lines.Outcome.TheVariants.{AllWritten, SomeRefused}
 use Rattle.tinyjson_lines.specs.declared.refusal.Cause.{Cause}
 
--- only the last is refused
+-- only the last is rejected
 abbrev pub EndsRefused : List Fate → Type 0
 EndsRefused fates = (before : List Fate) × (c : Cause) × (fates ≡ before ++ Err c ∷ []) × (outcome_of before ≡ AllWritten)
 
--- All lines are read; or, where the run does not go on after a line that is refused, those up to the first of them.
+-- All lines are read; or, if the run does not go on after a line that is rejected, those up to the first of them.
 abbrev pub Reaches : Bool → Option (List ℕ) → Option (List ℕ) → List (List ℕ) → List Fate → Outcome → Type 0
 Reaches false unread left read fates SomeRefused = LinesRead unread left read × EndsRefused fates
 Reaches goes_on unread left read fates outcome = AllRead unread left read
 
--- For each line that is read its normal form was written or its refusal told, in order, and nothing else.
+-- For each line that is read its normal form was written or its message, in order, and nothing else.
 pub record AnswersLines (options : Options) (unread left held holds told tells : Option (List ℕ)) (outcome : Outcome) : Type 0 where
   pub read : List (List ℕ)
   pub fates : List Fate
@@ -32,7 +32,7 @@ pub record AnswersLines (options : Options) (unread left held holds told tells :
   pub telling : Appends told tells (tellings_of options 1 fates)
   pub is : outcome ≡ outcome_of fates
 
--- Of what is to be written for the first lines, and of what is to be told of them, a prefix was.
+-- A prefix was written of the output for some first lines, and of the messages about them.
 pub record StopsAmongLines (options : Options) (unread held holds told tells : Option (List ℕ)) : Type 0 where
   pub read : List (List ℕ)
   pub fates : List Fate
@@ -47,7 +47,7 @@ abbrev pub Runs : Options → Option (List ℕ) → Option (List ℕ) → Option
 Runs options unread left held holds told tells (Ok outcome) = AnswersLines options unread left held holds told tells outcome
 Runs options unread left held holds told tells (Err e) = StopsAmongLines options unread held holds told tells
 
--- the same of one line
+-- the same for one line
 abbrev pub Handles : Options → ℕ → List ℕ → Option (List ℕ) → Option (List ℕ) → Option (List ℕ) → Option (List ℕ)
     → Result Outcome Error → Type 0
 Handles options n line held holds told tells (Ok outcome) =
@@ -57,7 +57,7 @@ Handles options n line held holds told tells (Err e) =
     (Keeps held holds × Keeps told tells)
     ⊎ ((f : Fate) × HasFate options.limit line f × WrittenPart held holds (output_of f) × WrittenPart told tells (telling_of options n f))
 
--- the same of writing it
+-- the same for its output
 abbrev pub WritesLine : Option ℕ → List ℕ → Option (List ℕ) → Option (List ℕ) → Result (Option Cause) Error → Type 0
 WritesLine limit line held holds (Ok None) = (t : Tree) × HasFate limit line (Ok t) × Appends held holds (line_of t)
 WritesLine limit line held holds (Ok (Some c)) = HasFate limit line (Err c) × Keeps held holds

@@ -16,11 +16,11 @@ use tinyjson_normal::{NormalReader, NormalText};
 /// How lines are read.
 #[derive(Clone, Copy)]
 pub struct Options<'a> {
-    /// Whether the run goes on after a line that is refused.
+    /// Whether the run goes on after a line that is rejected.
     pub goes_on: bool,
     /// How many containers may be open at once, if there is a limit.
     pub limit: Option<usize>,
-    /// The name of the file with the lines, which is told of those that are refused.
+    /// The name of the file with the lines, for the messages about those that are rejected.
     pub file: Option<&'a str>,
 }
 
@@ -29,24 +29,24 @@ pub struct Options<'a> {
 pub enum Outcome {
     /// The normal form of each was written.
     AllWritten,
-    /// One was refused, or more than one.
+    /// One was rejected, or more than one.
     SomeRefused,
 }
 
-/// Writes the normal form of each line of the input and a line feed to `output`, and tells `errors`
-/// of each line that is refused.
+/// Writes the normal form of each line of the input and a line feed to `output`, and a message about
+/// each line that is rejected to `errors`.
 ///
 /// A line ends after its line feed, and the last one where the input ends. One that is not UTF-8, no
-/// JSON text, or nested deeper than the limit is refused: nothing is written for it, and one line says
-/// which it is, where in it the parser stopped, and why. The run goes on after it where the options
-/// say so, and otherwise ends.
+/// JSON text, or nested deeper than the limit is rejected: nothing is written for it, and the message
+/// has its number, where in it the parser stopped, and why. The run goes on after it if the options
+/// ask for that, and otherwise ends.
 ///
-/// Memory that runs out, a read or a write that fails is an error. Then of what was to be written for
-/// the lines so far, and of what was to be told, a prefix was.
+/// Memory that runs out, a read or a write that fails is an error. Then a prefix was written of the
+/// output for the lines so far, and a prefix of the messages.
 ///
 /// ```
 /// let mut input = b"[1.0]\n{\n2".as_slice();
-/// run(alloc, options, &mut input, &mut output, &mut errors)?; // writes `[1]`, and tells of line 2
+/// run(alloc, options, &mut input, &mut output, &mut errors)?; // writes `[1]`, and a message about line 2
 /// ```
 pub fn run<R: BufRead, W: Write, E: Write>(
     alloc: Global,
@@ -86,7 +86,7 @@ pub fn run<R: BufRead, W: Write, E: Write>(
     Err(io::Error::new(ErrorKind::InvalidData, "too many lines"))
 }
 
-/// Writes the normal form of one line, or tells of it, after what was written before it.
+/// Writes the normal form of one line, or a message about it.
 fn handle<W: Write, E: Write>(
     reader: &mut NormalReader,
     options: Options<'_>,
@@ -111,7 +111,7 @@ fn handle<W: Write, E: Write>(
     Ok(Outcome::SomeRefused)
 }
 
-/// Writes the normal form of one line and a line feed; or nothing, where the line is refused.
+/// Writes the normal form of one line and a line feed; or nothing, if the line is rejected.
 fn write_line<W: Write>(
     reader: &mut NormalReader,
     limit: Option<usize>,
