@@ -1,4 +1,5 @@
 pub mod Fault
 pub mod Input
 pub mod Options
+pub mod Parsed
 pub mod Run

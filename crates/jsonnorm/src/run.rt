@@ -1,11 +1,13 @@
 //! From the bytes of a reader to a value's normal text in a writer.
-ghost use Rattle.std.specs.Prelude.{◌<◌, IfOk, None, Some, vec_len};
+ghost use Rattle.std.specs.Prelude.{◌<◌, Bool, IfOk, None, Some, vec_len};
 ghost use Rattle.std.specs.Str.{chars};
 ghost use Rattle.tinyjson.specs.Events.{TellsText};
 ghost use Rattle.tinyjson.specs.Tree.{Tree};
 ghost use Rattle.tinyjson.specs.Written.{WritesPrefix};
+ghost use Rattle.tinyjson_document.specs.Document.{HasTree as HasNodes};
 ghost use Rattle.tinyjson_normal.specs.Normal.{HasTree};
 ghost use Rattle.jsonnorm.specs.Input.{ReadsToEnd};
+ghost use Rattle.jsonnorm.specs.Parsed.{IsParsed};
 ghost use Rattle.jsonnorm.specs.Run.{Runs, line_of};
 
 use crate::fault::{RunFault, refusal, writing_error};
@@ -13,6 +15,7 @@ use std::alloc::{AllocError, Global};
 use std::io::{self, ErrorKind, Read, Write};
 use std::{mem, str};
 use tinyjson::JsonParseError;
+use tinyjson_document::Document;
 use tinyjson_normal::NormalText;
 
 /// How many bytes are asked for at once.
@@ -28,6 +31,13 @@ pub struct Options {
     pub indented: bool,
     /// How many containers may be open at once, if there is a limit.
     pub limit: Option<usize>,
+}
+
+/// What was read of a text: indented text is written from nodes, so that no compact text is made first.
+#[derive(Drop)]
+pub(crate) enum Parsed {
+    Compact(NormalText),
+    Nodes(Document),
 }
 
 /// Reads one JSON text in UTF-8 to the end of the input, and writes its value's compact text, or
@@ -83,15 +93,15 @@ fn normalize<R: Read, W: Write>(
     let Ok(text) = str::from_utf8(bytes.as_slice()) else {
         return Err(RunFault::NotUtf8);
     };
-    let parsed = parse(alloc, text, options.limit);
+    let parsed = parse(alloc, text, options);
     // What was read of it is all that is needed from here on.
     drop(bytes);
     match parsed {
         Err(error) => Err(refusal(error)),
-        Ok(mut normal) => {
-            let written = write_line(alloc, output, &mut normal, options.indented);
+        Ok(mut parsed) => {
+            let written = write_line(alloc, output, &mut parsed);
             // The program ends soon, and walking the numbers only to free them would cost time.
-            mem::forget(normal);
+            mem::forget(parsed);
             match written {
                 Ok(()) => Ok(()),
                 Err(error) => Err(writing_error(error)),
@@ -129,7 +139,37 @@ fn new_piece(alloc: Global) -> Result<Vec<u8>, AllocError>
     vec![in alloc; 0; PIECE_LEN]
 }
 
-fn parse(alloc: Global, text: &str, limit: Option<usize>) -> Result<NormalText, JsonParseError>
+/// Reads the text into what is written with or without an indent.
+fn parse(alloc: Global, text: &str, options: Options) -> Result<Parsed, JsonParseError>
+    ensures { TellsText (IsParsed options.indented) options.limit (chars text.now) result }
+{
+    if options.indented {
+        match parse_nodes(alloc, text, options.limit) {
+            Ok(document) => Ok(Parsed::Nodes(document)),
+            Err(error) => Err(error),
+        }
+    } else {
+        match parse_compact(alloc, text, options.limit) {
+            Ok(normal) => Ok(Parsed::Compact(normal)),
+            Err(error) => Err(error),
+        }
+    }
+}
+
+fn parse_nodes(alloc: Global, text: &str, limit: Option<usize>) -> Result<Document, JsonParseError>
+    ensures { TellsText HasNodes limit (chars text.now) result }
+{
+    match limit {
+        None => Document::read(alloc, text),
+        Some(limit) => Document::read_with_depth_limit(alloc, text, limit),
+    }
+}
+
+fn parse_compact(
+    alloc: Global,
+    text: &str,
+    limit: Option<usize>,
+) -> Result<NormalText, JsonParseError>
     ensures { TellsText HasTree limit (chars text.now) result }
 {
     match limit {
@@ -139,18 +179,12 @@ fn parse(alloc: Global, text: &str, limit: Option<usize>) -> Result<NormalText, 
 }
 
 /// Writes the text of what was read and a line feed, and ends with the first error.
-fn write_line<W: Write>(
-    alloc: Global,
-    output: &mut W,
-    normal: &mut NormalText,
-    indented: bool,
-) -> io::Result<()>
-    ensures { (t : Tree) → HasTree normal.old t →
+fn write_line<W: Write>(alloc: Global, output: &mut W, parsed: &mut Parsed) -> io::Result<()>
+    ensures { (indented : Bool) (t : Tree) → IsParsed indented parsed.old t →
         WritesPrefix (W.contents output.old) (W.contents output.new) (line_of indented t) result }
 {
-    if indented {
-        normal.format_line_to(alloc, output)
-    } else {
-        normal.write_line_to(alloc, output)
+    match parsed {
+        Parsed::Compact(normal) => normal.write_line_to(alloc, output),
+        Parsed::Nodes(document) => document.root().format_line_to(alloc, output),
     }
 }
