@@ -6,5 +6,6 @@ pub mod Judging
 pub mod Within
 pub mod Selected
 pub mod Stated
+pub mod Waits
 pub mod Errors
 pub mod Callers

@@ -19,3 +19,4 @@ pub use Rattle.tinyjson_path_query.specs.declared.error.ParseErrorKind
 pub use Rattle.tinyjson_path_query.specs.declared.query.Query
 -- for private contracts
 pub mod Seen
+pub mod Waiting

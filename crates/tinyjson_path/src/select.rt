@@ -1,15 +1,15 @@
 //! The nodes that a query selects.
-ghost use Rattle.std.specs.Prelude.{◌≡◌, ◌++◌, reverse, OnOk, IfOk, IfErr, option_map};
+ghost use Rattle.std.specs.Prelude.{◌≡◌, ◌++◌, ◌∷◌, [], reverse, OnOk, IfOk, IfErr, option_map};
 ghost use Rattle.tinyjson.specs.View.{view};
-ghost use Rattle.tinyjson_path.specs.Nodes.{path_of, part_view, parts_view, visited, children};
-ghost use Rattle.tinyjson_path.specs.Queries.{query_parts, segment_parts, selector_parts, selected_by};
+ghost use Rattle.tinyjson_path.specs.Nodes.{path_of, part_view, parts_view, root_part, children};
+ghost use Rattle.tinyjson_path.specs.Queries.{query_parts, selector_parts, selected_by};
 ghost use Rattle.tinyjson_path.specs.Queries.{found_by, holds_of, kept, comparable_value};
 ghost use Rattle.tinyjson_path.specs.Patterns.{judged};
 ghost use Rattle.tinyjson_path.specs.Seen.{operand_tree};
-ghost use Rattle.tinyjson_path.specs.Selecting.{from_each};
-ghost use Rattle.tinyjson_path.specs.Strings.{query_strings, strings_in, strings_of, IsFrom, IsFromAny};
-ghost use Rattle.tinyjson_path.specs.Strings.{segments_strings, segment_strings, selectors_strings};
+ghost use Rattle.tinyjson_path.specs.Strings.{query_strings, strings_in, IsFrom, IsFromAny};
+ghost use Rattle.tinyjson_path.specs.Strings.{segments_strings, selectors_strings};
 ghost use Rattle.tinyjson_path.specs.Strings.{selector_strings, expression_strings, comparable_strings};
+ghost use Rattle.tinyjson_path.specs.Waiting.{waits_view, waits_at};
 
 use crate::children::{children, push_children, push_indexed, push_named, push_slice};
 use crate::node::Node;
@@ -65,7 +65,8 @@ struct Finder<'v> {
 }
 
 impl<'v> Finder<'v> {
-    /// What the segments select, one after the other, from a value.
+    /// What the segments select, one after the other, from a value. Nodes that wait are on a stack, the next one last:
+    /// a node goes through all segments before the next one does.
     #[cycle(selecting)]
     fn find_from(
         &mut self,
@@ -78,73 +79,45 @@ impl<'v> Finder<'v> {
         ensures err { IfErr result (IsFromAny (segments_strings segments.now)
             (view self.old.root.now) (strings_in (view value.now))) }
     {
-        let mut nodes = Vec::new(self.alloc);
-        nodes.push(Node::root(self.alloc, value)?)?;
-        for segment in segments {
-            nodes = self.apply(segment, nodes.as_slice())?;
+        let mut found = Vec::new(self.alloc);
+        let mut waiting = first(self.alloc, value)?;
+        while let Some(Waiting { node, segment }) = waiting.pop() {
+            if segment >= segments.len() {
+                found.push(node)?;
+                continue;
+            }
+            match &segments[segment] {
+                Segment::Child(selectors) => {
+                    self.push_selected(selectors.as_slice(), &node, segment + 1, &mut waiting)?;
+                }
+                Segment::Descendant(selectors) => {
+                    push_reversed(children(self.alloc, &node)?, segment, &mut waiting)?;
+                    self.push_selected(selectors.as_slice(), &node, segment + 1, &mut waiting)?;
+                }
+            }
         }
-        Ok(nodes)
+        Ok(found)
     }
 
-    /// What the segment selects from each of the nodes.
+    /// Puts what the selectors select from the node behind the nodes that wait.
     #[cycle(selecting)]
-    fn apply(&mut self, segment: &Segment, nodes: &[Node<'v>]) -> Result<Vec<Node<'v>>, FindError>
-        ensures root { self.new.root ≡ self.old.root }
-        ensures ok { IfOk result (λ v. parts_view v.items
-            ≡ from_each (segment_parts segment.now (view self.old.root.now))
-            (parts_view nodes.now)) }
-        ensures err { IfErr result (IsFromAny (segment_strings segment.now)
-            (view self.old.root.now) (strings_of (parts_view nodes.now))) }
-    {
-        let mut selected = Vec::new(self.alloc);
-        for node in nodes {
-            self.select_from(segment, node, &mut selected)?;
-        }
-        Ok(selected)
-    }
-
-    #[cycle(selecting)]
-    fn select_from(
-        &mut self,
-        segment: &Segment,
-        node: &Node<'v>,
-        selected: &mut Vec<Node<'v>>,
-    ) -> Result<(), FindError>
-        ensures root { self.new.root ≡ self.old.root }
-        ensures ok { OnOk result (parts_view selected.new.items ≡ parts_view selected.old.items
-            ++ segment_parts segment.now (view self.old.root.now) (part_view node.now)) }
-        ensures err { IfErr result (IsFromAny (segment_strings segment.now)
-            (view self.old.root.now) (strings_in (view node.now.value.now))) }
-    {
-        match segment {
-            Segment::Child(selectors) => self.select_each(selectors.as_slice(), node, selected),
-            Segment::Descendant(selectors) => self.descend(selectors.as_slice(), node, selected),
-        }
-    }
-
-    /// What the selectors select from the node and from each of its descendants. Those to be visited are on a
-    /// stack.
-    #[cycle(selecting)]
-    fn descend(
+    fn push_selected(
         &mut self,
         selectors: &[Selector],
         node: &Node<'v>,
-        selected: &mut Vec<Node<'v>>,
+        segment: usize,
+        waiting: &mut Vec<Waiting<'v>>,
     ) -> Result<(), FindError>
         ensures root { self.new.root ≡ self.old.root }
-        ensures ok { OnOk result (parts_view selected.new.items ≡ parts_view selected.old.items
-            ++ from_each (selected_by selectors.now (view self.old.root.now))
-            (visited (path_of node.now) (view node.now.value.now))) }
+        ensures ok { OnOk result (waits_view waiting.new.items ≡ waits_view waiting.old.items
+            ++ reverse (waits_at segment
+            (selected_by selectors.now (view self.old.root.now) (part_view node.now)))) }
         ensures err { IfErr result (IsFromAny (selectors_strings selectors.now)
             (view self.old.root.now) (strings_in (view node.now.value.now))) }
     {
-        let mut waiting = Vec::new(self.alloc);
-        waiting.push(node.try_clone()?)?;
-        while let Some(node) = waiting.pop() {
-            self.select_each(selectors, &node, selected)?;
-            push_reversed(children(self.alloc, &node)?, &mut waiting)?;
-        }
-        Ok(())
+        let mut selected = Vec::new(self.alloc);
+        self.select_each(selectors, node, &mut selected)?;
+        Ok(push_reversed(selected, segment, waiting)?)
     }
 
     #[cycle(selecting)]
@@ -306,16 +279,34 @@ impl<'v> Finder<'v> {
     }
 }
 
-/// Appends the nodes, the last one first.
+/// A node, and the index of the first segment that is left for it.
+#[derive(Drop)]
+struct Waiting<'v> {
+    node: Node<'v>,
+    segment: usize,
+}
+
+/// What waits at first: the node of the value, for all segments.
+fn first<'v>(alloc: Global, value: &'v JsonValue) -> Result<Vec<Waiting<'v>>, AllocError>
+    ensures { IfOk result (λ v. waits_view v.items ≡ (0, root_part (view value.now)) ∷ []) }
+{
+    let mut waiting = Vec::new(alloc);
+    let node = Node::root(alloc, value)?;
+    waiting.push(Waiting { node, segment: 0 })?;
+    Ok(waiting)
+}
+
+/// Puts the nodes behind those that wait, the last one first.
 fn push_reversed<'v>(
     mut nodes: Vec<Node<'v>>,
-    waiting: &mut Vec<Node<'v>>,
+    segment: usize,
+    waiting: &mut Vec<Waiting<'v>>,
 ) -> Result<(), AllocError>
-    ensures { OnOk result (parts_view waiting.new.items
-        ≡ parts_view waiting.old.items ++ reverse (parts_view nodes.entry.items)) }
+    ensures { OnOk result (waits_view waiting.new.items ≡ waits_view waiting.old.items
+        ++ reverse (waits_at segment (parts_view nodes.entry.items))) }
 {
     while let Some(node) = nodes.pop() {
-        waiting.push(node)?;
+        waiting.push(Waiting { node, segment })?;
     }
     Ok(())
 }

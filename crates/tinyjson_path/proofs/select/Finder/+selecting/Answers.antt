@@ -1,126 +1,24 @@
 use Rattle.std.proofs.Common.{◌≡◌, ◌∙◌, ◌++◌, ◌+◌, ◌==◌, not, [], ◌∷◌, drop, map, reverse, ap, sym, subst, refl, option_map}
+use Rattle.std.proofs.lemmas.List.{map-append}
 use Rattle.std.specs.Box.{box_value}
 use Rattle.tinyjson.specs.View.{view}
 use Rattle.tinyjson_path.proofs.Errors.{is_whole, is_left, is_right, is_one, node_in, node_within, error_of, error_from, error_of_pattern}
 use Rattle.tinyjson_path.proofs.Errors.{same_error, same_result, test_holds, error_at}
-use Rattle.tinyjson_path.proofs.Items.{drop_at}
-use Rattle.tinyjson_path.proofs.Parts.{popped, turn_left, turn_less}
-use Rattle.tinyjson_path.proofs.Selected.{AreWithin, are_within, are_both, are_children, are_each, are_first, are_in, are_last, are_reversed}
+use Rattle.tinyjson_path.proofs.Items.{drop_past}
+use Rattle.tinyjson_path.proofs.Selected.{AreWithin, are_children, are_in}
 use Rattle.tinyjson_path.proofs.Stated.{child_strings, descendant_strings, filter_strings_are, or_strings, and_strings}
 use Rattle.tinyjson_path.proofs.Stated.{comparison_strings, test_strings, pattern_strings, length_strings, count_strings, value_strings}
-use Rattle.tinyjson_path.proofs.Stated.{segment_keeps}
-use Rattle.tinyjson_path.proofs.Within.{within_self, of_query}
+use Rattle.tinyjson_path.proofs.Waits.{waits_popped, less_child, less_descendant, less_whole, left_child, left_descendant, goes_on, takes_one}
+use Rattle.tinyjson_path.proofs.Waits.{are_popped, are_pushed, chosen_within}
+use Rattle.tinyjson_path.proofs.Within.{Within, within_self, of_query}
 use Rattle.tinyjson_path.specs.Nodes.{path_of, part_view, parts_view, children}
-use Rattle.tinyjson_path.specs.Queries.{selected_by, found_by, one_by_one, segment_parts, comparable_value}
-use Rattle.tinyjson_path.specs.Selecting.{from_each}
+use Rattle.tinyjson_path.specs.Queries.{selected_by, found_by, comparable_value}
 use Rattle.tinyjson_path.specs.Seen.{operand_tree}
-use Rattle.tinyjson_path.specs.Strings.{strings_in, strings_of, segment_strings, selector_strings, expression_strings, comparable_strings}
+use Rattle.tinyjson_path.specs.Strings.{strings_in, segment_strings, selector_strings, expression_strings, comparable_strings}
 use Rattle.tinyjson_path.specs.Strings.{segments_strings, selectors_strings}
+use Rattle.tinyjson_path.specs.Waiting.{waits_view, waits_at}
 use Rattle.tinyjson_path.proofs.select.Finder.+selecting.Goals as goal
-
-pub descend-loop-node-smaller : goal.descend-loop-node-smaller
-descend-loop-node-smaller t c =
-    let mid = c.pop.new.self.items in
-    turn_less (parts_view c.loop-node.waiting.items) (parts_view mid) (parts_view c.push_reversed.new.waiting.items)
-    (part_view c.in-Some.node) (popped c.loop-node.waiting.items mid c.in-Some.node c.in-Some.ensures.items)
-    (c.in_ok-push_reversed.ensures ∙ ap (λ cs. parts_view mid ++ reverse cs) c.in_ok-children.ensures)
-
-pub descend-loop-node-preserved : goal.descend-loop-node-preserved
-descend-loop-node-preserved t c =
-    let mid = c.pop.new.self.items in
-    let zs = strings_in (view c.args.node.now.value.now) in
-    let n = c.in-Some.node in
-    let popped_is = popped c.loop-node.waiting.items mid n c.in-Some.ensures.items in
-    let pushed_is = c.in_ok-push_reversed.ensures ∙ ap (λ cs. parts_view mid ++ reverse cs) c.in_ok-children.ensures in
-    let was = subst (AreWithin zs) popped_is c.loop-node.invariant.within in
-    let here = are_last zs (parts_view mid) (part_view n ∷ []) was in
-    let below = children (path_of n) (view n.value.now) in record {
-      root = c.select_each.ensures.root ∙ c.loop-node.invariant.root;
-      left = turn_left (selected_by c.args.selectors.now (view c.args.self.now.root.now)) (parts_view c.loop-node.waiting.items)
-          (parts_view mid) (parts_view c.push_reversed.new.waiting.items) (parts_view c.loop-node.selected.items)
-          (parts_view c.select_each.new.selected.items) _ (part_view n) popped_is pushed_is
-          (subst (λ r. parts_view c.select_each.new.selected.items ≡ parts_view c.loop-node.selected.items
-          ++ selected_by c.args.selectors.now (view r.now) (part_view n)) c.loop-node.invariant.root c.in_ok-select_each.ensures.ok)
-          c.loop-node.invariant.left;
-      within = subst (AreWithin zs) (sym pushed_is)
-          (are_both zs (parts_view mid) (reverse below) (are_first zs (parts_view mid) (part_view n ∷ []) was)
-          (are_reversed zs below
-          (are_in (strings_in (view n.value.now)) zs below here.0 (are_children (path_of n) (view n.value.now)))));
-    }
-
-pub find_from-loop-segment-preserved : goal.find_from-loop-segment-preserved
-find_from-loop-segment-preserved t c =
-    let root = view c.args.self.now.root.now in
-    let ss = c.args.segments.now in
-    let i = c.loop-segment.segment-index in
-    let s = c.segment-item.result in
-    let ps = parts_view c.loop-segment.nodes.items in
-    let zs = strings_in (view c.args.value.now) in
-    let new : parts_view c.in_ok-nodes.nodes.items ≡ from_each (segment_parts s root) ps
-    = subst (λ r. parts_view c.in_ok-nodes.nodes.items ≡ from_each (segment_parts s (view r.now)) (parts_view c.as_slice.result.now))
-    c.loop-segment.invariant.root c.in_ok-nodes.ensures.ok
-    ∙ ap (λ ns. from_each (segment_parts s root) (parts_view ns)) c.as_slice.ensures.value in record {
-      root = c.apply.ensures.root ∙ c.loop-segment.invariant.root;
-      left =
-          ap (one_by_one root (map segment_parts (drop (i + 1) ss))) new
-          ∙ (ap (λ xs. one_by_one root (map segment_parts xs) ps) (sym (drop_at ss i s c.loop-segment-test.true c.segment-item.is))
-          ∙ c.loop-segment.invariant.left);
-      within = subst (AreWithin zs) (sym new)
-          (are_each zs (segment_parts s root) ps (segment_keeps s root) c.loop-segment.invariant.within);
-    }
-
-pub find_from-returns-in_err-nodes-clause-err : goal.find_from-returns-in_err-nodes-clause-err
-find_from-returns-in_err-nodes-clause-err t c =
-    let ss = c.args.segments.now in
-    let s = c.segment-item.result in
-    let here = strings_in (view c.args.value.now) in
-    let ps = parts_view c.loop-segment.nodes.items in
-    error_of (segments_strings ss) (segment_strings s) here (strings_of (parts_view c.as_slice.result.now)) (view c.args.self.now.root.now)
-    c.in_err-nodes.field-0.0 c.from_residual-in_err-nodes.result c.from_residual-in_err-nodes.ensures.1
-    (is_one segment_strings ss ss c.loop-segment.segment-index s (segments_strings ss) here (view c.args.self.now.root.now) refl refl
-    c.loop-segment-test.true c.segment-item.is)
-    (are_within here (parts_view c.as_slice.result.now)
-    (subst (λ ns. AreWithin here (parts_view ns)) (sym c.as_slice.ensures.value) c.loop-segment.invariant.within))
-    (error_at _ _ _ c.loop-segment.invariant.root c.in_err-nodes.ensures.err)
-
-pub apply-returns-in_err-select_from-clause-err : goal.apply-returns-in_err-select_from-clause-err
-apply-returns-in_err-select_from-clause-err t c =
-    let ns = c.args.nodes.now in
-    let n = c.node-item.result in
-    let q = segment_strings c.args.segment.now in
-    error_of q q (strings_of (parts_view ns)) (strings_in (view n.value.now)) (view c.args.self.now.root.now) c.in_err-select_from.field-0.0
-    c.from_residual.result c.from_residual.ensures.1 (of_query q (strings_of (parts_view ns)) (view c.args.self.now.root.now))
-    (node_in ns c.loop-node.node-index n c.loop-node-test.true c.node-item.is)
-    (error_at _ _ _ c.loop-node.invariant.root c.in_err-select_from.ensures.err)
-
-pub select_from-returns-in-Child-clause-err : goal.select_from-returns-in-Child-clause-err
-select_from-returns-in-Child-clause-err t c =
-    let q = segment_strings c.args.segment.now in
-    same_result q (selectors_strings c.as_slice.result.now) (strings_in (view c.args.node.now.value.now)) (view c.args.self.now.root.now)
-    c.select_each.result
-    (child_strings c.args.segment.now c.in-Child.selectors c.in-Child.is ∙ ap selectors_strings (sym c.as_slice.ensures.value))
-    c.select_each.ensures.err
-
-pub select_from-returns-in-Descendant-clause-err : goal.select_from-returns-in-Descendant-clause-err
-select_from-returns-in-Descendant-clause-err t c =
-    let q = segment_strings c.args.segment.now in
-    same_result q (selectors_strings c.as_slice-in-Descendant.result.now) (strings_in (view c.args.node.now.value.now))
-    (view c.args.self.now.root.now) c.descend.result
-    (descendant_strings c.args.segment.now c.in-Descendant.selectors c.in-Descendant.is
-    ∙ ap selectors_strings (sym c.as_slice-in-Descendant.ensures.value))
-    c.descend.ensures.err
-
-pub descend-returns-in_err-select_each-clause-err : goal.descend-returns-in_err-select_each-clause-err
-descend-returns-in_err-select_each-clause-err t c =
-    let mid = c.pop.new.self.items in
-    let here = strings_in (view c.args.node.now.value.now) in
-    let n = c.in-Some.node in
-    let q = selectors_strings c.args.selectors.now in
-    let was = subst (AreWithin here) (popped c.loop-node.waiting.items mid n c.in-Some.ensures.items) c.loop-node.invariant.within in
-    error_of q q here (strings_in (view n.value.now)) (view c.args.self.now.root.now) c.in_err-select_each.field-0.0
-    c.from_residual-in_err-select_each.result c.from_residual-in_err-select_each.ensures.1 (of_query q here (view c.args.self.now.root.now))
-    (are_last here (parts_view mid) (part_view n ∷ []) was).0
-    (error_at _ _ _ c.loop-node.invariant.root c.in_err-select_each.ensures.err)
+use Rattle.tinyjson_path.proofs.select.Finder.+selecting.Goals.{find_from-in-Child+in_ok-push_selected-in-Child, find_from-in-Descendant+in_ok-children-in-Descendant+in_ok-push_reversed-in-Descendant+in_ok-push_selected-in-Descendant}
 
 pub select_each-returns-in_err-select-clause-err : goal.select_each-returns-in_err-select-clause-err
 select_each-returns-in_err-select-clause-err t c =
@@ -299,3 +197,170 @@ compared-returns-in_err-nodes-in-Value-clause-err t c =
     (value_strings c.args.comparable.now c.in-Function.function q c.in-Function.is c.in-Value.is
     ∙ ap segments_strings (sym c.as_slice-in-Value.ensures.value))
     c.start-start-in-Value.ensures c.in_err-nodes-in-Value.ensures.err
+
+pub find_from-loop-node-smaller : goal.find_from-loop-node-smaller
+find_from-loop-node-smaller t c =
+    let ss = c.args.segments.now in
+    let root = view c.args.self.now.root.now in
+    let zs = strings_in (view c.args.value.now) in
+    let i = c.in-Some.field-0.segment in
+    let n = c.in-Some.field-0.node in
+    let ws = waits_view c.loop-node.waiting.items in
+    let mid = waits_view c.pop.new.self.items in
+    let popped = waits_popped c.loop-node.waiting.items c.pop.new.self.items c.in-Some.field-0 c.in-Some.ensures.items in
+    let s = c.index-segments-segment.result in
+    let l = c.if-segment-segments.false in
+    let at = c.index-segments-segment.is in
+    let new = waits_view c.match-segments-segment.waiting.items in
+    elim c.match-segments-segment.branch [
+      | find_from-in-Child+in_ok-push_selected-in-Child w ↦
+          let sels = w.in-Child.selectors in
+          let chosen = selected_by sels.items root (part_view n) in
+          let pushed : new ≡ mid ++ reverse (waits_at (i + 1) chosen) = ap (λ v. waits_view v.items) w.waiting-is
+          ∙ (w.in_ok-push_selected-in-Child.ensures.ok
+          ∙ ap (λ z. mid ++ reverse (waits_at (i + 1) z))
+          (ap (λ r. selected_by w.as_slice.result.now (view r.now) (part_view n)) c.loop-node.invariant.root
+          ∙ ap (λ xs. selected_by xs root (part_view n)) w.as_slice.ensures.value)) in
+          less_child ss root i s l at sels (part_view n) ws mid new w.in-Child.is popped pushed
+      | find_from-in-Descendant+in_ok-children-in-Descendant+in_ok-push_reversed-in-Descendant+in_ok-push_selected-in-Descendant w ↦
+          let sels = w.in-Descendant.selectors in
+          let chosen = selected_by sels.items root (part_view n) in
+          let below = children (path_of n) (view n.value.now) in
+          let low = waits_view w.push_reversed.new.waiting.items in
+          let lower : low ≡ mid ++ reverse (waits_at i below) = w.in_ok-push_reversed-in-Descendant.ensures
+          ∙ ap (λ z. mid ++ reverse (waits_at i z)) w.in_ok-children-in-Descendant.ensures in
+          let pushed : new ≡ low ++ reverse (waits_at (i + 1) chosen) = ap (λ v. waits_view v.items) w.waiting-is
+          ∙ (w.in_ok-push_selected-in-Descendant.ensures.ok
+          ∙ ap (λ z. low ++ reverse (waits_at (i + 1) z))
+          (ap (λ r. selected_by w.as_slice-in-Descendant.result.now (view r.now) (part_view n)) c.loop-node.invariant.root
+          ∙ ap (λ xs. selected_by xs root (part_view n)) w.as_slice-in-Descendant.ensures.value)) in
+          less_descendant ss root i s l at sels (part_view n) ws mid low new w.in-Descendant.is popped lower pushed
+    ]
+
+pub find_from-loop-node-preserved : goal.find_from-loop-node-preserved
+find_from-loop-node-preserved t c =
+    let ss = c.args.segments.now in
+    let root = view c.args.self.now.root.now in
+    let zs = strings_in (view c.args.value.now) in
+    let i = c.in-Some.field-0.segment in
+    let n = c.in-Some.field-0.node in
+    let ws = waits_view c.loop-node.waiting.items in
+    let mid = waits_view c.pop.new.self.items in
+    let popped = waits_popped c.loop-node.waiting.items c.pop.new.self.items c.in-Some.field-0 c.in-Some.ensures.items in
+    let s = c.index-segments-segment.result in
+    let l = c.if-segment-segments.false in
+    let at = c.index-segments-segment.is in
+    let new = waits_view c.match-segments-segment.waiting.items in
+    let here = are_popped zs ws mid (i, part_view n) popped c.loop-node.invariant.within in
+    elim c.match-segments-segment.branch [
+      | find_from-in-Child+in_ok-push_selected-in-Child w ↦
+          let sels = w.in-Child.selectors in
+          let chosen = selected_by sels.items root (part_view n) in
+          let pushed : new ≡ mid ++ reverse (waits_at (i + 1) chosen) = ap (λ v. waits_view v.items) w.waiting-is
+          ∙ (w.in_ok-push_selected-in-Child.ensures.ok
+          ∙ ap (λ z. mid ++ reverse (waits_at (i + 1) z))
+          (ap (λ r. selected_by w.as_slice.result.now (view r.now) (part_view n)) c.loop-node.invariant.root
+          ∙ ap (λ xs. selected_by xs root (part_view n)) w.as_slice.ensures.value)) in
+          record {
+            root = ap (λ v. v.root) w.self-is ∙ (w.push_selected.ensures.root ∙ c.loop-node.invariant.root);
+            left = goes_on ss root (parts_view c.loop-node.found.items) (found_by ss root (view c.args.value.now)) new ws
+                (left_child ss root i s l at sels (part_view n) ws mid new w.in-Child.is popped pushed) c.loop-node.invariant.left;
+            within = are_pushed zs mid new (i + 1) chosen pushed here.0
+                (are_in (strings_in (view n.value.now)) zs chosen here.1 (chosen_within sels root (part_view n)));
+          }
+      | find_from-in-Descendant+in_ok-children-in-Descendant+in_ok-push_reversed-in-Descendant+in_ok-push_selected-in-Descendant w ↦
+          let sels = w.in-Descendant.selectors in
+          let chosen = selected_by sels.items root (part_view n) in
+          let below = children (path_of n) (view n.value.now) in
+          let low = waits_view w.push_reversed.new.waiting.items in
+          let lower : low ≡ mid ++ reverse (waits_at i below) = w.in_ok-push_reversed-in-Descendant.ensures
+          ∙ ap (λ z. mid ++ reverse (waits_at i z)) w.in_ok-children-in-Descendant.ensures in
+          let pushed : new ≡ low ++ reverse (waits_at (i + 1) chosen) = ap (λ v. waits_view v.items) w.waiting-is
+          ∙ (w.in_ok-push_selected-in-Descendant.ensures.ok
+          ∙ ap (λ z. low ++ reverse (waits_at (i + 1) z))
+          (ap (λ r. selected_by w.as_slice-in-Descendant.result.now (view r.now) (part_view n)) c.loop-node.invariant.root
+          ∙ ap (λ xs. selected_by xs root (part_view n)) w.as_slice-in-Descendant.ensures.value)) in
+          record {
+            root = ap (λ v. v.root) w.self-is ∙ (w.push_selected-in-Descendant.ensures.root ∙ c.loop-node.invariant.root);
+            left = goes_on ss root (parts_view c.loop-node.found.items) (found_by ss root (view c.args.value.now)) new ws
+                (left_descendant ss root i s l at sels (part_view n) ws mid low new w.in-Descendant.is popped lower pushed)
+                c.loop-node.invariant.left;
+            within = are_pushed zs low new (i + 1) chosen pushed
+                (are_pushed zs mid low i below lower here.0
+                (are_in (strings_in (view n.value.now)) zs below here.1 (are_children (path_of n) (view n.value.now))))
+                (are_in (strings_in (view n.value.now)) zs chosen here.1 (chosen_within sels root (part_view n)));
+          }
+    ]
+
+pub find_from-loop-node-smaller-then-segment-segments : goal.find_from-loop-node-smaller-then-segment-segments
+find_from-loop-node-smaller-then-segment-segments t c =
+    let ss = c.args.segments.now in
+    let root = view c.args.self.now.root.now in
+    let zs = strings_in (view c.args.value.now) in
+    let i = c.in-Some.field-0.segment in
+    let n = c.in-Some.field-0.node in
+    let ws = waits_view c.loop-node.waiting.items in
+    let mid = waits_view c.pop.new.self.items in
+    let popped = waits_popped c.loop-node.waiting.items c.pop.new.self.items c.in-Some.field-0 c.in-Some.ensures.items in
+    less_whole ss root ws mid i (part_view n) popped (drop_past ss i c.if-segment-segments.true)
+
+pub find_from-loop-node-preserved-then-segment-segments : goal.find_from-loop-node-preserved-then-segment-segments
+find_from-loop-node-preserved-then-segment-segments t c =
+    let ss = c.args.segments.now in
+    let root = view c.args.self.now.root.now in
+    let zs = strings_in (view c.args.value.now) in
+    let i = c.in-Some.field-0.segment in
+    let n = c.in-Some.field-0.node in
+    let ws = waits_view c.loop-node.waiting.items in
+    let mid = waits_view c.pop.new.self.items in
+    let popped = waits_popped c.loop-node.waiting.items c.pop.new.self.items c.in-Some.field-0 c.in-Some.ensures.items in
+    let more : parts_view c.push.new.self.items ≡ parts_view c.loop-node.found.items ++ part_view n ∷ []
+    = ap parts_view c.in_ok-push.ensures.items ∙ map-append part_view c.loop-node.found.items (n ∷ []) in record {
+      root = c.loop-node.invariant.root;
+      left = takes_one ss root (parts_view c.loop-node.found.items) (parts_view c.push.new.self.items)
+          (found_by ss root (view c.args.value.now)) ws mid i (part_view n) popped (drop_past ss i c.if-segment-segments.true) more
+          c.loop-node.invariant.left;
+      within = (are_popped zs ws mid (i, part_view n) popped c.loop-node.invariant.within).0;
+    }
+
+pub find_from-returns-in_err-push_selected-in-Child-clause-err : goal.find_from-returns-in_err-push_selected-in-Child-clause-err
+find_from-returns-in_err-push_selected-in-Child-clause-err t c =
+    let ss = c.args.segments.now in
+    let root = view c.args.self.now.root.now in
+    let zs = strings_in (view c.args.value.now) in
+    let i = c.in-Some.field-0.segment in
+    let n = c.in-Some.field-0.node in
+    let ws = waits_view c.loop-node.waiting.items in
+    let mid = waits_view c.pop.new.self.items in
+    let popped = waits_popped c.loop-node.waiting.items c.pop.new.self.items c.in-Some.field-0 c.in-Some.ensures.items in
+    let s = c.index-segments-segment.result in
+    let sels = c.in-Child.selectors in
+    error_of (segments_strings ss) (selectors_strings c.as_slice.result.now) zs (strings_in (view n.value.now)) root
+    c.in_err-push_selected-in-Child.field-0.0 c.from_residual-in_err-push_selected-in-Child.result
+    c.from_residual-in_err-push_selected-in-Child.ensures.1
+    (subst (λ ts. Within ts (segments_strings ss ++ (strings_in root ++ zs)))
+    (child_strings s sels c.in-Child.is ∙ ap selectors_strings (sym c.as_slice.ensures.value))
+    (is_one segment_strings ss ss i s (segments_strings ss) zs root refl refl c.if-segment-segments.false c.index-segments-segment.is))
+    (are_popped zs ws mid (i, part_view n) popped c.loop-node.invariant.within).1
+    (error_at _ _ _ c.loop-node.invariant.root c.in_err-push_selected-in-Child.ensures.err)
+
+pub find_from-returns-in_err-push_selected-in-Descendant-clause-err : goal.find_from-returns-in_err-push_selected-in-Descendant-clause-err
+find_from-returns-in_err-push_selected-in-Descendant-clause-err t c =
+    let ss = c.args.segments.now in
+    let root = view c.args.self.now.root.now in
+    let zs = strings_in (view c.args.value.now) in
+    let i = c.in-Some.field-0.segment in
+    let n = c.in-Some.field-0.node in
+    let ws = waits_view c.loop-node.waiting.items in
+    let mid = waits_view c.pop.new.self.items in
+    let popped = waits_popped c.loop-node.waiting.items c.pop.new.self.items c.in-Some.field-0 c.in-Some.ensures.items in
+    let s = c.index-segments-segment.result in
+    let sels = c.in-Descendant.selectors in
+    error_of (segments_strings ss) (selectors_strings c.as_slice-in-Descendant.result.now) zs (strings_in (view n.value.now)) root
+    c.in_err-push_selected-in-Descendant.field-0.0 c.from_residual-in_err-push_selected-in-Descendant.result
+    c.from_residual-in_err-push_selected-in-Descendant.ensures.1
+    (subst (λ ts. Within ts (segments_strings ss ++ (strings_in root ++ zs)))
+    (descendant_strings s sels c.in-Descendant.is ∙ ap selectors_strings (sym c.as_slice-in-Descendant.ensures.value))
+    (is_one segment_strings ss ss i s (segments_strings ss) zs root refl refl c.if-segment-segments.false c.index-segments-segment.is))
+    (are_popped zs ws mid (i, part_view n) popped c.loop-node.invariant.within).1
+    (error_at _ _ _ c.loop-node.invariant.root c.in_err-push_selected-in-Descendant.ensures.err)

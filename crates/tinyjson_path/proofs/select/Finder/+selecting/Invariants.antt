@@ -1,44 +1,24 @@
 use Rattle.std.proofs.Common.{◌≡◌, ◌++◌, length, map, drop}
 use Rattle.tinyjson.specs.View.{view}
-use Rattle.tinyjson_path.specs.Nodes.{path_of, part_view, parts_view, visited, children}
-use Rattle.tinyjson_path.specs.Queries.{one_by_one, found_by, union, segment_parts, selector_parts, selected_by}
-use Rattle.tinyjson_path.specs.Queries.{holds_of, kept, some_hold, all_hold}
-use Rattle.tinyjson_path.specs.Selecting.{from_each}
+use Rattle.tinyjson_path.specs.Nodes.{path_of, part_view, parts_view, children}
+use Rattle.tinyjson_path.specs.Queries.{found_by, union, selector_parts, selected_by, holds_of, kept, some_hold, all_hold}
 use Rattle.tinyjson_path.specs.Strings.{strings_in}
-use Rattle.tinyjson_path.proofs.Parts.{left}
+use Rattle.tinyjson_path.proofs.Waits.{pops_of, waits_parts}
+use Rattle.tinyjson_path.specs.Waiting.{waits_view, waits_left}
 use Rattle.tinyjson_path.proofs.Selected.{AreWithin}
 use Rattle.tinyjson_path.proofs.select.Finder.+selecting.Given as goal
 
-abbrev pub invariant-find_from-loop-segment : goal.invariant-find_from-loop-segment
-invariant-find_from-loop-segment l = record {
+abbrev pub invariant-find_from-loop-node : goal.invariant-find_from-loop-node
+invariant-find_from-loop-node l = record {
   root : l.self.root ≡ l.fn.self.root;
   left :
-      one_by_one (view l.fn.self.root.now) (map segment_parts (drop l.segment-index l.segments)) (parts_view l.nodes.items)
+      parts_view l.found.items ++ waits_left l.segments (view l.fn.self.root.now) (waits_view l.waiting.items)
       ≡ found_by l.segments (view l.fn.self.root.now) (view l.value);
-  within : AreWithin (strings_in (view l.value)) (parts_view l.nodes.items);
+  within : AreWithin (strings_in (view l.value)) (waits_parts (waits_view l.waiting.items));
 }
 
-abbrev pub invariant-apply-loop-node : goal.invariant-apply-loop-node
-invariant-apply-loop-node l = record {
-  root : l.self.root ≡ l.fn.self.root;
-  left :
-      parts_view l.selected.items
-      ++ from_each (segment_parts l.segment (view l.fn.self.root.now)) (parts_view (drop l.node-index l.nodes))
-      ≡ from_each (segment_parts l.segment (view l.fn.self.root.now)) (parts_view l.nodes);
-}
-
-abbrev pub invariant-descend-loop-node : goal.invariant-descend-loop-node
-invariant-descend-loop-node l = record {
-  root : l.self.root ≡ l.fn.self.root;
-  left :
-      parts_view l.selected.items ++ from_each (selected_by l.selectors (view l.fn.self.root.now)) (left (parts_view l.waiting.items))
-      ≡ parts_view l.fn.selected.items
-      ++ from_each (selected_by l.selectors (view l.fn.self.root.now)) (visited (path_of l.fn.node) (view l.fn.node.value.now));
-  within : AreWithin (strings_in (view l.fn.node.value.now)) (parts_view l.waiting.items);
-}
-
-abbrev pub decreases-descend-loop-node : goal.decreases-descend-loop-node
-decreases-descend-loop-node l = length (left (parts_view l.waiting.items))
+abbrev pub decreases-find_from-loop-node : goal.decreases-find_from-loop-node
+decreases-find_from-loop-node l = pops_of l.segments (view l.fn.self.root.now) (waits_view l.waiting.items)
 
 abbrev pub invariant-select_each-loop-selector : goal.invariant-select_each-loop-selector
 invariant-select_each-loop-selector l = record {

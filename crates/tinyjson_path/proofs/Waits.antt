@@ -1,0 +1,271 @@
+-- What waits on a stack, the first one last: what it selects, how long that takes, and whose strings it has.
+use Rattle.std.proofs.Common.{◌≡◌, ℕ, suc, ◌+◌, ◌<◌, List, [], ◌∷◌, ◌++◌, reverse, map, drop, length, get_or, refl, sym, ap, ◌∙◌, subst}
+use Rattle.std.proofs.Common.{arith, append_assoc, append-nil, rules, Vec, Global}
+use Rattle.std.proofs.lemmas.List.{map-append, reverse-append, reverse-reverse, length-append}
+use Rattle.tinyjson.specs.Tree.{Tree}
+use Rattle.tinyjson_path.specs.Nodes.{Part, part_view, parts_view, children, visited, root_part}
+use Rattle.tinyjson_path.specs.Queries.{Selects, one_by_one, segment_parts, selected_by, found_by}
+use Rattle.tinyjson_path.specs.Selecting.{from_each}
+use Rattle.tinyjson_path.specs.Strings.{Texts, strings_in}
+use Rattle.tinyjson_path.specs.Waiting.{Wait, waits_view, rest_of, waits_at, waits_left}
+use Rattle.tinyjson_path.specs.declared.node.Node.{Node}
+use Rattle.tinyjson_path.specs.declared.select.Waiting.{Waiting}
+use Rattle.tinyjson_path.proofs.Items.{drop_at}
+use Rattle.tinyjson_path.proofs.Parts.{each_append, each_of_each, visited_of, visited_is}
+use Rattle.tinyjson_path.proofs.Selected.{AreWithin, are_both, are_first, are_last}
+use Rattle.tinyjson_path.proofs.Stated.{segment_keeps}
+use Rattle.tinyjson_path.proofs.Within.{Within}
+use Rattle.tinyjson_path_query.specs.declared.query.Segment.{Segment, the_lemmas}
+use Rattle.tinyjson_path_query.specs.declared.query.Segment.TheVariants as segment
+use Rattle.tinyjson_path_query.specs.declared.query.Selector.{Selector}
+
+pub waits_popped : (old mid : List Waiting) (w : Waiting) → old ≡ mid ++ w ∷ []
+    → waits_view old ≡ waits_view mid ++ (w.segment, part_view w.node) ∷ []
+waits_popped old mid w e = ap waits_view e ∙ map-append (λ (v : Waiting). (v.segment, part_view v.node)) mid (w ∷ [])
+
+-- a node that is taken off the end of a list, and put behind those that wait
+pub put_behind : (nodes front : List Node) (n : Node) (old new : List Waiting) (i : ℕ) (goal : List Wait) → nodes ≡ front ++ n ∷ []
+    → new ≡ old ++ record { node = n; segment = i } ∷ [] → waits_view old ++ reverse (waits_at i (parts_view nodes)) ≡ goal
+    → waits_view new ++ reverse (waits_at i (parts_view front)) ≡ goal
+put_behind nodes front n old new i goal e m h =
+    let split : parts_view nodes ≡ parts_view front ++ part_view n ∷ [] = ap parts_view e ∙ map-append part_view front (n ∷ []) in
+    let turned : reverse (waits_at i (parts_view nodes)) ≡ (i, part_view n) ∷ reverse (waits_at i (parts_view front))
+    = ap (λ z. reverse (waits_at i z)) split
+    ∙ (ap reverse (map-append (λ (p : Part). (i, p)) (parts_view front) (part_view n ∷ []))
+    ∙ reverse-append (waits_at i (parts_view front)) ((i, part_view n) ∷ [])) in
+    ap (λ z. z ++ reverse (waits_at i (parts_view front))) (waits_popped new old (record { node = n; segment = i }) m)
+    ∙ (append_assoc (waits_view old) ((i, part_view n) ∷ []) (reverse (waits_at i (parts_view front)))
+    ∙ (ap (λ z. waits_view old ++ z) (sym turned) ∙ h))
+
+-- ---- what segments select from several parts
+
+obo_none : (root : Tree) (fs : List Selects) → one_by_one root fs [] ≡ []
+obo_none root [] = refl
+obo_none root (f ∷ fs) = obo_none root fs
+
+obo_append : (root : Tree) (fs : List Selects) (ps qs : List Part)
+    → one_by_one root fs (ps ++ qs) ≡ one_by_one root fs ps ++ one_by_one root fs qs
+obo_append root [] ps qs = refl
+obo_append root (f ∷ fs) ps qs =
+    ap (one_by_one root fs) (each_append (f root) ps qs) ∙ obo_append root fs (from_each (f root) ps) (from_each (f root) qs)
+
+-- ---- how often the stack is popped at most
+
+abbrev pub pops : Tree → List Selects → List Part → ℕ
+pops root [] ps = length ps
+pops root (f ∷ fs) ps = length (from_each visited_of ps) + pops root fs (from_each (f root) ps)
+
+pops_none : (root : Tree) (fs : List Selects) → pops root fs [] ≡ 0
+pops_none root [] = refl
+pops_none root (f ∷ fs) = let more : pops root fs [] ≡ 0 = pops_none root fs in omega (arith, more)
+
+pops_append : (root : Tree) (fs : List Selects) (ps qs : List Part) → pops root fs (ps ++ qs) ≡ pops root fs ps + pops root fs qs
+pops_append root [] ps qs = length-append ps qs
+pops_append root (f ∷ fs) ps qs =
+    let seen : length (from_each visited_of (ps ++ qs)) ≡ length (from_each visited_of ps) + length (from_each visited_of qs)
+    = ap length (each_append visited_of ps qs) ∙ length-append (from_each visited_of ps) (from_each visited_of qs) in
+    let more : pops root fs (from_each (f root) (ps ++ qs)) ≡ pops root fs (from_each (f root) ps) + pops root fs (from_each (f root) qs)
+    = ap (pops root fs) (each_append (f root) ps qs) ∙ pops_append root fs (from_each (f root) ps) (from_each (f root) qs) in
+    omega (arith, seen, more)
+
+-- ---- of those that wait
+
+module _ (ss : List Segment) (root : Tree) where
+  abbrev segments_from : ℕ → List Selects
+  segments_from i = map segment_parts (drop i ss)
+
+  abbrev pub pops_of : List Wait → ℕ
+  pops_of [] = 0
+  pops_of (w ∷ ws) = pops root (segments_from w.0) (w.1 ∷ []) + pops_of ws
+
+  pops_of_append : (xs ys : List Wait) → pops_of (xs ++ ys) ≡ pops_of xs + pops_of ys
+  pops_of_append [] ys = omega arith
+  pops_of_append (x ∷ xs) ys =
+      let more : pops_of (xs ++ ys) ≡ pops_of xs + pops_of ys = pops_of_append xs ys in omega (arith, more)
+
+  pops_of_at : (i : ℕ) (ps : List Part) → pops_of (reverse (waits_at i ps)) ≡ pops root (segments_from i) ps
+  pops_of_at i [] = sym (pops_none root (segments_from i))
+  pops_of_at i (p ∷ ps) =
+      let front : pops_of (reverse (waits_at i ps)) ≡ pops root (segments_from i) ps = pops_of_at i ps in
+      let split : pops_of (reverse (waits_at i (p ∷ ps))) ≡ pops_of (reverse (waits_at i ps)) + pops_of ((i, p) ∷ [])
+      = ap pops_of (reverse-append ((i, p) ∷ []) (waits_at i ps)) ∙ pops_of_append (reverse (waits_at i ps)) ((i, p) ∷ []) in
+      let whole : pops root (segments_from i) (p ∷ ps) ≡ pops root (segments_from i) (p ∷ []) + pops root (segments_from i) ps
+      = pops_append root (segments_from i) (p ∷ []) ps in
+      omega (arith, front, split, whole)
+
+  each_rest : (i : ℕ) (ps : List Part) → from_each (rest_of ss root) (waits_at i ps) ≡ one_by_one root (segments_from i) ps
+  each_rest i [] = sym (obo_none root (segments_from i))
+  each_rest i (p ∷ ps) =
+      ap (λ z. one_by_one root (segments_from i) (p ∷ []) ++ z) (each_rest i ps) ∙ sym (obo_append root (segments_from i) (p ∷ []) ps)
+
+  pub left_pushed : (mid : List Wait) (i : ℕ) (ps : List Part)
+      → waits_left ss root (mid ++ reverse (waits_at i ps)) ≡ one_by_one root (segments_from i) ps ++ waits_left ss root mid
+  left_pushed mid i ps =
+      ap (from_each (rest_of ss root)) (reverse-append mid (reverse (waits_at i ps))
+      ∙ ap (λ z. z ++ reverse mid) (reverse-reverse (waits_at i ps)))
+      ∙ (each_append (rest_of ss root) (waits_at i ps) (reverse mid) ∙ ap (λ z. z ++ waits_left ss root mid) (each_rest i ps))
+
+  pub left_popped : (ws mid : List Wait) (w : Wait) → ws ≡ mid ++ w ∷ []
+      → waits_left ss root ws ≡ rest_of ss root w ++ waits_left ss root mid
+  left_popped ws mid w e = ap (waits_left ss root) e ∙ ap (from_each (rest_of ss root)) (reverse-append mid (w ∷ []))
+
+  -- the one part that waits at first
+  pub left_first : (ws : List Wait) (t : Tree) → ws ≡ (0, root_part t) ∷ [] → waits_left ss root ws ≡ found_by ss root t
+  left_first ws t e = ap (waits_left ss root) e ∙ append-nil (found_by ss root t)
+
+  pub left_empty : (ws : List Wait) → ws ≡ [] → waits_left ss root ws ≡ []
+  left_empty ws e = ap (waits_left ss root) e
+
+  -- past the last segment the part itself is selected
+  pub left_whole : (ws mid : List Wait) (i : ℕ) (p : Part) → ws ≡ mid ++ (i, p) ∷ [] → drop i ss ≡ []
+      → waits_left ss root ws ≡ p ∷ waits_left ss root mid
+  left_whole ws mid i p e d =
+      left_popped ws mid (i, p) e ∙ ap (λ xs. one_by_one root (map segment_parts xs) (p ∷ []) ++ waits_left ss root mid) d
+
+  pub less_whole : (ws mid : List Wait) (i : ℕ) (p : Part) → ws ≡ mid ++ (i, p) ∷ [] → drop i ss ≡ [] → pops_of mid < pops_of ws
+  less_whole ws mid i p e d =
+      let was : pops_of ws ≡ pops_of mid + pops_of ((i, p) ∷ []) = ap pops_of e ∙ pops_of_append mid ((i, p) ∷ []) in
+      let one : pops root (segments_from i) (p ∷ []) ≡ 1 = ap (λ xs. pops root (map segment_parts xs) (p ∷ [])) d in
+      omega (arith, was, one)
+
+  -- what was selected, and what is left
+  pub goes_on : (acc : List Part) (goal : List Part) (new ws : List Wait) → waits_left ss root new ≡ waits_left ss root ws
+      → acc ++ waits_left ss root ws ≡ goal → acc ++ waits_left ss root new ≡ goal
+  goes_on acc goal new ws e h = ap (λ z. acc ++ z) e ∙ h
+
+  pub takes_one : (acc more goal : List Part) (ws mid : List Wait) (i : ℕ) (p : Part) → ws ≡ mid ++ (i, p) ∷ [] → drop i ss ≡ []
+      → more ≡ acc ++ p ∷ [] → acc ++ waits_left ss root ws ≡ goal → more ++ waits_left ss root mid ≡ goal
+  takes_one acc more goal ws mid i p e d m h =
+      ap (λ z. z ++ waits_left ss root mid) m
+      ∙ (append_assoc acc (p ∷ []) (waits_left ss root mid) ∙ (ap (λ z. acc ++ z) (sym (left_whole ws mid i p e d)) ∙ h))
+
+  module _ (i : ℕ) (s : Segment) (l : i < length ss) (at : s ≡ get_or ss i s) (sels : Vec Selector Global) (p : Part) where
+    abbrev chosen : List Part
+    chosen = selected_by sels.items root p
+
+    abbrev below : List Part
+    below = children p.path p.tree
+
+    child_selects : s ≡ segment.Child sels → segment_parts s root p ≡ chosen
+    child_selects e = ap (λ x. segment_parts x root p) e ∙ search (rules, the_lemmas)
+
+    descendant_selects : s ≡ segment.Descendant sels → (q : Part) → segment_parts s root q ≡ from_each (selected_by sels.items root) (visited_of q)
+    descendant_selects e q = ap (λ x. segment_parts x root q) e ∙ search (rules, the_lemmas)
+
+    from_here : segments_from i ≡ segment_parts s ∷ segments_from (i + 1)
+    from_here = ap (map segment_parts) (drop_at ss i s l at)
+
+    rest_here : rest_of ss root (i, p) ≡ one_by_one root (segments_from (i + 1)) (segment_parts s root p)
+    rest_here =
+        ap (λ fs. one_by_one root fs (p ∷ [])) from_here
+        ∙ ap (one_by_one root (segments_from (i + 1))) (append-nil (segment_parts s root p))
+
+    pub left_child : (ws mid new : List Wait) → s ≡ segment.Child sels → ws ≡ mid ++ (i, p) ∷ []
+        → new ≡ mid ++ reverse (waits_at (i + 1) chosen) → waits_left ss root new ≡ waits_left ss root ws
+    left_child ws mid new e popped pushed =
+        ap (waits_left ss root) pushed
+        ∙ (left_pushed mid (i + 1) chosen
+        ∙ sym (left_popped ws mid (i, p) popped
+        ∙ ap (λ z. z ++ waits_left ss root mid) (rest_here ∙ ap (one_by_one root (segments_from (i + 1))) (child_selects e))))
+
+    seen : from_each visited_of (p ∷ []) ≡ p ∷ from_each visited_of below
+    seen = append-nil (visited_of p) ∙ visited_is p.path p.tree
+
+    pub less_child : (ws mid new : List Wait) → s ≡ segment.Child sels → ws ≡ mid ++ (i, p) ∷ []
+        → new ≡ mid ++ reverse (waits_at (i + 1) chosen) → pops_of new < pops_of ws
+    less_child ws mid new e popped pushed =
+        let was : pops_of ws ≡ pops_of mid + pops_of ((i, p) ∷ []) = ap pops_of popped ∙ pops_of_append mid ((i, p) ∷ []) in
+        let is : pops_of new ≡ pops_of mid + pops root (segments_from (i + 1)) chosen
+        = ap pops_of pushed ∙ (pops_of_append mid (reverse (waits_at (i + 1) chosen))
+        ∙ ap (λ n. pops_of mid + n) (pops_of_at (i + 1) chosen)) in
+        let here : pops root (segments_from i) (p ∷ [])
+        ≡ length (from_each visited_of (p ∷ [])) + pops root (segments_from (i + 1)) (from_each (segment_parts s root) (p ∷ []))
+        = ap (λ fs. pops root fs (p ∷ [])) from_here in
+        let more : pops root (segments_from (i + 1)) (from_each (segment_parts s root) (p ∷ [])) ≡ pops root (segments_from (i + 1)) chosen
+        = ap (pops root (segments_from (i + 1))) (append-nil (segment_parts s root p) ∙ child_selects e) in
+        let some : length (from_each visited_of (p ∷ [])) ≡ suc (length (from_each visited_of below)) = ap length seen in
+        omega (arith, was, is, here, more, some)
+
+    abbrev deeper : List Part
+    deeper = from_each (selected_by sels.items root) (from_each visited_of below)
+
+    each_below : s ≡ segment.Descendant sels → (qs : List Part)
+        → from_each (segment_parts s root) qs ≡ from_each (selected_by sels.items root) (from_each visited_of qs)
+    each_below e qs = same qs ∙ sym (each_of_each (selected_by sels.items root) visited_of qs)
+      where
+        same : (qs : List Part)
+            → from_each (segment_parts s root) qs ≡ from_each (λ q. from_each (selected_by sels.items root) (visited_of q)) qs
+        same [] = refl
+        same (q ∷ qs) =
+            ap (λ z. z ++ from_each (segment_parts s root) qs) (descendant_selects e q)
+            ∙ ap (λ z. from_each (selected_by sels.items root) (visited_of q) ++ z) (same qs)
+
+    both : s ≡ segment.Descendant sels → segment_parts s root p ≡ chosen ++ deeper
+    both e = descendant_selects e p ∙ ap (from_each (selected_by sels.items root)) (visited_is p.path p.tree)
+
+    pub left_descendant : (ws mid low new : List Wait) → s ≡ segment.Descendant sels → ws ≡ mid ++ (i, p) ∷ []
+        → low ≡ mid ++ reverse (waits_at i below) → new ≡ low ++ reverse (waits_at (i + 1) chosen)
+        → waits_left ss root new ≡ waits_left ss root ws
+    left_descendant ws mid low new e popped lower pushed =
+        let fs : List Selects = segments_from (i + 1) in
+        let old : List Part = waits_left ss root mid in
+        ap (waits_left ss root) pushed
+        ∙ (left_pushed low (i + 1) chosen
+        ∙ (ap (λ z. one_by_one root fs chosen ++ z) (ap (waits_left ss root) lower ∙ (left_pushed mid i below
+        ∙ ap (λ z. z ++ old) (ap (λ gs. one_by_one root gs below) from_here ∙ ap (one_by_one root fs) (each_below e below))))
+        ∙ (sym (append_assoc (one_by_one root fs chosen) (one_by_one root fs deeper) old)
+        ∙ (ap (λ z. z ++ old) (sym (obo_append root fs chosen deeper))
+        ∙ sym (left_popped ws mid (i, p) popped ∙ ap (λ z. z ++ old) (rest_here ∙ ap (one_by_one root fs) (both e)))))))
+
+    pub less_descendant : (ws mid low new : List Wait) → s ≡ segment.Descendant sels → ws ≡ mid ++ (i, p) ∷ []
+        → low ≡ mid ++ reverse (waits_at i below) → new ≡ low ++ reverse (waits_at (i + 1) chosen) → pops_of new < pops_of ws
+    less_descendant ws mid low new e popped lower pushed =
+        let fs : List Selects = segments_from (i + 1) in
+        let was : pops_of ws ≡ pops_of mid + pops_of ((i, p) ∷ []) = ap pops_of popped ∙ pops_of_append mid ((i, p) ∷ []) in
+        let is : pops_of new ≡ pops_of low + pops root fs chosen
+        = ap pops_of pushed ∙ (pops_of_append low (reverse (waits_at (i + 1) chosen)) ∙ ap (λ n. pops_of low + n) (pops_of_at (i + 1) chosen)) in
+        let under : pops_of low ≡ pops_of mid + pops root (segments_from i) below
+        = ap pops_of lower ∙ (pops_of_append mid (reverse (waits_at i below)) ∙ ap (λ n. pops_of mid + n) (pops_of_at i below)) in
+        let each : pops root (segments_from i) below ≡ length (from_each visited_of below) + pops root fs deeper
+        = ap (λ gs. pops root gs below) from_here
+        ∙ ap (λ qs. length (from_each visited_of below) + pops root fs qs) (each_below e below) in
+        let here : pops root (segments_from i) (p ∷ [])
+        ≡ length (from_each visited_of (p ∷ [])) + pops root fs (from_each (segment_parts s root) (p ∷ []))
+        = ap (λ gs. pops root gs (p ∷ [])) from_here in
+        let more : pops root fs (from_each (segment_parts s root) (p ∷ [])) ≡ pops root fs chosen + pops root fs deeper
+        = ap (pops root fs) (append-nil (segment_parts s root p) ∙ both e) ∙ pops_append root fs chosen deeper in
+        let some : length (from_each visited_of (p ∷ [])) ≡ suc (length (from_each visited_of below)) = ap length seen in
+        omega (arith, was, is, under, each, here, more, some)
+
+-- ---- whose strings they have
+
+abbrev pub waits_parts : List Wait → List Part
+waits_parts ws = map (λ w. w.1) ws
+
+-- what selectors select from a part is within it
+pub chosen_within : (sels : Vec Selector Global) (root : Tree) (p : Part) → AreWithin (strings_in p.tree) (selected_by sels.items root p)
+chosen_within sels root p = subst (AreWithin (strings_in p.tree)) same (segment_keeps (segment.Child sels) root p)
+  where
+    same : segment_parts (segment.Child sels) root p ≡ selected_by sels.items root p
+    same = search (rules, the_lemmas)
+
+module _ (zs : Texts) where
+  pub are_popped : (ws mid : List Wait) (w : Wait) → ws ≡ mid ++ w ∷ [] → AreWithin zs (waits_parts ws)
+      → AreWithin zs (waits_parts mid) × Within (strings_in w.1.tree) zs
+  are_popped ws mid w e h =
+      let whole = subst (AreWithin zs) (ap waits_parts e ∙ map-append (λ (v : Wait). v.1) mid (w ∷ [])) h in
+      (are_first zs (waits_parts mid) (w.1 ∷ []) whole, (are_last zs (waits_parts mid) (w.1 ∷ []) whole).0)
+
+  are_at : (i : ℕ) (ps : List Part) → AreWithin zs ps → AreWithin zs (waits_parts (reverse (waits_at i ps)))
+  are_at i [] h = tt
+  are_at i (p ∷ ps) h =
+      subst (AreWithin zs)
+      (sym (ap waits_parts (reverse-append ((i, p) ∷ []) (waits_at i ps))
+      ∙ map-append (λ (v : Wait). v.1) (reverse (waits_at i ps)) ((i, p) ∷ [])))
+      (are_both zs (waits_parts (reverse (waits_at i ps))) (p ∷ []) (are_at i ps h.1) (h.0, tt))
+
+  pub are_pushed : (mid new : List Wait) (i : ℕ) (ps : List Part) → new ≡ mid ++ reverse (waits_at i ps) → AreWithin zs (waits_parts mid)
+      → AreWithin zs ps → AreWithin zs (waits_parts new)
+  are_pushed mid new i ps e h k =
+      subst (AreWithin zs) (sym (ap waits_parts e ∙ map-append (λ (v : Wait). v.1) mid (reverse (waits_at i ps))))
+      (are_both zs (waits_parts mid) (waits_parts (reverse (waits_at i ps))) h (are_at i ps k))

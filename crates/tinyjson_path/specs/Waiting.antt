@@ -1,0 +1,26 @@
+-- Nodes that wait for segments. Only private contracts use these words.
+use Rattle.std.specs.Prelude.{ℕ, List, ◌∷◌, [], map, drop, reverse}
+use Rattle.tinyjson.specs.Tree.{Tree}
+use Rattle.tinyjson_path.specs.Nodes.{Part, part_view}
+use Rattle.tinyjson_path.specs.Queries.{one_by_one, segment_parts}
+use Rattle.tinyjson_path.specs.Selecting.{from_each}
+use Rattle.tinyjson_path.specs.declared.select.Waiting.{Waiting}
+use Rattle.tinyjson_path_query.specs.declared.query.Segment.{Segment}
+
+-- a part, and the index of the first segment that is left for it
+abbrev pub Wait : Type 0
+Wait = ℕ × Part
+
+abbrev pub waits_view : List Waiting → List Wait
+waits_view ws = map (λ w. (w.segment, part_view w.node)) ws
+
+abbrev pub waits_at : ℕ → List Part → List Wait
+waits_at i ps = map (λ p. (i, p)) ps
+
+-- what the segments from the index on select from the part
+abbrev pub rest_of : List Segment → Tree → Wait → List Part
+rest_of ss root w = one_by_one root (map segment_parts (drop w.0 ss)) (w.1 ∷ [])
+
+-- of those that wait the last one is the next
+abbrev pub waits_left : List Segment → Tree → List Wait → List Part
+waits_left ss root ws = from_each (rest_of ss root) (reverse ws)
