@@ -4,7 +4,6 @@ pub mod Circles
 pub mod Evaluated
 pub mod Operands
 pub mod Parts
-pub mod Patterns
 pub mod Places
 pub mod Reading
 pub mod Refused

@@ -15,13 +15,12 @@ ghost use Rattle.tinyjson_schema.specs.Assertions.{is_count_at_most, is_count_at
 ghost use Rattle.tinyjson_schema.specs.Assertions.{has_pattern};
 
 use crate::multiple::are_multiple;
-use crate::pattern::Pattern;
 use crate::unique::are_unique;
 use std::alloc::{AllocError, Global};
 use std::collections::HashMap;
 use tinyjson::{JsonNumber, JsonValue, sorted_members};
 use tinyjson_compare::is_at_most;
-use tinyjson_schema_keywords::{Keyword, operand};
+use tinyjson_schema_keywords::{Keyword, Walk, operand};
 
 /// The assertions, in the order in which they are checked.
 const ASSERTIONS: [Keyword; 18] = [
@@ -51,24 +50,24 @@ const ASSERTIONS: [Keyword; 18] = [
 pub fn unmet(
     schema: &JsonValue,
     value: &JsonValue,
-    alloc: Global,
+    walk: Walk<'_, '_>,
 ) -> Result<Option<Keyword>, AllocError>
     ensures { IfOk result (λ found. IsUnmet (view schema.now) (view value.now) found) }
 {
-    unmet_among(&ASSERTIONS, schema, value, alloc)
+    unmet_among(&ASSERTIONS, schema, value, walk)
 }
 
 fn unmet_among(
     keywords: &[Keyword],
     schema: &JsonValue,
     value: &JsonValue,
-    alloc: Global,
+    walk: Walk<'_, '_>,
 ) -> Result<Option<Keyword>, AllocError>
     ensures { IfOk result
         (λ found. IsUnmetAmong keywords.now (view schema.now) (view value.now) found) }
 {
     for keyword in keywords {
-        let is_met = meets(*keyword, schema, value, alloc)?;
+        let is_met = meets(*keyword, schema, value, walk)?;
         if !is_met {
             return Ok(Some(*keyword));
         }
@@ -80,12 +79,12 @@ fn meets(
     keyword: Keyword,
     schema: &JsonValue,
     value: &JsonValue,
-    alloc: Global,
+    walk: Walk<'_, '_>,
 ) -> Result<bool, AllocError>
     ensures { IfOk result (λ is. is ≡ meets keyword (view schema.now) (view value.now)) }
 {
     match operand(schema, keyword.name()) {
-        Some(operand) => accepts(keyword, operand, value, alloc),
+        Some(operand) => accepts(keyword, operand, value, walk),
         None => Ok(true),
     }
 }
@@ -94,10 +93,11 @@ fn accepts(
     keyword: Keyword,
     operand: &JsonValue,
     value: &JsonValue,
-    alloc: Global,
+    walk: Walk<'_, '_>,
 ) -> Result<bool, AllocError>
     ensures { IfOk result (λ is. is ≡ accepts keyword (view operand.now) (view value.now)) }
 {
+    let alloc = walk.alloc;
     match keyword {
         Keyword::Type => Ok(has_type(operand, value)),
         Keyword::Enum => Ok(is_in(operand, value)),
@@ -109,7 +109,7 @@ fn accepts(
         Keyword::ExclusiveMinimum => Ok(are_apart(operand, value)),
         Keyword::MaxLength => is_count_at_most(length(value), operand, alloc),
         Keyword::MinLength => is_count_at_least(length(value), operand, alloc),
-        Keyword::Pattern => has_pattern(operand, value, alloc),
+        Keyword::Pattern => has_pattern(operand, value, walk),
         Keyword::MaxItems => is_count_at_most(item_count(value), operand, alloc),
         Keyword::MinItems => is_count_at_least(item_count(value), operand, alloc),
         Keyword::UniqueItems => are_unique(operand, value, alloc),
@@ -227,14 +227,18 @@ fn length(value: &JsonValue) -> Option<usize>
     }
 }
 
-/// Whether the pattern matches somewhere in the string; true for other values. The pattern is parsed at each call.
-fn has_pattern(pattern: &JsonValue, value: &JsonValue, alloc: Global) -> Result<bool, AllocError>
+/// Whether the pattern matches somewhere in the string; true for other values.
+fn has_pattern(
+    pattern: &JsonValue,
+    value: &JsonValue,
+    walk: Walk<'_, '_>,
+) -> Result<bool, AllocError>
     ensures { IfOk result (λ has. has ≡ has_pattern (view pattern.now) (view value.now)) }
 {
     match (pattern, value) {
         (JsonValue::String(pattern), JsonValue::String(text)) => {
-            let mut pattern = Pattern::read(alloc, pattern.as_str())?;
-            Ok(pattern.is_found_in(text.as_str()))
+            walk.patterns
+                .is_found(pattern.as_str(), text.as_str(), walk.alloc)
         }
         _ => Ok(true),
     }

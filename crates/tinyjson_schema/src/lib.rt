@@ -11,7 +11,6 @@ mod contains;
 mod multiple;
 mod operand;
 mod part;
-mod pattern;
 mod refused;
 mod schema;
 mod unique;

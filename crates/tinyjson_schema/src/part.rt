@@ -6,10 +6,9 @@ ghost use Rattle.tinyjson_schema.specs.Parts.{property, prefix_item, some_found,
 ghost use Rattle.tinyjson_schema.specs.Parts.{additional};
 ghost use Rattle.tinyjson_schema.specs.Places.{IsMemberPart, IsItemPart};
 
-use crate::pattern::Pattern;
-use std::alloc::{AllocError, Global};
+use std::alloc::AllocError;
 use tinyjson::JsonValue;
-use tinyjson_schema_keywords::{Keyword, operand, schema_map_at};
+use tinyjson_schema_keywords::{Keyword, Walk, operand, schema_map_at};
 
 /// The schema for a part of the value, and the keyword that applies it.
 #[derive(Clone, Copy)]
@@ -23,7 +22,7 @@ pub struct Part<'s> {
 pub fn member_part<'s>(
     schema: &'s JsonValue,
     key: &str,
-    alloc: Global,
+    walk: Walk<'_, '_>,
 ) -> Result<Option<Part<'s>>, AllocError>
     ensures { IfOk result (λ part. IsMemberPart (view schema.now) (chars key.now) part) }
 {
@@ -33,7 +32,7 @@ pub fn member_part<'s>(
             schema: part,
         }));
     }
-    match additional(schema, key, alloc)? {
+    match additional(schema, key, walk)? {
         Some(part) => Ok(Some(Part {
             applicator: Keyword::AdditionalProperties,
             schema: part,
@@ -72,7 +71,7 @@ fn property<'s>(schema: &'s JsonValue, key: &str) -> Option<&'s JsonValue>
 fn additional<'s>(
     schema: &'s JsonValue,
     key: &str,
-    alloc: Global,
+    walk: Walk<'_, '_>,
 ) -> Result<Option<&'s JsonValue>, AllocError>
     ensures { IfOk result (λ part.
         option_map (λ x. view x.now) part ≡ additional (view schema.now) (chars key.now)) }
@@ -80,7 +79,7 @@ fn additional<'s>(
     let Some(part) = operand(schema, "additionalProperties") else {
         return Ok(None);
     };
-    let patterned = is_patterned(schema, key, alloc)?;
+    let patterned = is_patterned(schema, key, walk)?;
     if patterned {
         return Ok(None);
     }
@@ -90,23 +89,24 @@ fn additional<'s>(
 /// Whether a pattern of `patternProperties` matches the key. Not inlined, since the recursion over schemas calls it
 /// at each level.
 #[inline(never)]
-pub fn is_patterned(schema: &JsonValue, key: &str, alloc: Global) -> Result<bool, AllocError>
+pub fn is_patterned(schema: &JsonValue, key: &str, walk: Walk<'_, '_>) -> Result<bool, AllocError>
     ensures { IfOk result (λ is. is ≡ is_patterned (view schema.now) (chars key.now)) }
 {
-    let patterns = schema_map_at(schema, Keyword::PatternProperties, alloc)?;
-    some_found(patterns.as_slice(), key, alloc)
+    let patterns = schema_map_at(schema, Keyword::PatternProperties, walk.alloc)?;
+    some_found(patterns.as_slice(), key, walk)
 }
 
 fn some_found(
     patterns: &[(&String, &JsonValue)],
     key: &str,
-    alloc: Global,
+    walk: Walk<'_, '_>,
 ) -> Result<bool, AllocError>
     ensures { IfOk result
         (λ some. some ≡ some_found (members_listed patterns.now) (chars key.now)) }
 {
     for &(pattern, _) in patterns {
-        if Pattern::read(alloc, pattern.as_str())?.is_found_in(key) {
+        let is_found = walk.patterns.is_found(pattern.as_str(), key, walk.alloc)?;
+        if is_found {
             return Ok(true);
         }
     }

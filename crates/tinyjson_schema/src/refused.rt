@@ -17,11 +17,10 @@ use crate::operand::{
     are_types, is_array, is_base, is_boolean, is_count, is_dialect, is_key_list, is_key_map,
     is_number, is_own_name, is_string,
 };
-use crate::pattern::{PatternError, is_pattern};
 use std::alloc::{AllocError, Global};
 use tinyjson::{JsonValue, sorted_members};
 use tinyjson_pointer::Pointer;
-use tinyjson_schema_keywords::{Document, Form, form_at, is_some_item};
+use tinyjson_schema_keywords::{Document, Form, PatternError, form_at, is_pattern, is_some_item};
 
 /// A place in a schema that is rejected, and why.
 #[derive(Drop)]

@@ -10,13 +10,14 @@ use crate::violation::Violation;
 use std::alloc::{AllocError, Global};
 use tinyjson::JsonValue;
 use tinyjson_pointer::Pointer;
-use tinyjson_schema_keywords::{CheckError, Document, Walk, Whole, anchors_of, repeated};
+use tinyjson_schema_keywords::{CheckError, Document, KeptPatterns, Walk, Whole, anchors_of, repeated};
 
 /// A schema that can be applied. Each keyword in it is applied or is an annotation, and its value has the
 /// standard's form. Each reference leads to a schema in it, and not in a circle.
 #[derive(Drop)]
 pub struct Schema<'s> {
     whole: Whole<'s>,
+    patterns: KeptPatterns,
     ghost checked: { is_schema (view whole.root.now) true (view whole.root.now) ≡ true },
 }
 
@@ -66,8 +67,9 @@ impl<'s> Schema<'s> {
             whole: &whole,
             again,
         };
+        let patterns = KeptPatterns::new(alloc);
         match refused_place(document, alloc)? {
-            None => Ok(Schema { whole }),
+            None => Ok(Schema { whole, patterns }),
             Some(place) => match place.reason {
                 Reason::Misfit => Err(SchemaError::Refused(place.pointer)),
                 Reason::PatternLimit => Err(SchemaError::PatternLimit(place.pointer)),
@@ -96,6 +98,7 @@ impl<'s> Schema<'s> {
         let walk = Walk {
             whole: &self.whole,
             steps,
+            patterns: &self.patterns,
             alloc,
         };
         find_violation(value, walk)

@@ -18,7 +18,6 @@ mod unevaluated;
 
 use crate::assertions::unmet;
 use crate::part::{item_part, member_part};
-use crate::pattern::Pattern;
 use crate::validate::tested::unmet_test;
 use crate::validate::unevaluated::in_rest;
 use crate::violation::Violation;
@@ -62,7 +61,7 @@ fn violation_in(
     if refuses_all(schema) {
         return Ok(Some(Violation::of_schema(walk.alloc)));
     }
-    if let Some(keyword) = unmet(schema, value, walk.alloc)? {
+    if let Some(keyword) = unmet(schema, value, walk)? {
         return Ok(Some(Violation::of_keyword(walk.alloc, keyword)?));
     }
     if let Some(keyword) = unmet_test(value, schema, inner)? {
@@ -227,11 +226,10 @@ fn in_found(
     ensures { FindsFound walk.entry (chars pattern.now) (view schema.now)
         (members_in (view value.now)) result }
 {
-    let mut code = Pattern::read(walk.alloc, pattern)?;
     let listed = listed_members(value, walk.alloc)?;
     let members = listed.as_slice();
     for &(key, member) in members {
-        let is_found = code.is_found_in(key.as_str());
+        let is_found = walk.patterns.is_found(pattern, key.as_str(), walk.alloc)?;
         if is_found {
             if let Some(mut found) = violation_in(member, schema, walk)? {
                 found.enter_value(walk.alloc, key.as_str())?;
@@ -315,7 +313,7 @@ fn in_members(
         (view schema.now) (object (members_listed members.now)) result }
 {
     for &(key, member) in members {
-        if let Some(part) = member_part(schema, key.as_str(), walk.alloc)? {
+        if let Some(part) = member_part(schema, key.as_str(), walk)? {
             if let Some(mut found) = violation_in(member, part.schema, walk)? {
                 found.enter_member(walk.alloc, part.applicator, key.as_str())?;
                 return Ok(Some(found));

@@ -5,6 +5,7 @@ pub mod Gathering
 pub mod Listed
 pub mod Lookups
 pub mod Naming
+pub mod Patterns
 pub mod References
 pub mod Search
 pub mod Turns

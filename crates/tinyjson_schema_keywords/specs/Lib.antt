@@ -2,6 +2,7 @@ pub mod Anchors
 pub mod Applied
 pub mod Forms
 pub mod Names
+pub mod Patterns
 pub mod References
 pub mod Subschemas
 pub mod Unknown

@@ -1,5 +1,6 @@
 //! The subschemas of a schema, by keyword.
 ghost use Rattle.std.specs.Prelude.{◌≡◌, option_map, IfOk, is_some};
+ghost use Rattle.std.specs.HashMap.{get_by_text};
 ghost use Rattle.std.specs.Str.{chars};
 ghost use Rattle.tinyjson.specs.Index.{tree_at_key};
 ghost use Rattle.tinyjson.specs.Tree.{string};
@@ -10,7 +11,11 @@ ghost use Rattle.tinyjson_schema_keywords.specs.Applied.{items_in, members_in, b
 
 use crate::keyword::Keyword;
 use std::alloc::{AllocError, Global};
+use std::collections::HashMap;
 use tinyjson::{JsonValue, sorted_members};
+
+/// How many keys are compared one by one.
+const FEW: usize = 8;
 
 /// The value of an object at a key; `None` for another value.
 pub fn operand<'s>(schema: &'s JsonValue, name: &str) -> Option<&'s JsonValue>
@@ -18,9 +23,24 @@ pub fn operand<'s>(schema: &'s JsonValue, name: &str) -> Option<&'s JsonValue>
         ≡ tree_at_key (view schema.now) (chars name.now) }
 {
     match schema {
-        JsonValue::Object(keywords) => keywords.get(name),
+        JsonValue::Object(keywords) => found(keywords, name),
         _ => None,
     }
+}
+
+/// The value at a key. Few keys are compared one by one, which is faster than to hash one.
+fn found<'s>(members: &'s HashMap<String, JsonValue>, name: &str) -> Option<&'s JsonValue>
+    ensures { option_map (λ x. x.now) result ≡ get_by_text members.now name.now }
+{
+    if members.len() > FEW {
+        return members.get(name);
+    }
+    for (key, value) in members {
+        if name == key.as_str() {
+            return Some(value);
+        }
+    }
+    None
 }
 
 /// The value of the schema's keyword, if it has it.

@@ -12,6 +12,7 @@ mod applied;
 mod document;
 mod form;
 mod keyword;
+mod pattern;
 mod reference;
 mod subschemas;
 mod unknown;
@@ -25,6 +26,7 @@ pub use applied::{
 pub use document::{Document, Whole};
 pub use form::{Form, form_at, form_by, is_some_item};
 pub use keyword::{Keyword, keyword_of};
+pub use pattern::{KeptPatterns, PatternError, is_pattern};
 pub use reference::{at_pointer, percent_decoded, read_pointer, referenced, target};
 pub use subschemas::{SchemaMember, schema_members};
 pub use unknown::unknown_words;

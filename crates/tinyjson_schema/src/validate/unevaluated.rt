@@ -141,11 +141,11 @@ fn evaluates_member(source: &Source<'_, '_>, key: &str) -> Result<bool, AllocErr
     if has_rest {
         return Ok(true);
     }
-    let part = member_part(source.schema, key, source.walk.alloc)?;
+    let part = member_part(source.schema, key, source.walk)?;
     if part.is_some() {
         return Ok(true);
     }
-    is_patterned(source.schema, key, source.walk.alloc)
+    is_patterned(source.schema, key, source.walk)
 }
 
 /// Whether the source has the keyword for the unevaluated parts, and is not the schema that asks.

@@ -573,8 +573,8 @@ in_found-returns-in-Some t c =
       key = k;
       value = view p.1.now;
       rest = tokens_of old.instance_location;
-      found = ap₂ is_found (sym c.loop-key.invariant.0) (ap chars (sym c.as_str.ensures.value))
-          ∙ (sym c.is_found_in-is_found.ensures.found ∙ c.if-is_found.true);
+      found = ap (λ bs. is_found (chars c.args.pattern.now) (chars bs)) (sym c.as_str.ensures.value)
+          ∙ (sym c.in_ok-is_found.ensures ∙ c.if-is_found.true);
       at = ap (find k) (sym (ap members_listed c.as_slice-members.ensures.value ∙ c.in_ok-listed.ensures.listed))
           ∙ listed_found ps i p sorted c.loop-key-test.true c.loop-key-item.is;
       placed = entered.1;
@@ -591,19 +591,17 @@ in_found-loop-key-preserved t c =
     let p = c.loop-key-item.result in
     let k = text p.0.now in
     let u = view p.1.now in
-    let answer : c.is_found_in-is_found.result ≡ is_found pattern k
-    = c.is_found_in-is_found.ensures.found ∙ ap₂ is_found c.loop-key.invariant.0 (ap chars c.as_str.ensures.value) in (
-      ap text c.is_found_in-is_found.ensures.same ∙ c.loop-key.invariant.0,
-      λ g. elim c.if-is_found.branch [
-        | in_found-then-is_found+in_ok-found+in_default w ↦
-            found_turn (says c.args.walk g r) pattern ps i p c.loop-key-test.true c.loop-key-item.is
-            (found_holds (says c.args.walk g r) pattern k u
-            (subst (λ o. Judges c.args.walk r u (Ok o)) w.in_default.is w.in_ok-found.ensures g)) (c.loop-key.invariant.1 g)
-        | in_found-else-is_found w ↦
-            found_turn (says c.args.walk g r) pattern ps i p c.loop-key-test.true c.loop-key-item.is
-            (not_found (says c.args.walk g r) pattern k u (sym answer ∙ w.if-is_found.false)) (c.loop-key.invariant.1 g)
-      ],
-    )
+    let answer : c.in_ok-is_found.is_found ≡ is_found pattern k
+    = c.in_ok-is_found.ensures ∙ ap (λ bs. is_found pattern (chars bs)) c.as_str.ensures.value in
+    λ g. elim c.if-is_found.branch [
+      | in_found-then-is_found+in_ok-found+in_default w ↦
+          found_turn (says c.args.walk g r) pattern ps i p c.loop-key-test.true c.loop-key-item.is
+          (found_holds (says c.args.walk g r) pattern k u
+          (subst (λ o. Judges c.args.walk r u (Ok o)) w.in_default.is w.in_ok-found.ensures g)) (c.loop-key.invariant g)
+      | in_found-else-is_found w ↦
+          found_turn (says c.args.walk g r) pattern ps i p c.loop-key-test.true c.loop-key-item.is
+          (not_found (says c.args.walk g r) pattern k u (sym answer ∙ w.if-is_found.false)) (c.loop-key.invariant g)
+    ]
 
 pub in_found-returns : goal.in_found-returns
 in_found-returns t c g =
@@ -611,7 +609,7 @@ in_found-returns t c g =
     let ps = chars c.args.pattern.now in
     ap (found_pass q ps) (sym (ap members_listed c.as_slice-members.ensures.value ∙ c.in_ok-listed.ensures.listed))
     ∙ turn_end (λ xs. found_pass q ps (members_listed xs)) c.as_slice-members.result.now c.loop-key.key-index true
-    c.loop-key-test.false refl (c.loop-key.invariant.1 g)
+    c.loop-key-test.false refl (c.loop-key.invariant g)
 
 pub in_reference-returns : goal.in_reference-returns
 in_reference-returns t c =

@@ -114,9 +114,9 @@ invariant-in_patterned-loop-pattern l = (g : Answers) →
     ≡ patterns_accept (says l.walk g) (members_listed l.patterns) (members_in (view l.value))
 
 abbrev pub invariant-in_found-loop-key : goal.invariant-in_found-loop-key
-invariant-in_found-loop-key l = (text l.code.pattern ≡ chars l.pattern)
-    × ((g : Answers) → found_pass (says l.walk g (view l.schema)) (chars l.pattern) (members_listed (drop l.key-index l.members))
-    ≡ found_pass (says l.walk g (view l.schema)) (chars l.pattern) (members_listed l.members))
+invariant-in_found-loop-key l = (g : Answers) →
+    found_pass (says l.walk g (view l.schema)) (chars l.pattern) (members_listed (drop l.key-index l.members))
+    ≡ found_pass (says l.walk g (view l.schema)) (chars l.pattern) (members_listed l.members)
 
 abbrev pub invariant-in_members-loop-key : goal.invariant-in_members-loop-key
 invariant-in_members-loop-key l = (g : Answers) →

@@ -1,8 +1,8 @@
 use Rattle.std.proofs.Common.{inl, inr}
 use Rattle.std.specs.Str.{chars}
 use Rattle.i_regexp.proofs.Callers.{refused_pattern, outside_pattern}
-use Rattle.tinyjson_schema.proofs.Patterns.{answers_read, is_read, answers_nothing, is_nothing}
-use Rattle.tinyjson_schema.proofs.pattern.code_of.Goals as goal
+use Rattle.tinyjson_schema_keywords.proofs.Patterns.{answers_read, is_read, answers_nothing, is_nothing}
+use Rattle.tinyjson_schema_keywords.proofs.pattern.code_of.Goals as goal
 
 pub returns-in-Ok-clause-is : goal.returns-in-Ok-clause-is
 returns-in-Ok-clause-is c = is_read (chars c.args.pattern.now) c.in-Ok.code c.in-Ok.ensures

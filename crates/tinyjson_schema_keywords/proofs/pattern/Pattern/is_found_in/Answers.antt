@@ -1,7 +1,7 @@
 use Rattle.std.specs.Str.{chars}
 use Rattle.tinyjson.specs.View.{text}
-use Rattle.tinyjson_schema.proofs.Patterns.{found_right, found_nowhere}
-use Rattle.tinyjson_schema.proofs.pattern.Pattern.is_found_in.Goals as goal
+use Rattle.tinyjson_schema_keywords.proofs.Patterns.{found_right, found_nowhere}
+use Rattle.tinyjson_schema_keywords.proofs.pattern.Pattern.is_found_in.Goals as goal
 
 pub returns-in-Some-clause-found : goal.returns-in-Some-clause-found
 returns-in-Some-clause-found c =

@@ -3,10 +3,15 @@ ghost use Rattle.std.specs.Prelude.{◌≡◌, ℕ, List, IfOk, IfErr, is_some};
 ghost use Rattle.std.specs.Str.{chars};
 ghost use Rattle.tinyjson.specs.View.{text};
 ghost use Rattle.i_regexp.specs.PatternDeciding.{is_pattern, is_found};
-ghost use Rattle.tinyjson_schema.specs.Patterns.{answer_of, IsPatternError};
+ghost use Rattle.tinyjson_schema_keywords.specs.Patterns.{answer_of, IsPatternError};
 
 use i_regexp::{SchemaPattern, SchemaPatternErrorKind};
 use std::alloc::{AllocError, Global};
+use std::cell::RefCell;
+use std::collections::HashMap;
+
+/// How many parsed patterns are kept.
+const KEPT: usize = 100;
 
 /// Why a pattern is not parsed.
 #[derive(Clone, Copy)]
@@ -19,7 +24,7 @@ pub enum PatternError {
 
 /// A text that was parsed as a pattern.
 #[derive(Drop)]
-pub struct Pattern {
+struct Pattern {
     pattern: String,
     /// `None` if the text is no pattern.
     code: Option<SchemaPattern>,
@@ -29,7 +34,7 @@ pub struct Pattern {
 impl Pattern {
     /// Parses a text. One that is no pattern matches nothing. A checked schema has no pattern that is too deep or
     /// too large; for such a one the error is out of memory.
-    pub fn read(alloc: Global, pattern: &str) -> Result<Pattern, AllocError>
+    fn read(alloc: Global, pattern: &str) -> Result<Pattern, AllocError>
         ensures { IfOk result (λ p. text p.pattern ≡ chars pattern.now) }
     {
         let Ok(code) = code_of(alloc, pattern) else {
@@ -40,7 +45,7 @@ impl Pattern {
     }
 
     /// Whether the pattern matches somewhere in the text.
-    pub fn is_found_in(&mut self, value: &str) -> bool
+    fn is_found_in(&mut self, value: &str) -> bool
         ensures found { result ≡ is_found (text self.old.pattern) (chars value.now) }
         ensures same { self.new.pattern ≡ self.old.pattern }
     {
@@ -48,6 +53,43 @@ impl Pattern {
             Some(code) => code.is_found_in(value),
             None => false,
         }
+    }
+}
+
+/// Parsed patterns, up to 100 of them, so that most are parsed once.
+#[derive(Drop)]
+pub struct KeptPatterns {
+    kept: RefCell<HashMap<String, Pattern>>,
+}
+
+impl KeptPatterns {
+    /// No pattern yet.
+    pub fn new(alloc: Global) -> KeptPatterns {
+        KeptPatterns {
+            kept: RefCell::new(HashMap::new(alloc)),
+        }
+    }
+
+    /// Whether the pattern matches somewhere in the text. One that is no pattern matches nothing. A checked schema has
+    /// no pattern that is too deep or too large; for such a one the error is out of memory.
+    #[inline(never)]
+    pub fn is_found(&self, pattern: &str, text: &str, alloc: Global) -> Result<bool, AllocError>
+        ensures { IfOk result (λ is. is ≡ is_found (chars pattern.now) (chars text.now)) }
+    {
+        let Ok(mut kept) = self.kept.try_borrow_mut() else {
+            return Ok(Pattern::read(alloc, pattern)?.is_found_in(text));
+        };
+        if let Some(known) = kept.get_mut(pattern) {
+            if known.pattern.as_str() == pattern {
+                return Ok(known.is_found_in(text));
+            }
+        }
+        let mut read = Pattern::read(alloc, pattern)?;
+        let is_found = read.is_found_in(text);
+        if kept.len() < KEPT {
+            kept.insert(String::from_str(alloc, pattern)?, read)?;
+        }
+        Ok(is_found)
     }
 }
 

@@ -5,8 +5,8 @@ use Rattle.i_regexp.specs.PatternReading.{IsRefused, texts_of}
 use Rattle.i_regexp.specs.declared.pattern.SchemaPattern.{SchemaPattern}
 use Rattle.i_regexp.specs.declared.pattern_error.SchemaPatternError.{SchemaPatternError}
 use Rattle.i_regexp.specs.declared.pattern_error.SchemaPatternErrorKind.TheVariants.{TooDeep, TooLarge}
-use Rattle.tinyjson_schema.specs.declared.pattern.PatternError.{PatternError}
-use Rattle.tinyjson_schema.specs.declared.pattern.PatternError.TheVariants.{AboveLimits, OutOfMemory}
+use Rattle.tinyjson_schema_keywords.specs.declared.pattern.PatternError.{PatternError}
+use Rattle.tinyjson_schema_keywords.specs.declared.pattern.PatternError.TheVariants.{AboveLimits, OutOfMemory}
 
 -- The text is too deep or too large to be parsed as a pattern.
 pub record IsAboveLimits (cs : List ℕ) : Type 0 where
