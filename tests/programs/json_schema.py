@@ -1,4 +1,4 @@
-"""Rows of `json_schema`: a value, or each line of some, checked against a schema (JSON Schema 2020-12)."""
+"""Rows of `json_schema`: a value, or each line of some, checked against a schema (JSON Schema 2020-12, drafts 6 and 7)."""
 
 import json
 import os
@@ -14,11 +14,12 @@ from values import LONG, NESTED, NOT_UTF8, normal
 
 FAULTS = Faults("json_schema", status=1, is_stopping=True)
 
-# Files of schemas: one of members and items, the same with names that are no keywords, and one of which what has led to a dynamic
-# reference tells where it leads.
+# Files of schemas: one of members and items, the same with names that are no keywords, one of which what has led to a dynamic
+# reference tells where it leads, and one of draft 7.
 SCHEMA = f"{TOP}/crates/json_schema/data/schema.json"
 UNKNOWN_WORDS = f"{TOP}/crates/json_schema/data/unknown.json"
 SCOPES_FILE = f"{TOP}/crates/json_schema/data/scopes.json"
+DRAFT_FILE = f"{TOP}/crates/json_schema/data/draft-7.json"
 
 # The schema, values that are valid, and values that are not, each with the place in it and the keyword's.
 KEYWORDS = [
@@ -392,7 +393,7 @@ REFUSED = [
     ('{"items":{"patternProperties":{"b+":{"pattern":"[a"}}}}', "/items/patternProperties/b+/pattern"), ('{"additionalProperties":{"patternProperties":{"\\\\B":{}}}}', "/additionalProperties/patternProperties/\\B"),
     ('{"unevaluatedProperties":1}', "/unevaluatedProperties"), ('{"unevaluatedProperties":{"type":5}}', "/unevaluatedProperties/type"),
     ('{"unevaluatedItems":[true]}', "/unevaluatedItems"), ('{"$dynamicRef":"#a"}', "/$dynamicRef"),
-    ('{"$schema":"http://json-schema.org/draft-07/schema#"}', "/$schema"), ('{"$schema":5}', "/$schema"),
+    ('{"$schema":5}', "/$schema"), ('{"$schema":["https://json-schema.org/draft/2020-12/schema"]}', "/$schema"), ('{"not":{"$schema":"http://json-schema.org/draft-07/schema#"}}', "/not/$schema"),
     ('{"$defs":{"a":5}}', "/$defs/a"), ('{"$defs":[]}', "/$defs"), ('{"definitions":{"a":5}}', "/definitions/a"), ('{"definitions":[]}', "/definitions"),
     ('{"items":[]}', "/items"), ('{"items":[{"type":"string"}]}', "/items"), ('{"prefixItems":[]}', "/prefixItems"),
     ('{"prefixItems":[{},{"type":5}]}', "/prefixItems/1/type"), ('{"prefixItems":{}}', "/prefixItems"),
@@ -698,6 +699,62 @@ REFUSED_RESOURCES = [
     ('{"$ref":"x#y z","$defs":{"a":{"$id":"x"}}}', "/$ref"), ('{"$ref":"x#1","allOf":[{"$id":"x"}]}', "/$ref"), ('{"$ref":"x#%FF","$defs":{"a":{"$id":"x"}}}', "/$ref"), ('{"$ref":"x#%2","$defs":{"a":{"$id":"x"}}}', "/$ref"),
 ]
 
+# The URIs of drafts 7 and 6, as schemas spell them.
+SPELLED = ["http://json-schema.org/%s/schema#", "http://json-schema.org/%s/schema", "https://json-schema.org/%s/schema#", "https://json-schema.org/%s/schema"]
+
+# Schemas of draft 7 and of draft 6, without their `$schema`; most are of the official suite. Places are in the words of 2020-12.
+BOTH_DRAFTS = [
+    # Validation, 6.4.1 and 6.4.2 (draft 6: 6.9 and 6.10): `items` is a schema, or an array with `additionalItems` for the rest.
+    ('{"items":{"type":"integer"}}', ["[1,2,3]", "[]", '{"foo":"bar"}'], [('[1,"x"]', "/1", "/items/type")]),
+    ('{"items":[{"type":"integer"},{"type":"string"}]}', ['[1,"foo"]', "[1]", '[1,"foo",true]', "[]", '{"0":"invalid","1":"valid","length":2}'], [('["foo",1]', "/0", "/prefixItems/0/type")]),
+    ('{"items":[{}],"additionalItems":{"type":"integer"}}', ["[null,2,3,4]", "[null]"], [('[null,2,3,"foo"]', "/3", "/items/type")]),
+    ('{"items":[{},{},{}],"additionalItems":false}', ["[1,2,3]", "[]"], [("[1,2,3,4]", "/3", "/items")]),
+    ('{"items":{},"additionalItems":false}', ["[1,2,3,4,5]"], []),
+    ('{"additionalItems":false}', ["[1,2,3,4,5]", '{"foo":"bar"}'], []),
+    ('{"items":[true,false]}', ["[1]", "[]"], [('[1,"foo"]', "/1", "/prefixItems/1")]),
+    # 6.5.7 (draft 6: 6.21): of `dependencies` a list asks for members, and a schema is for the whole value.
+    ('{"dependencies":{"bar":["foo"]}}', ["{}", '{"foo":1}', '{"foo":1,"bar":2}', '["bar"]', '"foobar"', "12"], [('{"bar":2}', "", "/dependentRequired")]),
+    ('{"dependencies":{"bar":[]}}', ["{}", '{"bar":2}'], []),
+    ('{"dependencies":{"quux":["foo","bar"]}}', ["{}", '{"foo":1,"bar":2}', '{"foo":1,"bar":2,"quux":3}'], [('{"foo":1,"quux":2}', "", "/dependentRequired"), ('{"quux":1}', "", "/dependentRequired")]),
+    ('{"dependencies":{"bar":{"properties":{"foo":{"type":"integer"},"bar":{"type":"integer"}}},"a":["b"]}}', ['{"foo":1,"bar":2}', '{"foo":"quux"}', '{"a":1,"b":1}'],
+     [('{"foo":"quux","bar":2}', "/foo", "/dependentSchemas/bar/properties/foo/type"), ('{"a":1}', "", "/dependentRequired")]),
+    ('{"dependencies":{"foo":true,"bar":false}}', ['{"foo":1}', "{}"], [('{"bar":2}', "", "/dependentSchemas/bar"), ('{"foo":1,"bar":2}', "", "/dependentSchemas/bar")]),
+    # Core, 8.3 (draft 6: 8): `$ref` hides what is beside it, but not the schemas that references lead to.
+    ('{"definitions":{"reffed":{"type":"array"}},"properties":{"foo":{"$ref":"#/definitions/reffed","maxItems":2}}}', ['{"foo":[]}', '{"foo":[1,2,3]}'], [('{"foo":"string"}', "/foo", "/properties/foo/$ref/type")]),
+    ('{"$ref":"#/definitions/a","type":"string","definitions":{"a":{"$ref":"#/$defs/b","minimum":5}},"$defs":{"b":{"type":"integer"}}}', ["1"], [('"a"', "", "/$ref/$ref/type")]),
+    ('{"properties":{"$ref":{"type":"string"}}}', ['{"$ref":"a"}'], [('{"$ref":2}', "/$ref", "/properties/$ref/type")]),
+    ('{"properties":{"a":{"$ref":"#/definitions/n"}},"definitions":{"n":{"items":[{"type":"null"}]}}}', ['{"a":[null]}'], [('{"a":[1]}', "/a/0", "/properties/a/$ref/prefixItems/0/type")]),
+    ('{"properties":{"a":{"items":{"type":"null"}},"b":{"$ref":"#/properties/a/items"}}}', ['{"b":null}'], [('{"b":1}', "/b", "/properties/b/$ref/type")]),
+    # Core, 8.2: an `$id` is a name, or a URI with an empty fragment or none.
+    ('{"allOf":[{"$ref":"#foo"}],"definitions":{"A":{"$id":"#foo","type":"integer"}}}', ["1"], [('"a"', "", "/allOf/0/$ref/type")]),
+    ('{"$id":"http://localhost:1234/root","allOf":[{"$ref":"http://localhost:1234/nested.json#foo"}],"definitions":{"A":{"$id":"nested.json#","definitions":{"B":{"$id":"#foo","type":"integer"}}}}}',
+     ["1"], [('"a"', "", "/allOf/0/$ref/type")]),
+    ('{"properties":{"a":{"$id":"#/properties/a","type":"null"}}}', ['{"a":null}'], [('{"a":1}', "/a", "/properties/a/type")]),
+    ('{"properties":{"a":{"$ref":"#/definitions/b","$id":"c"}},"definitions":{"b":{"type":"null"}}}', ['{"a":null}'], [('{"a":1}', "/a", "/properties/a/$ref/type")]),
+    # What both drafts have as 2020-12 does.
+    ('{"contains":{"minimum":5}}', ["[3,4,5]", "{}"], [("[2,3,4]", "", "/contains"), ("[]", "", "/contains")]),
+    ('{"propertyNames":{"maxLength":3}}', ['{"f":{},"foo":{}}', "[1]"], [('{"foo":{},"foobar":{}}', "", "/propertyNames")]),
+    ('{"exclusiveMaximum":3.0}', ["2.2"], [("3.0", "", "/exclusiveMaximum")]),
+    ('{"const":2}', ["2.0"], [("5", "", "/const")]),
+]
+
+# What draft 7 alone has (Validation, 6.6).
+DRAFT_7 = [
+    ('{"if":{"exclusiveMaximum":0},"then":{"minimum":-10},"else":{"multipleOf":2}}', ["-1", "4"], [("-100", "", "/then/minimum"), ("3", "", "/else/multipleOf")]),
+]
+
+# What is rejected in both: keywords of later drafts that would say something, also beside what becomes one; and references that lead to
+# an array at `items`, or may.
+REFUSED_DRAFTS = [
+    ('{"unevaluatedProperties":false}', "/unevaluatedProperties"), ('{"prefixItems":[true]}', "/prefixItems"), ('{"dependentRequired":{"a":["b"]}}', "/dependentRequired"),
+    ('{"properties":{"a":{"$anchor":"b"}}}', "/properties/a/$anchor"), ('{"contains":true,"minContains":2}', "/minContains"), ('{"$dynamicAnchor":"a"}', "/$dynamicAnchor"),
+    ('{"items":[true],"prefixItems":[false]}', "/prefixItems"), ('{"dependencies":{},"dependentSchemas":{}}', "/dependentSchemas"), ('{"$id":"#a","$anchor":"b"}', "/$anchor"),
+    ('{"items":[true],"additionalItems":{},"not":{"$ref":"#/items"}}', "/not/$ref"), ('{"items":[true],"additionalItems":{"not":{}},"not":{"$ref":"#/%69tems/not"}}', "/not/$ref"),
+    ('{"$id":"http://a/b","items":[true],"additionalItems":{},"not":{"$ref":"http://a/b#/items"}}', "/not/$ref"), ('{"additionalItems":{},"not":{"$ref":"#/additionalItems"}}', "/not/$ref"),
+    ('{"items":[]}', "/prefixItems"), ('{"dependencies":{"a":5}}', "/dependentSchemas/a"), ('{"dependencies":{"a":["b","b"]}}', "/dependentRequired"), ('{"dependencies":[]}', "/dependentRequired"),
+    ('{"definitions":{"a":{"type":"any"}}}', "/definitions/a/type"), ('{"$ref":5,"type":"any"}', "/$ref"), ('{"items":{"$schema":"https://json-schema.org/draft/2020-12/schema"}}', "/items/$schema"),
+]
+
 # Schemas with names that are no keywords, and those that are told: each once, in the order of bytes.
 UNKNOWN = [
     ('{"maximun":3,"type":"integer"}', ["maximun"]),
@@ -730,7 +787,7 @@ BY_LINES = [
     ('{"type":"integer"}', b'[1,]\n"a"\n{\n3\n', [(2, "", "/type")], ["line 1, col 3: Invalid character: ]", "line 3, col 1: Unexpected EOF"], 1),
     ("true", b'1\n"\xff"\n[]\n\xc3', [], ["line 2: not UTF-8", "line 4: not UTF-8"], 1),
     ("true", b"[" * 101 + b"\n" + b"[" * 100 + b"]" * 100, [], ["line 1, col 100: Nesting is too deep at '['"], 1),
-    ('{"items":{"allOf":[{"$ref":"#"}]}}', b"[" * 68 + b"]" * 68 + b"\n" + b"[" * 67 + b"]" * 67, [], ["line 1: too many schemas are applied in one another"], 1),
+    ('{"items":{"allOf":[{"$ref":"#"}]}}', b"[" * 68 + b"]" * 68 + b"\n" + b"[" * 67 + b"]" * 67, [], ["line 1: schemas are nested too deep"], 1),
     # Nothing in a value ends a line.
     ('{"additionalProperties":false}', b'{"x\\nvalid":1}\n{"\\u001b":1}', [(1, "/x\nvalid", "/additionalProperties"), (2, "/\x1b", "/additionalProperties")], [], 1),
     ('{"items":{"properties":{"a":{"minimum":0}}}}', b'[{"a":0}]\n[{},{"a":-1}]', [(2, "/1/a", "/items/properties/a/minimum")], [], 1),
@@ -759,6 +816,12 @@ def unit_of(instance, keyword, **line):
     return normal(unit) + b"\n"
 
 
+def of_draft(number, schema):
+    """The schema with a `$schema` of the draft; how that is spelled depends on the schema."""
+    spelled = SPELLED[len(schema) % len(SPELLED)] % f"draft-0{number}"
+    return json.dumps({"$schema": spelled, **json.loads(schema)})
+
+
 def told(lines):
     """What `json_schema` tells on standard error."""
     return b"".join(f"json_schema: {line}\n".encode() for line in lines)
@@ -785,7 +848,7 @@ LARGE_PATTERNS = [
     ('{"patternProperties":{"a{10001}":true,"b(":true}}', "/patternProperties/a{10001}"),
 ]
 
-TOO_MANY = reported(3, "json_schema", "too many schemas are applied in one another")
+TOO_MANY = reported(3, "json_schema", "schemas are nested too deep")
 
 # Schemas that lead to themselves, where a part of the value is judged by what more than 200 in one another say.
 CUT_OFF = [
@@ -945,6 +1008,7 @@ REFUSED_MEMORY = [
     ([SCHEMA], b'{"id":1,"tags":["x",3]}'),
     (["-l", UNKNOWN_WORDS], b'{"id":1,"tags":["x",3]}\n[1,]\n{"id":1,"tags":[]}\n"\xff\n{}'),
     ([SCOPES_FILE], b'{"x":[1],"y":["a",2]}'),
+    ([DRAFT_FILE], b'{"x":[1,2],"y":3}'),
 ]
 
 
@@ -961,6 +1025,15 @@ def answers():
         for row in rows:
             schema, place = row
             yield row, schema, "1", reported(2, "json_schema", words % place)
+    for row in BOTH_DRAFTS + DRAFT_7:
+        schema, valid, others = row
+        for number in range(6 + (row in DRAFT_7), 8):
+            whole = of_draft(number, schema)
+            yield from ((row, whole, value, judged(None)) for value in valid)
+            yield from ((row, whole, value, judged(places)) for value, *places in others)
+    for row in REFUSED_DRAFTS:
+        schema, place = row
+        yield from ((row, of_draft(number, schema), "1", reported(2, "json_schema", NOT_APPLIED % place)) for number in (6, 7))
     for row in UNKNOWN:
         schema, words = row
         yield row, schema, "1", (0, b"", told(f'the schema: "{word}" is no keyword' for word in words))
@@ -984,6 +1057,27 @@ def check_rows(checks):
         checks.row(f"json_schema: {words} {given}", expected, run_of, program("json_schema"), words, given, at=row)
 
 
+def check_drafts(checks):
+    """The draft that is asked for is that of a schema which names none, or one that is not known."""
+    row = lambda words, schema, answer: checks.row(f"json_schema: {words} {schema[:60]}", answer, checked, checks.folder, schema, words, b"[1,2]")
+    listed, invalid = '{"items":[true],"additionalItems":false}', (1, unit_of("/1", "/items"), b"")
+    refused = lambda place: reported(2, "json_schema", NOT_APPLIED % place)
+    for words in (["-d", "7"], ["-d6"], ["--draft", "7"], ["--draft=6"], ["-d", "2020", "-d", "7"]):
+        row(words, listed, invalid)
+    for words in ([], ["-d", "2020"], ["--draft=2020"]):
+        row(words, listed, refused("/items"))
+    for spelled in ("https://json-schema.org/draft/2020-12/schema", "http://json-schema.org/draft/2020-12/schema#"):
+        row(["-d", "7"], '{"$schema":"%s",%s' % (spelled, listed[1:]), refused("/items"))
+    row(["-d", "6"], of_draft(7, '{"if":true,"then":{"type":"null"}}'), (1, unit_of("", "/then/type"), b""))
+    row([], of_draft(6, '{"if":true}'), refused("/if"))
+    other = '"http://example.com/\\u001b"'
+    line = b'json_schema: the schema: "http://example.com/U+001B" is an unknown $schema\n'
+    row([], '{"$schema":%s,"items":false}' % other, (1, unit_of("/0", "/items"), line))
+    row(["-d", "7"], '{"$schema":%s,%s' % (other, listed[1:]), (1, unit_of("/1", "/items"), line))
+    row(["-d", "5"], "true", reported(2, "json_schema", "no draft 5: the drafts are 6, 7 and 2020"))
+    row(["-d", "x"], "true", misused("json_schema", "no number of 1 to 9 digits after -d"))
+
+
 def check_lines(checks):
     for row in BY_LINES:
         schema, given, reports, lines, status = row
@@ -994,7 +1088,7 @@ def check_lines(checks):
 
 def check_files(checks):
     """Each file has its own lines, and what is told of a line or a text begins with the name of its file."""
-    schema, too_many = '{"items":{"allOf":[{"$ref":"#"}]},"minimum":0}', b"too many schemas are applied in one another"
+    schema, too_many = '{"items":{"allOf":[{"$ref":"#"}]},"minimum":0}', b"schemas are nested too deep"
     deep = b"[" * 68 + b"]" * 68
     for name, text in (("schema", schema.encode()), ("a", b"1\n-1\n"), ("b", b"[1,]\n-2\n\xff\n" + deep), ("deep", deep)):
         with open(os.path.join(checks.folder, name), "wb") as file:
@@ -1075,4 +1169,4 @@ def check_memory(checks):
 
 PAGE, LINES_PAGE = Page("json_schema", [SCHEMA], b"[1]"), Page("json_schema", ["-l", SCHEMA], b"[1]", is_lines=True)
 
-PARTS = (PAGE.check, LINES_PAGE.check_pipes, *shared(check_rows), check_lines, check_files, check_padded, check_padded_lines, check_deep, check_order, check_faults, *shared(check_memory))
+PARTS = (PAGE.check, LINES_PAGE.check_pipes, *shared(check_rows), check_drafts, check_lines, check_files, check_padded, check_padded_lines, check_deep, check_order, check_faults, *shared(check_memory))

@@ -1,7 +1,7 @@
 -- The program's arguments.
-use Rattle.std.specs.Prelude.{ℕ, Bool, List, Option, option_map}
-use Rattle.tinyjson_cli.specs.Arguments.{Given, first_operand, is_given}
+use Rattle.std.specs.Prelude.{ℕ, Bool, List, Option, None, option_map}
+use Rattle.tinyjson_cli.specs.Arguments.{Given, first_operand, is_given, last_number}
 
--- whether `-l` is there, the name of the schema's file, and the other files
-abbrev pub asks : Given → Option (Bool × (List ℕ × List (List ℕ)))
-asks a = option_map (λ o. (is_given 108 a, o)) (first_operand a.operands)
+-- whether `-l` is there, the number behind `-d`, the name of the schema's file, and the other files
+abbrev pub asks : Given → Option ((Bool × Option ℕ) × (List ℕ × List (List ℕ)))
+asks a = option_map (λ o. ((is_given 108 a, last_number 100 None a.numbers), o)) (first_operand a.operands)

@@ -13,7 +13,7 @@ abbrev pub program : List ℕ
 program = codes "json_schema"
 
 abbrev pub too_deep : List ℕ
-too_deep = codes "too many schemas are applied in one another"
+too_deep = codes "schemas are nested too deep"
 
 -- that the line with this number, of the file with this name or of standard input, needs too many nested schemas
 abbrev pub told_depth : Option (List ℕ) → ℕ → List ℕ
@@ -30,6 +30,10 @@ told_line file n TooDeep = told_depth file n
 -- that a name in the schema is no keyword
 abbrev pub told_word : List ℕ → List ℕ
 told_word k = codes "json_schema: the schema: \"" ++ (shown k ++ (codes "\" is no keyword" ++ line_feed ∷ []))
+
+-- that a `$schema` names no draft that is known
+abbrev pub told_dialect : List ℕ → List ℕ
+told_dialect k = codes "json_schema: the schema: \"" ++ (shown k ++ (codes "\" is an unknown $schema" ++ line_feed ∷ []))
 
 abbrev pub told_words : List (List ℕ) → List ℕ
 told_words [] = []

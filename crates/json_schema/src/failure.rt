@@ -17,6 +17,8 @@ pub enum SchemaFailure {
     Refused(String),
     /// A pattern is too deep or too large; the string is a pointer to it.
     PatternLimit(String),
+    /// There is no draft of this number.
+    NoDraft(usize),
 }
 
 /// The message that the program writes after its name.
@@ -36,6 +38,9 @@ impl fmt::Display for SchemaFailure {
                     f,
                     "the schema: the pattern at \"{place}\" is too deep or too large"
                 )
+            }
+            SchemaFailure::NoDraft(number) => {
+                write!(f, "no draft {number}: the drafts are 6, 7 and 2020")
             }
         }
     }
@@ -68,7 +73,7 @@ pub fn text_failure(alloc: Global, cause: Cause) -> Failure
     let words = match cause {
         Cause::NotJson(error) => return Failure::NotJson(error),
         Cause::NotUtf8 => "not UTF-8",
-        Cause::TooDeep => "too many schemas are applied in one another",
+        Cause::TooDeep => "schemas are nested too deep",
     };
     match String::from_str(alloc, words) {
         Ok(words) => Failure::Refused(words),

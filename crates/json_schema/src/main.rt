@@ -11,7 +11,7 @@ mod verdict;
 
 use failure::{SchemaFailure, schema_failure, schema_text_failure, text_failure};
 use lines::{Check, check_lines};
-use options::{LINES, Request, requested};
+use options::{DRAFT, LINES, Request, requested};
 use report::write_report;
 use std::alloc::Global;
 use std::io::{self, BufRead, Write};
@@ -23,25 +23,30 @@ use tinyjson_cli::{
 };
 use tinyjson_schema::{Schema, SchemaError, unknown_words};
 use tinyjson_schema_bundle::bundled;
-use unknown::tell_words;
+use tinyjson_schema_drafts::{Draft, read_as, unknown_dialect};
+use unknown::{tell_dialect, tell_words};
 use verdict::{DEPTH_LIMIT, Verdict, check_text};
 
 const PROGRAM: Program<'static> = Program {
     name: "json_schema",
-    options: &[LINES, HELP, VERSION],
+    options: &[LINES, DRAFT, HELP, VERSION],
     help: "\
-Usage: json_schema [-l] SCHEMA [FILE..]
+Usage: json_schema [-l] [-d DRAFT] SCHEMA [FILE..]
 
-Checks JSON texts against a JSON Schema (2020-12). SCHEMA is the name of the
-schema's file. Of a value that is not valid one line of JSON is printed: the
-place in the schema, and the place in the value that does not meet it.
+Checks JSON texts against a JSON Schema of draft 6, draft 7 or 2020-12. SCHEMA
+is the name of the schema's file. Of a value that is not valid one line of JSON
+is printed: the place in the schema, and the place in the value that does not
+meet it.
 
 The texts are those of the files, or standard input where none is named; '-' is
 standard input, too. Options may come anywhere; after '--' all are operands.
-A message names each key of the schema that is no keyword.
+A message names each key of the schema that is no keyword, and a $schema that
+is not known: the schema is read in the draft that $schema names, or else in
+that of --draft, which is 2020 for 2020-12 by default.
 
 Options:
   -l, --lines    check each line; reports and messages have its number
+  -d, --draft N  read a schema that names no draft in draft N: 6, 7 or 2020
   -h, --help     print this page
   -V, --version  print the version
 
@@ -79,13 +84,37 @@ fn run(rt: &HostRuntime) -> Result<Status, Status> {
 
 /// Reads the schema, and checks the inputs.
 fn check_inputs(rt: &HostRuntime, request: &Request<'_, '_>) -> Result<Status, Failure> {
+    let draft = asked_draft(rt.alloc(), request.draft)?;
     let tree = schema_tree(rt, request.schema)?;
+    tell_unknown(rt, &tree)?;
+    let tree = read_as(tree, draft, rt.alloc())?;
     let schema = bundled(&tree, rt.alloc());
     tree.dismantle();
     let schema = schema?;
     let checked = check_by(rt, &schema, request);
     schema.dismantle();
     checked
+}
+
+/// The draft of a schema that names none.
+fn asked_draft(alloc: Global, number: Option<usize>) -> Result<Draft, Failure> {
+    match number {
+        None | Some(2020) => Ok(Draft::Draft202012),
+        Some(7) => Ok(Draft::Draft7),
+        Some(6) => Ok(Draft::Draft6),
+        Some(number) => Err(schema_failure(alloc, &SchemaFailure::NoDraft(number))),
+    }
+}
+
+/// Tells of a `$schema` that is not known.
+fn tell_unknown(rt: &HostRuntime, tree: &JsonValue) -> Result<(), Failure> {
+    let Some(uri) = unknown_dialect(tree) else {
+        return Ok(());
+    };
+    match tell_dialect(rt.alloc(), &mut rt.stderr(), uri) {
+        Ok(()) => Ok(()),
+        Err(error) => Err(writing_error(error)),
+    }
 }
 
 /// Parses the schema's file.

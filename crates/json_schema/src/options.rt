@@ -12,26 +12,37 @@ pub const LINES: Known<'static> = Known {
     takes_number: false,
 };
 
+/// `-d` and `--draft`.
+pub const DRAFT: Known<'static> = Known {
+    letter: b'd',
+    name: "draft",
+    takes_number: true,
+};
+
 /// A check against the schema of a file.
 #[derive(Drop)]
 pub struct Request<'w, 'a> {
     /// Whether each line of an input is a text of its own.
     pub by_lines: bool,
+    /// The draft that a schema is read in which names none.
+    pub draft: Option<usize>,
     /// The name of the schema's file.
     pub schema: &'w str,
     /// The files that are checked.
     pub files: &'a [&'w str],
 }
 
-/// Parses the arguments: `[-l] SCHEMA [FILE..]`.
+/// Parses the arguments: `[-l] [-d DRAFT] SCHEMA [FILE..]`.
 pub fn requested<'w, 'a>(arguments: &'a Arguments<'w>) -> Option<Request<'w, 'a>>
-    ensures { option_map (λ r. (r.by_lines, (r.schema.now, map (λ f. f.now) r.files.now))) result
+    ensures { option_map (λ r. ((r.by_lines, r.draft), (r.schema.now, map (λ f. f.now) r.files.now))) result
         ≡ asks (given_of arguments.now) }
 {
     let by_lines = arguments.has(b'l');
+    let draft = arguments.number(b'd');
     let (schema, files) = arguments.first()?;
     Some(Request {
         by_lines,
+        draft,
         schema,
         files,
     })

@@ -63,12 +63,7 @@ fn depth_words(alloc: Global, file: Option<&str>, number: u64) -> Result<String,
         ≡ told_depth (option_map (λ f. f.now) file.entry) number) }
 {
     match file {
-        Some(name) => format!(in alloc;
-            "{}:{number}: too many schemas are applied in one another\n",
-            Shown(name)
-        ),
-        None => format!(in alloc;
-            "json_schema: line {number}: too many schemas are applied in one another\n"
-        ),
+        Some(name) => format!(in alloc; "{}:{number}: schemas are nested too deep\n", Shown(name)),
+        None => format!(in alloc; "json_schema: line {number}: schemas are nested too deep\n"),
     }
 }

@@ -3,7 +3,7 @@ ghost use Rattle.std.specs.Prelude.{map};
 ghost use Rattle.std.specs.Str.{chars};
 ghost use Rattle.tinyjson.specs.View.{text};
 ghost use Rattle.tinyjson.specs.Written.{WritesPrefix};
-ghost use Rattle.json_schema.specs.Told.{told_word, told_words};
+ghost use Rattle.json_schema.specs.Told.{told_dialect, told_word, told_words};
 
 use std::alloc::Global;
 use std::collections::BTreeSet;
@@ -24,6 +24,18 @@ pub fn tell_words<E: Write>(
         tell_word(alloc, errors, word.as_str())?;
     }
     Ok(())
+}
+
+/// Writes a line which says that the `$schema` is not known.
+pub fn tell_dialect<E: Write>(alloc: Global, errors: &mut E, uri: &str) -> io::Result<()>
+    ensures { WritesPrefix (E.contents errors.old) (E.contents errors.new)
+        (told_dialect (chars uri.now)) result }
+{
+    let line = format!(in alloc;
+        "json_schema: the schema: \"{}\" is an unknown $schema\n",
+        Shown(uri)
+    )?;
+    write_all(errors, line.as_bytes())
 }
 
 fn tell_word<E: Write>(alloc: Global, errors: &mut E, word: &str) -> io::Result<()>
