@@ -143,17 +143,17 @@ product_above product more size e l = omega arith
 
 -- ---- a token is taken, or is too much
 
-pub put_grown : (f g : CodeLevel) (l : Level) (ls : List Level) (a : Atom) (size : ℕ) → IsSized f (l, ls)
-    → (size ≡ f.size + 1) × (size ≤ size_limit) → atom_size a ≡ 1 → g.size ≡ size → g.last_size ≡ size - f.size
+pub put_grown : (f g : CodeLevel) (l : Level) (ls : List Level) (a : Atom) (more size : ℕ) → IsSized f (l, ls)
+    → (size ≡ f.size + more) × (size ≤ size_limit) → more ≡ atom_size a → g.size ≡ size → g.last_size ≡ size - f.size
     → IsSized g (with_atom l a, ls)
-put_grown f g l ls a size s w o e d =
+put_grown f g l ls a more size s w o e d =
     let sum = w.0 in
     let few = w.1 in
     put_sized f g l ls a s (omega arith) (omega arith) (omega arith)
 
-pub put_large : (f : CodeLevel) (l : Level) (ls : List Level) (a : Atom) → IsSized f (l, ls) → atom_size a ≡ 1 → size_limit < f.size + 1
-    → size_limit < state_size (with_atom l a, ls)
-put_large f l ls a s o m = let h = with_atom_size l a in let k = s.size in omega arith
+pub put_large : (f : CodeLevel) (l : Level) (ls : List Level) (a : Atom) (more : ℕ) → IsSized f (l, ls) → more ≡ atom_size a
+    → size_limit < f.size + more → size_limit < state_size (with_atom l a, ls)
+put_large f l ls a more s o m = let h = with_atom_size l a in let k = s.size in omega arith
 
 pub opened_grown : (f g : CodeLevel) (s : State) (size : ℕ) → IsSized f s → (size ≡ f.size + 1) × (size ≤ size_limit) → g.size ≡ size
     → IsSized g (fresh, s.0 ∷ s.1)

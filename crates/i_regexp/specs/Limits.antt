@@ -1,5 +1,7 @@
 -- The limits of nesting and size.
-use Rattle.std.specs.Prelude.{◌≡◌, ℕ, suc, ◌+◌, ◌-◌, ◌*◌, ◌<◌, Bool, true, ◌&&◌, ◌||◌, ◌==◌, List, [], ◌∷◌, ◌++◌, Option, Some, None}
+use Rattle.std.specs.Prelude.{◌≡◌, ℕ, suc, ◌+◌, ◌-◌, ◌*◌, ◌<◌, Bool, true, ◌&&◌, ◌||◌, ◌==◌, List, [], ◌∷◌, ◌++◌, length, ◌/◌}
+use Rattle.std.specs.Prelude.{Option, Some, None}
+use Rattle.i_regexp.specs.declared.class.Item.{Item}
 use Rattle.i_regexp.specs.Characters.{left_brace, comma}
 use Rattle.i_regexp.specs.Grammar.{Token, opened, closed, is_digit, are_digits, count, Regexp, last, branches, Branch, nothing, pieces}
 use Rattle.i_regexp.specs.Grammar.{Piece, once, times, Atom, character, group}
@@ -37,8 +39,12 @@ abbrev pub repeated : ℕ → Option ℕ → ℕ
 repeated least None = least
 repeated least (Some most) = most - 1
 
--- The size: each character, class, group and bar counts as 1, and a repeated part as often as it is
--- written out. That is n times for {m,n}, though at least once, and m + 1 times for {m,}.
+-- the size of a class: 1, and 1 more for each 16 of its items
+abbrev pub class_size : List Item → ℕ
+class_size items = suc (length items / 16)
+
+-- The size: each group and bar counts as 1, a class by its items, and a repeated part as often as it
+-- is written out. That is n times for {m,n}, though at least once, and m + 1 times for {m,}.
 abbrev mutual
   pub regexp_size : Regexp → ℕ
   regexp_size (last b) = branch_size b
@@ -53,7 +59,7 @@ abbrev mutual
   piece_size (times a least most) = atom_size a + repeated least most * atom_size a
 
   pub atom_size : Atom → ℕ
-  atom_size (character negated items) = 1
+  atom_size (character negated items) = class_size items
   atom_size (group r) = suc (regexp_size r)
 
 -- The text begins with a number that is greater than the limit.

@@ -2,6 +2,7 @@
 ghost use Rattle.std.specs.Prelude.{◌≡◌, IfOk, [], ◌∷◌, Bool, true, false};
 ghost use Rattle.i_regexp.specs.Characters.{line_feed, carriage_return};
 ghost use Rattle.i_regexp.specs.Forms.{is_item, is_within, is_in_class};
+ghost use Rattle.i_regexp.specs.Limits.{class_size};
 ghost use Rattle.i_regexp.specs.declared.class.Item.TheVariants.{Range};
 
 use general_category::Category;
@@ -73,6 +74,13 @@ impl Class {
             negated: self.negated,
             items: Vec::from_slice(alloc, self.items.as_slice())?,
         })
+    }
+
+    /// Its part of the size of a regular expression: 1, and 1 more for each 16 of its items.
+    pub(crate) fn size(&self) -> usize
+        ensures { result ≡ class_size self.now.items.items }
+    {
+        self.items.len() / 16 + 1
     }
 
     /// Whether the character is in the class.

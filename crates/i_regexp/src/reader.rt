@@ -163,7 +163,8 @@ pub(crate) fn take(
 {
     match token {
         Token::Characters(class) => {
-            let Some(size) = here.grown(1) else {
+            let more = class.size();
+            let Some(size) = here.grown(more) else {
                 return Err(IRegexpErrorKind::TooLarge);
             };
             here.put(one_of(class), size)?;

@@ -12,7 +12,7 @@ returns-in_default c = λ s a.
     let atom = character k.negated k.items.items in (
       (with_atom s.0 atom, s.1),
       ap (λ t. advance s (token_of t)) c.in-Characters.is,
-      put_large c.args.here.now s.0 s.1 atom a.1 refl c.in_default.ensures,
+      put_large c.args.here.now s.0 s.1 atom c.size-more.result a.1 c.size-more.ensures c.in_default.ensures,
     )
 
 pub returns-in_ok-put-in-Characters : goal.returns-in_ok-put-in-Characters
@@ -23,7 +23,7 @@ returns-in_ok-put-in-Characters c = λ s a.
       ap (λ t. advance s (token_of t)) c.in-Characters.is,
       (
         c.in_ok-put-in-Characters.ensures.read s.0 atom a.0 c.one_of.ensures,
-        put_grown c.args.here.now c.put.new.self s.0 s.1 atom c.in-Some.size a.1 c.in-Some.ensures refl
+        put_grown c.args.here.now c.put.new.self s.0 s.1 atom c.size-more.result c.in-Some.size a.1 c.in-Some.ensures c.size-more.ensures
             c.in_ok-put-in-Characters.ensures.size c.in_ok-put-in-Characters.ensures.last_size,
         a.2,
       ),
