@@ -1,5 +1,5 @@
 //! The form of a text.
-ghost use Rattle.std.specs.Prelude.{◌≡◌, ◌∷◌, ◌++◌, [], IfErr, IfOk, IfSome, Some, encode_utf8_all};
+ghost use Rattle.std.specs.Prelude.{◌≡◌, ◌≢◌, ◌∷◌, ◌++◌, [], IfErr, IfOk, IfSome, MatchOption, Some, encode_utf8_all};
 ghost use Rattle.std.specs.Str.{chars};
 ghost use Rattle.tinyjson.specs.Characters.{line_feed};
 ghost use Rattle.tinyjson.specs.Text.{text};
@@ -34,6 +34,20 @@ pub fn formatted(alloc: Global, text: &str, indent: &str) -> Result<Vec<u8>, Fai
         Some(form) => Ok(form),
         None => Err(Failure::OutOfMemory),
     }
+}
+
+/// What a file with this text is to have instead: its form, or nothing if it is in form.
+pub fn change(alloc: Global, text: &str, indent: &str) -> Result<Option<Vec<u8>>, Failure>
+    ensures ok { IfOk result (λ change. MatchOption change
+        (IsForm (chars indent.now) (chars text.now) text.now)
+        (λ v. IsForm (chars indent.now) (chars text.now) v.items × (v.items ≢ text.now))) }
+    ensures err { IfErr result (IsNoForm (chars text.now)) }
+{
+    let form = formatted(alloc, text, indent)?;
+    if form.as_slice() == text.as_bytes() {
+        return Ok(None);
+    }
+    Ok(Some(form))
 }
 
 /// The text of a value, unless memory runs out.

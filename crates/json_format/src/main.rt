@@ -5,7 +5,7 @@ mod form;
 mod options;
 mod replace;
 
-use form::formatted;
+use form::change;
 use options::{CHECK, INDENT, TABS, indent};
 use replace::replace;
 use std::io::{self, Write};
@@ -29,7 +29,7 @@ Without a file, and for '-', standard input is formatted to standard output.
 Options may come anywhere; after '--' all are operands.
 
 Options:
-  -c, --check     write no form; print the names of files that are not in form
+  -c, --check     change no file; print the names of those not in form
   -i, --indent N  indent by N spaces, where it is not two
   -t, --tabs      indent by tabs
   -h, --help      print this page
@@ -111,37 +111,38 @@ fn is_last(failure: &Failure) -> bool {
 /// Formats a file in place, or standard input to standard output; or only checks it.
 fn format_input(rt: &HostRuntime, file: Option<&str>, asked: Asked<'_>) -> Result<Status, Failure> {
     let text = read_text(rt, file)?;
-    let form = formatted(rt.alloc(), text.as_str(), asked.indent)?;
-    let is_in_form = form.as_slice() == text.as_bytes();
-    if asked.is_check {
-        return checked(rt, file.unwrap_or("-"), is_in_form);
+    let change = change(rt.alloc(), text.as_str(), asked.indent)?;
+    match (change, file) {
+        (None, None) if !asked.is_check => print_form(rt, text.as_bytes()),
+        (None, _) => Ok(Status::Done),
+        (Some(_), _) if asked.is_check => print_name(rt, file.unwrap_or("-")),
+        (Some(form), None) => print_form(rt, form.as_slice()),
+        (Some(form), Some(name)) => replace_named(rt, name, form.as_slice()),
     }
-    let Some(name) = file else {
-        let mut output = io::writer(rt);
-        return match output.write_all(form.as_slice()) {
-            Ok(()) => Ok(Status::Done),
-            Err(error) => Err(writing_error(error)),
-        };
-    };
-    if is_in_form {
-        return Ok(Status::Done);
+}
+
+fn print_form(rt: &HostRuntime, form: &[u8]) -> Result<Status, Failure> {
+    match io::writer(rt).write_all(form) {
+        Ok(()) => Ok(Status::Done),
+        Err(error) => Err(writing_error(error)),
     }
-    match replace(rt, name, form.as_slice()) {
+}
+
+/// Prints the name of an input that is not in form.
+fn print_name(rt: &HostRuntime, name: &str) -> Result<Status, Failure> {
+    match println!(rt; "{}", Shown(name)) {
+        Ok(()) => Ok(Status::No),
+        Err(error) => Err(writing_error(error)),
+    }
+}
+
+/// Replaces a file. The failure names it.
+fn replace_named(rt: &HostRuntime, name: &str, form: &[u8]) -> Result<Status, Failure> {
+    match replace(rt, name, form) {
         Ok(()) => Ok(Status::Done),
         Err(error) => Err(Failure::Failed(format!(in rt.alloc();
             "{}: not written: {error}",
             Shown(name)
         )?)),
-    }
-}
-
-/// Prints the name of an input that is not in form.
-fn checked(rt: &HostRuntime, name: &str, is_in_form: bool) -> Result<Status, Failure> {
-    if is_in_form {
-        return Ok(Status::Done);
-    }
-    match println!(rt; "{}", Shown(name)) {
-        Ok(()) => Ok(Status::No),
-        Err(error) => Err(writing_error(error)),
     }
 }
