@@ -149,7 +149,8 @@ module _ (ss : List Segment) (root : Tree) where
     child_selects : s ≡ segment.Child sels → segment_parts s root p ≡ chosen
     child_selects e = ap (λ x. segment_parts x root p) e ∙ search (rules, the_lemmas)
 
-    descendant_selects : s ≡ segment.Descendant sels → (q : Part) → segment_parts s root q ≡ from_each (selected_by sels.items root) (visited_of q)
+    descendant_selects : s ≡ segment.Descendant sels → (q : Part)
+        → segment_parts s root q ≡ from_each (selected_by sels.items root) (visited_of q)
     descendant_selects e q = ap (λ x. segment_parts x root q) e ∙ search (rules, the_lemmas)
 
     from_here : segments_from i ≡ segment_parts s ∷ segments_from (i + 1)
@@ -223,7 +224,8 @@ module _ (ss : List Segment) (root : Tree) where
         let fs : List Selects = segments_from (i + 1) in
         let was : pops_of ws ≡ pops_of mid + pops_of ((i, p) ∷ []) = ap pops_of popped ∙ pops_of_append mid ((i, p) ∷ []) in
         let is : pops_of new ≡ pops_of low + pops root fs chosen
-        = ap pops_of pushed ∙ (pops_of_append low (reverse (waits_at (i + 1) chosen)) ∙ ap (λ n. pops_of low + n) (pops_of_at (i + 1) chosen)) in
+        = ap pops_of pushed
+        ∙ (pops_of_append low (reverse (waits_at (i + 1) chosen)) ∙ ap (λ n. pops_of low + n) (pops_of_at (i + 1) chosen)) in
         let under : pops_of low ≡ pops_of mid + pops root (segments_from i) below
         = ap pops_of lower ∙ (pops_of_append mid (reverse (waits_at i below)) ∙ ap (λ n. pops_of mid + n) (pops_of_at i below)) in
         let each : pops root (segments_from i) below ≡ length (from_each visited_of below) + pops root fs deeper

@@ -118,6 +118,8 @@ impl Pattern {
 pub(crate) struct Patterns {
     alloc: Global,
     kept: Vec<Pattern>,
+    /// The last pattern that came from a value.
+    last: Option<Pattern>,
 }
 
 impl Patterns {
@@ -125,6 +127,7 @@ impl Patterns {
         Patterns {
             alloc,
             kept: Vec::new(alloc),
+            last: None,
         }
     }
 
@@ -186,8 +189,7 @@ impl Patterns {
         ensures err { IfErr result (IsFrom (chars pattern.now ∷ [])) }
     {
         if !is_kept {
-            let mut read = Pattern::read(self.alloc, pattern)?;
-            return Ok(read.holds(function, value));
+            return self.of_value(function, value, pattern);
         }
         let place = self.place(pattern);
         if let Some(kept) = self.kept.get_mut(place) {
@@ -198,6 +200,28 @@ impl Patterns {
         let mut read = Pattern::read(self.alloc, pattern)?;
         let holds = read.holds(function, value);
         self.kept.insert(place, read)?;
+        Ok(holds)
+    }
+
+    /// A pattern from a value is kept for the next node with the same one.
+    fn of_value(
+        &mut self,
+        function: PatternFunction,
+        value: &str,
+        pattern: &str,
+    ) -> Result<bool, FindError>
+        ensures ok { IfOk result (λ b. b
+            ≡ judged function (chars pattern.now) (chars value.now)) }
+        ensures err { IfErr result (IsFrom (chars pattern.now ∷ [])) }
+    {
+        if let Some(last) = &mut self.last {
+            if last.pattern.as_str() == pattern {
+                return Ok(last.holds(function, value));
+            }
+        }
+        let mut read = Pattern::read(self.alloc, pattern)?;
+        let holds = read.holds(function, value);
+        self.last = Some(read);
         Ok(holds)
     }
 

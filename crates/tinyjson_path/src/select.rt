@@ -25,8 +25,9 @@ use tinyjson_path_query::{Comparable, Expression, FunctionExpression, Query, Seg
 /// twice is returned twice. The members of an object come in the order of their keys' bytes, since the RFC leaves
 /// their order open. The errors are out of memory, and a regular expression that is too deep or too large.
 ///
-/// A regular expression that is a literal of the query is parsed once, when it is first needed; one from the value,
-/// each time. The stack grows with the nesting of the query, not with the depth of the value.
+/// A regular expression that is a literal of the query is parsed once, when it is first needed; one from the value is
+/// kept for the next node with the same one. The stack grows with the nesting of the query, not with the depth of the
+/// value.
 ///
 /// ```
 /// let value = JsonValue::from_str(alloc, r#"{"a": [{"b": 1}, {"b": 2.50}]}"#)?;

@@ -8,8 +8,8 @@ use Rattle.tinyjson_path.proofs.Items.{drop_past}
 use Rattle.tinyjson_path.proofs.Selected.{AreWithin, are_children, are_in}
 use Rattle.tinyjson_path.proofs.Stated.{child_strings, descendant_strings, filter_strings_are, or_strings, and_strings}
 use Rattle.tinyjson_path.proofs.Stated.{comparison_strings, test_strings, pattern_strings, length_strings, count_strings, value_strings}
-use Rattle.tinyjson_path.proofs.Waits.{waits_popped, less_child, less_descendant, less_whole, left_child, left_descendant, goes_on, takes_one}
-use Rattle.tinyjson_path.proofs.Waits.{are_popped, are_pushed, chosen_within}
+use Rattle.tinyjson_path.proofs.Waits.{waits_popped, less_child, less_descendant, less_whole, left_child, left_descendant}
+use Rattle.tinyjson_path.proofs.Waits.{goes_on, takes_one, are_popped, are_pushed, chosen_within}
 use Rattle.tinyjson_path.proofs.Within.{Within, within_self, of_query}
 use Rattle.tinyjson_path.specs.Nodes.{path_of, part_view, parts_view, children}
 use Rattle.tinyjson_path.specs.Queries.{selected_by, found_by, comparable_value}
@@ -18,7 +18,8 @@ use Rattle.tinyjson_path.specs.Strings.{strings_in, segment_strings, selector_st
 use Rattle.tinyjson_path.specs.Strings.{segments_strings, selectors_strings}
 use Rattle.tinyjson_path.specs.Waiting.{waits_view, waits_at}
 use Rattle.tinyjson_path.proofs.select.Finder.+selecting.Goals as goal
-use Rattle.tinyjson_path.proofs.select.Finder.+selecting.Goals.{find_from-in-Child+in_ok-push_selected-in-Child, find_from-in-Descendant+in_ok-children-in-Descendant+in_ok-push_reversed-in-Descendant+in_ok-push_selected-in-Descendant}
+use Rattle.tinyjson_path.proofs.select.Finder.+selecting.Goals.{find_from-in-Child+in_ok-push_selected-in-Child}
+use Rattle.tinyjson_path.proofs.select.Finder.+selecting.Goals.{find_from-in-Descendant+in_ok-children-in-Descendant+in_ok-push_reversed-in-Descendant+in_ok-push_selected-in-Descendant}
 
 pub select_each-returns-in_err-select-clause-err : goal.select_each-returns-in_err-select-clause-err
 select_each-returns-in_err-select-clause-err t c =
