@@ -11,7 +11,7 @@ ghost use Rattle.tinyjson_schema.specs.Circles.{reference_passes, settles_in, le
 use std::alloc::{AllocError, Global};
 use tinyjson::JsonValue;
 use tinyjson_schema_keywords::{
-    Document, Keyword, KeptPatterns, Walk, referenced, schema_at, schema_map_at, schemas_at, target,
+    Document, KeptPatterns, Keyword, Walk, referenced, schema_at, schema_map_at, schemas_at, target,
 };
 
 /// The keywords that apply a list of schemas to the value itself.

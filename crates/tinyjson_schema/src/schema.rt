@@ -10,7 +10,9 @@ use crate::violation::Violation;
 use std::alloc::{AllocError, Global};
 use tinyjson::JsonValue;
 use tinyjson_pointer::Pointer;
-use tinyjson_schema_keywords::{CheckError, Document, KeptPatterns, Walk, Whole, anchors_of, repeated};
+use tinyjson_schema_keywords::{
+    CheckError, Document, KeptPatterns, Walk, Whole, anchors_of, repeated,
+};
 
 /// A schema that can be applied. Each keyword in it is applied or is an annotation, and its value has the
 /// standard's form. Each reference leads to a schema in it, and not in a circle.
