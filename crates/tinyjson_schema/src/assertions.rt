@@ -237,7 +237,8 @@ fn has_pattern(
 {
     match (pattern, value) {
         (JsonValue::String(pattern), JsonValue::String(text)) => {
-            walk.patterns
+            walk.whole
+                .patterns
                 .is_found(pattern.as_str(), text.as_str(), walk.alloc)
         }
         _ => Ok(true),

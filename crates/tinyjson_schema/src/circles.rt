@@ -11,7 +11,7 @@ ghost use Rattle.tinyjson_schema.specs.Circles.{reference_passes, settles_in, le
 use std::alloc::{AllocError, Global};
 use tinyjson::JsonValue;
 use tinyjson_schema_keywords::{
-    Document, KeptPatterns, Keyword, Walk, referenced, schema_at, schema_map_at, schemas_at, target,
+    Document, Keyword, Walk, referenced, schema_at, schema_map_at, schemas_at, target,
 };
 
 /// The keywords that apply a list of schemas to the value itself.
@@ -32,11 +32,9 @@ pub fn leads(
     ensures { IfOk result
         (λ is. is ≡ leads (view document.entry.whole.now.root.now) (view reference.now)) }
 {
-    let patterns = KeptPatterns::new(alloc);
     let walk = Walk {
         whole: document.whole,
         steps: REFERENCE_STEPS,
-        patterns: &patterns,
         alloc,
     };
     let Some(schema) = target(reference, walk)? else {

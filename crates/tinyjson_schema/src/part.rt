@@ -105,7 +105,10 @@ fn some_found(
         (λ some. some ≡ some_found (members_listed patterns.now) (chars key.now)) }
 {
     for &(pattern, _) in patterns {
-        let is_found = walk.patterns.is_found(pattern.as_str(), key, walk.alloc)?;
+        let is_found = walk
+            .whole
+            .patterns
+            .is_found(pattern.as_str(), key, walk.alloc)?;
         if is_found {
             return Ok(true);
         }

@@ -19,7 +19,6 @@ use tinyjson_schema_keywords::{
 #[derive(Drop)]
 pub struct Schema<'s> {
     whole: Whole<'s>,
-    patterns: KeptPatterns,
     ghost checked: { is_schema (view whole.root.now) true (view whole.root.now) ≡ true },
 }
 
@@ -64,14 +63,14 @@ impl<'s> Schema<'s> {
         let whole = Whole {
             root: tree,
             anchors,
+            patterns: KeptPatterns::new(alloc),
         };
         let document = Document {
             whole: &whole,
             again,
         };
-        let patterns = KeptPatterns::new(alloc);
         match refused_place(document, alloc)? {
-            None => Ok(Schema { whole, patterns }),
+            None => Ok(Schema { whole }),
             Some(place) => match place.reason {
                 Reason::Misfit => Err(SchemaError::Refused(place.pointer)),
                 Reason::PatternLimit => Err(SchemaError::PatternLimit(place.pointer)),
@@ -100,7 +99,6 @@ impl<'s> Schema<'s> {
         let walk = Walk {
             whole: &self.whole,
             steps,
-            patterns: &self.patterns,
             alloc,
         };
         find_violation(value, walk)

@@ -229,7 +229,10 @@ fn in_found(
     let listed = listed_members(value, walk.alloc)?;
     let members = listed.as_slice();
     for &(key, member) in members {
-        let is_found = walk.patterns.is_found(pattern, key.as_str(), walk.alloc)?;
+        let is_found = walk
+            .whole
+            .patterns
+            .is_found(pattern, key.as_str(), walk.alloc)?;
         if is_found {
             if let Some(mut found) = violation_in(member, schema, walk)? {
                 found.enter_value(walk.alloc, key.as_str())?;

@@ -1,17 +1,19 @@
-//! A whole schema with its anchors.
+//! A whole schema with its anchors and the patterns parsed so far.
 ghost use Rattle.std.specs.Prelude.{◌≡◌, option_map, true};
 ghost use Rattle.std.specs.String.{string_bytes};
 ghost use Rattle.tinyjson.specs.View.{view};
 ghost use Rattle.tinyjson_schema_keywords.specs.Anchors.{anchors_in, repeated, has_anchors};
 
 use crate::anchor::Anchor;
+use crate::pattern::KeptPatterns;
 use tinyjson::JsonValue;
 
-/// A whole schema, and its anchors.
+/// A whole schema, its anchors, and the patterns parsed so far.
 #[derive(Drop)]
 pub struct Whole<'s> {
     pub root: &'s JsonValue,
     pub anchors: Vec<Anchor<'s>>,
+    pub patterns: KeptPatterns,
     pub ghost gathered: { has_anchors (view root.now) anchors.items ≡ true },
 }
 

@@ -3,7 +3,6 @@ ghost use Rattle.std.specs.Prelude.{◌≡◌, MatchResult};
 ghost use Rattle.tinyjson_schema_keywords.specs.Walks.{IsDeeper};
 
 use crate::document::Whole;
-use crate::pattern::KeptPatterns;
 use std::alloc::{AllocError, AllocFailed, Global};
 
 /// Why a check has no result.
@@ -27,13 +26,12 @@ impl<T: Drop> From<AllocFailed<T>> for CheckError {
     }
 }
 
-/// The whole schema, in which references lead; how many more nested schemas may be applied; the patterns parsed so far;
-/// and the allocator.
+/// The whole schema, in which references lead; how many more nested schemas may be applied; and the allocator. It is
+/// two words, so that it takes no stack where the recursion over schemas passes it down.
 #[derive(Clone, Copy)]
 pub struct Walk<'d, 's> {
     pub whole: &'d Whole<'s>,
     pub steps: usize,
-    pub patterns: &'d KeptPatterns,
     pub alloc: Global,
 }
 
@@ -47,7 +45,6 @@ impl<'d, 's> Walk<'d, 's> {
             Some(steps) => Ok(Walk {
                 whole: self.whole,
                 steps,
-                patterns: self.patterns,
                 alloc: self.alloc,
             }),
             None => Err(CheckError::TooDeep),
