@@ -66,6 +66,54 @@ ROWS = [
     ([""], b"\x1b", said(3, "Parse error at line:1, col:0: Invalid character: U+001B")),
 ]
 
+# The same with options.
+PLAIN = b'{"b":[],"a":{"c":[1,{}],"d":"x"}}'
+INDENTED = json.dumps(json.loads(PLAIN), indent=2, sort_keys=True).encode()
+OPTIONS = [
+    (["-n", "/x"], TEXT, printed(b"null")),
+    (["--null", "/foo/2"], TEXT, printed(b"null")),
+    (["-n", "/foo/0"], TEXT, printed(b'"bar"')),
+    (["-n", "x"], TEXT, said(2, "the pointer begins with no '/'")),
+    (["-n", "/x"], b"[1,]", said(3, "Parse error at line:1, col:3: Invalid character: ]")),
+    (["-r", "/foo/0"], TEXT, printed(b"bar")),
+    (["--raw", "/foo"], TEXT, printed(b'["bar","baz"]')),
+    (["-r", ""], rb'"a\"\\\/\u00e9\ud834\udd1e\n\t"', printed('a"\\/\u00e9\U0001d11e\n\t'.encode())),
+    (["-r", ""], b'""', printed(b"")),
+    (["-r", ""], b'"' + b"x" * 100_000 + b'"', printed(b"x" * 100_000)),
+    (["-rn", "/x"], TEXT, printed(b"null")),
+    (["-r", "/x"], TEXT, said(1, "the pointer names no part")),
+    (["-i", "/foo"], TEXT, printed(b"[", b'  "bar",', b'  "baz"', b"]")),
+    (["--indent", ""], PLAIN, printed(INDENTED)),
+    (["-ir", "/foo/1"], TEXT, printed(b"baz")),
+    (["-ir", ""], PLAIN, printed(INDENTED)),
+    (["/foo/0", "-r"], TEXT, printed(b"bar")),
+]
+
+
+def told(output, *lines):
+    """The answer of `json_part -l` that prints this, and reports these lines."""
+    return 1, output, b"".join(b"json_part: line %s\n" % line for line in lines)
+
+
+# Lines, each a text: the arguments, the input, and the answer.
+NO_PART_AT = b"%d: the pointer names no part"
+MANY = 70_000
+LINES = [
+    (["-l", "/a"], b"", printed()),
+    (["-l", "/a"], b'{"a":1.0}\n{"a":"x"}', printed(b"1", b'"x"')),
+    (["--lines", "/a"], b'{"a":1.0}\r\n{"a":[]}\n', printed(b"1", b"[]")),
+    (["-l", "/a"], b'{"a":1}\n{}\n{"a":2}', told(b"1\n2\n", NO_PART_AT % 2)),
+    (["-ln", "/a"], b'{"a":1}\n{}\n{"a":2}', printed(b"1", b"null", b"2")),
+    (["-ln", "/a"], b"{}\n[1,]\n[]\n", told(b"null\nnull\n", b"2, col 3: Invalid character: ]")),
+    (["-l", "/a"], b'[1,]\n\n"\xff"\n{"a":3}\n[\n', told(b"3\n", b"1, col 3: Invalid character: ]",
+        b"2, col 0: Unexpected EOF", b"3: not UTF-8", b"5, col 1: Unexpected EOF")),
+    (["-lr", "/a"], b'{"a":"x\\ny"}\n{"a":"z"}\n', printed(b"x\ny", b"z")),
+    (["-li", "/a"], b'{"a":[1]}\n{"a":2}\n', printed(b"[", b"  1", b"]", b"2")),
+    (["-l", "x"], b"{}\n", said(2, "the pointer begins with no '/'")),
+    (["-l", "/0"], b"[1.0]\n[]\n" * (MANY // 2), told(b"1\n" * (MANY // 2), *(NO_PART_AT % n for n in range(2, MANY + 1, 2)))),
+    (["-l", ""], NESTED + b"\n" + LONG, printed(NESTED, LONG)),
+]
+
 # How many rows are not padded, and why.
 UNPADDED = {"a large text": 4, "no pointer, but one with tokens before it": 4}
 
@@ -80,14 +128,33 @@ DEEP_FAILURES = [
 ]
 DEEP_MEMORY = [(["/a"], b'{"a":[1.5,"x",%s],"b":%s}' % (DEEP, DEEP))]
 
+# Deep lines among others.
+DEEP_LINES = [
+    (["-l", "/1"], NESTED + b"\n[0,7]\n" + NESTED + b"x\n", told(b"7\n", NO_PART_AT % 1, b"3, col 200001: Expected EOF but got character 'x'")),
+    (["-ln", "/b"], b'{"a":%s}\n{"b":%s}\n' % (NESTED, NESTED), printed(b"null", NESTED)),
+]
+DEEP_LINES_MEMORY = [(["-l", "/a"], b'{"a":[1.5,"x",%s],"b":%s}\n{"b":%s}\n' % (DEEP, DEEP, DEEP))]
+
 # The arguments, an input, and the statuses and words where the input is not UTF-8, can't be read, and where the output can't be written.
 STREAMS = [([""], b"1", (3, NO_TEXT), (4, FOLDER), (4, FULL))]
 
 # The arguments, an input, what is printed of it, and the statuses and words where a read and where a write fails.
 FAILING = [([""], b"[" + LONG + b", 1.0]", b"[" + LONG + b",1]\n", (4, BROKEN), (4, BROKEN))]
 
+# The same where each line is a text.
+MANY_LINES, MANY_PARTS = b'{"a":[1.0]}\n' * 5_000, b"[1]\n" * 5_000
+STREAMS_OF_LINES = [(["-l", "/a"], MANY_LINES, (1, "line 1: not UTF-8"), (4, FOLDER), (4, FULL))]
+FAILING_LINES = [(["-l", "/a"], MANY_LINES, MANY_PARTS, (4, BROKEN), (4, BROKEN))]
+INTERRUPTED_LINES = [(["-l", "/a"], MANY_LINES * 3, MANY_PARTS * 3)]
+
 # Where each request for memory is refused.
-REFUSED_MEMORY = [(["/a~1b/0"], b'{"a/b":[[1.5,"x"]]}')]
+REFUSED_MEMORY = [
+    (["/a~1b/0"], b'{"a/b":[[1.5,"x"]]}'),
+    (["-rn", "/a"], b'{"b":"x"}'),
+    (["-i", "/b"], b'{"b":[{"x":1}]}'),
+    (["-l", "/a/0"], b'{"a":[[1.5,"x"]]}\n{}\n[1,]\n{"a":[2]}\n'),
+    (["-lnri", "/a/0"], b'{"a":["x"]}\n{}\n\xff\n{"a":[[2]]}\n'),
+]
 
 
 def check_rows(checks):
@@ -98,10 +165,36 @@ def check_rows(checks):
         pointers, expected = row
         for pointer in pointers:
             checks.row(f"json_part: {pointer}", expected, run_of, program("json_part"), [pointer], TEXT, at=row)
-    for row in ROWS:
+    for row in (*ROWS, *OPTIONS, *LINES):
         words, given, expected = row
         name = f"json_part: {[word[:60] for word in words]} {given[:60]}"
         checks.row(name, expected, run_of, program("json_part"), words, given, at=row)
+
+
+def in_files(checks):
+    """The answer for files of lines: one with lines that are refused, one that is not there, and a good one."""
+    words = ["-l", "/a", "bad", "none", "good"]
+    for name, text in (("bad", b'{"a":1}\n{}\n[,]\n\xff\n'), ("good", b'{"a":2}\n')):
+        with open(f"{checks.folder}/{name}", "wb") as file:
+            file.write(text)
+    return run_of(program("json_part"), words, cwd=checks.folder)
+
+
+def check_lines(checks):
+    """Each pointer of the RFC, in lines of which the second has no part, as they are and padded."""
+    for row in POINTERS[1:]:
+        pointer, part = row
+        line, answer = json.dumps(DOCUMENT).encode(), normal(part)
+        wide, text, (_, output, _) = padded_part(pointer, line, printed(answer))
+        for pointer, line, answer in ((pointer, line, answer), (wide, text, output[:-1])):
+            given = line + b"\n{}\n" + line + b"\n"
+            name = f"json_part -l: {pointer[-60:]} {len(given)}"
+            checks.row(name, told(answer + b"\n" + answer + b"\n", NO_PART_AT % 2), run_of, program("json_part"), ["-l", pointer], given, at=row)
+            name = f"json_part -ln: {pointer[-60:]} {len(given)}"
+            checks.row(name, printed(answer, b"null", answer), run_of, program("json_part"), ["-ln", pointer], given, at=row)
+    words = b"bad:2: the pointer names no part\nbad:3:1: Invalid character: ,\nbad:4: not UTF-8\n"
+    answer = (4, b"1\n2\n", words + b"none: No such file or directory (os error 2)\n")
+    checks.row("json_part -l: files", answer, in_files, checks)
 
 
 def check_groups(checks):
@@ -122,23 +215,32 @@ def check_padded(checks):
 
 
 def check_deep(checks):
-    FAULTS.deep(checks, DEEP_FAILURES)
-    FAULTS.refusing_deep(checks, DEEP_MEMORY)
+    FAULTS.deep(checks, DEEP_FAILURES + DEEP_LINES)
+    FAULTS.refusing_deep(checks, DEEP_MEMORY + DEEP_LINES_MEMORY)
 
 
 def check_faults(checks):
     FAULTS.streams(checks, STREAMS)
     FAULTS.failing(checks, FAILING)
+    FAULTS.streams(checks, STREAMS_OF_LINES)
+    FAULTS.failing(checks, FAILING_LINES)
+    FAULTS.interrupted(checks, INTERRUPTED_LINES)
     FAULTS.refusing(checks, REFUSED_MEMORY)
 
 
 PAGE = Page("json_part", [""])
 
 
+def check_pipes(checks):
+    Page("json_part", ["-l", ""], is_lines=True).check_pipes(checks)
+
+
 PARTS = (
     PAGE.check,
     check_groups,
     check_rows,
+    check_lines,
+    check_pipes,
     check_padded,
     check_deep,
     check_faults,

@@ -1,79 +1,65 @@
--- What is written, given a pointer and a text.
-use Rattle.std.specs.Prelude.{◌≡◌, ℕ, List, Option, Some, None, Result, Ok, Err, ◌⊎◌, codes}
-use Rattle.std.specs.Io.KnownBytes.{Appends}
-use Rattle.tinyjson.specs.Error.{error_kind, error_message}
+-- What is printed, given a pointer, a form and a text.
+use Rattle.std.specs.Prelude.{◌≡◌, ℕ, Bool, true, false, List, [], ◌∷◌, ◌++◌, Option, Some, None, Result, Ok, Err, ◌⊎◌, codes, encode_utf8_all, string_bytes}
+use Rattle.tinyjson.specs.Characters.{line_feed}
+use Rattle.tinyjson.specs.Error.{error_kind}
 use Rattle.tinyjson.specs.Grammar.{IsText, IsAccepted}
 use Rattle.tinyjson.specs.JsonParseErrorKind.TheVariants as kind
 use Rattle.tinyjson.specs.Parser.{ParsesText}
-use Rattle.tinyjson.specs.Tree.{Tree}
-use Rattle.tinyjson.specs.Written.{WrittenPart}
-use Rattle.tinyjson_pointer.specs.Reading.{IsNoPointer, Reads, pointer_error_message}
-use Rattle.tinyjson_pointer.specs.Text.{pointer_text}
-use Rattle.tinyjson_pointer.specs.Walk.{part_at}
-use Rattle.tinyjson_pointer.specs.declared.pointer.PointerError.TheVariants as refusal
+use Rattle.tinyjson.specs.Tree.{Tree, null, string}
 use Rattle.tinyjson_cli.specs.Failures.{failure_message, failure_status}
+use Rattle.tinyjson_cli.specs.Layout.{laid_out}
 use Rattle.tinyjson_cli.specs.declared.failure.Failure.{Failure}
 use Rattle.tinyjson_cli.specs.declared.failure.Failure.TheVariants as failure
-use Rattle.tinyjson_cli.specs.declared.status.Status.{Status}
 use Rattle.tinyjson_cli.specs.declared.status.Status.TheVariants as status
-use Rattle.tinyjson_lines.specs.Line.{line_of}
-use Rattle.json_part.specs.declared.part.PartError.{PartError}
-use Rattle.json_part.specs.declared.part.PartError.TheVariants.{BadPointer, Refused, NoPart, OutOfMemory, Writing}
+use Rattle.tinyjson_cli.specs.declared.texts.NoAnswer.{NoAnswer}
+use Rattle.tinyjson_cli.specs.declared.texts.NoAnswer.TheVariants.{Refused, No, TooLong}
+use Rattle.tinyjson_lines.specs.declared.refusal.Cause.TheVariants.{NotJson}
+use Rattle.tinyjson_pointer.specs.Reading.{Reads, pointer_error_message}
+use Rattle.tinyjson_pointer.specs.Walk.{part_at}
+use Rattle.tinyjson_pointer.specs.declared.pointer.Pointer.{Pointer}
+use Rattle.tinyjson_pointer.specs.declared.pointer.PointerError.{PointerError}
+use Rattle.tinyjson_pointer.specs.declared.pointer.PointerError.TheVariants as refusal
+use Rattle.json_part.specs.declared.part.Form.{Form}
 
--- the status with which the program ends: 1, 2, 3 or 4
-abbrev pub status_of : PartError → Status
-status_of NoPart = status.No
-status_of (BadPointer e) = status.Misused
-status_of (Refused e) = status.Refused
-status_of OutOfMemory = status.Failed
-status_of Writing = status.Failed
+-- The failure has the message of the error, or memory ran out.
+abbrev pub IsPointerFailure : PointerError → Failure → Type 0
+IsPointerFailure refusal.OutOfMemory f = f ≡ failure.OutOfMemory
+IsPointerFailure e f =
+    ((failure_status f ≡ status.Misused) × (failure_message f ≡ Some (pointer_error_message e))) ⊎ (f ≡ failure.OutOfMemory)
 
--- the message of an error; for a pointer or a text that is rejected that of its parser
-abbrev pub part_error_message : PartError → List ℕ
-part_error_message (BadPointer e) = pointer_error_message e
-part_error_message (Refused e) = error_message e
-part_error_message NoPart = codes "the pointer names no part"
-part_error_message OutOfMemory = codes "out of memory"
-part_error_message Writing = codes "writing failed"
+-- The pointer of the characters, or the failure for the parser's error.
+abbrev pub ReadsPointer : List ℕ → Result Pointer Failure → Type 0
+ReadsPointer cs (Ok p) = Reads cs (Ok p)
+ReadsPointer cs (Err f) = (e : PointerError) × Reads cs (Err e) × IsPointerFailure e f
 
--- The failure has the status and the message of the error, or memory ran out. If a text is rejected, the
--- message has the place.
-abbrev pub Tells : PartError → Failure → Type 0
-Tells (Refused e) f = (f ≡ failure.NotJson e) ⊎ (f ≡ failure.OutOfMemory)
-Tells e f = ((failure_status f ≡ status_of e) × (failure_message f ≡ Some (part_error_message e))) ⊎ (f ≡ failure.OutOfMemory)
+-- what is printed for the part: its text, or with `-r` the characters of a string, and a line feed
+abbrev pub printed_as : Bool → Bool → Tree → List ℕ
+printed_as true is_indented (string cs) = encode_utf8_all cs ++ line_feed ∷ []
+printed_as is_raw is_indented t = laid_out is_indented t
 
--- the tokens name a part, and a prefix of its line is written
-abbrev pub WritesLinePrefix : List (List ℕ) → Tree → Option (List ℕ) → Option (List ℕ) → Type 0
-WritesLinePrefix ks t old new = (u : Tree) × (part_at t ks ≡ Some u) × WrittenPart old new (line_of u)
+abbrev pub printed : Form → Tree → List ℕ
+printed form t = printed_as form.is_raw form.is_indented t
 
--- The line of the part that the tokens name is written, or a prefix of it if that fails; or they name no
--- part.
-abbrev pub WritesFound : List (List ℕ) → Tree → Option (List ℕ) → Option (List ℕ) → Result (Unit {0}) PartError → Type 0
-WritesFound ks t old new (Ok _) = (u : Tree) × (part_at t ks ≡ Some u) × Appends old new (line_of u)
-WritesFound ks t old new (Err NoPart) = (part_at t ks ≡ None) × (new ≡ old)
-WritesFound ks t old new (Err Writing) = WritesLinePrefix ks t old new
-WritesFound ks t old new (Err OutOfMemory) = WritesLinePrefix ks t old new
-WritesFound ks t old new (Err _) = ⊥
+-- the part, or with `-n` null where there is none
+abbrev pub part_or_null : Bool → Option Tree → Option Tree
+part_or_null true None = Some null
+part_or_null or_null found = found
 
--- a write failed; the error is out of memory if that was the reason
-abbrev pub IsFailedWrite : Type 0 → PartError → Type 0
-IsFailedWrite wanted error = (wanted × (error ≡ OutOfMemory)) ⊎ (¬ wanted × (error ≡ Writing))
+-- The part of the tree that the tokens name is printed, or there is none.
+abbrev pub GivesPartOf : Form → List (List ℕ) → Tree → Result (List ℕ) NoAnswer → Type 0
+GivesPartOf form ks t (Ok bytes) = (u : Tree) × (part_or_null form.or_null (part_at t ks) ≡ Some u) × (bytes ≡ printed form u)
+GivesPartOf form ks t (Err (No w)) =
+    (part_or_null form.or_null (part_at t ks) ≡ None) × (string_bytes w ≡ codes "the pointer names no part")
+GivesPartOf form ks t (Err _) = ⊥
 
--- The pointer's tokens, the text's tree, and what is written.
-pub record Finds (pointer text : List ℕ) (old new : Option (List ℕ)) (result : Result (Unit {0}) PartError) : Type 0 where
-  pub tokens : List (List ℕ)
-  pub tree : Tree
-  pub is_pointer : pointer ≡ pointer_text tokens
-  pub is_text : IsText None text tree
-  pub writes : WritesFound tokens tree old new result
+-- The same for the tree of a text; or that is no JSON text, and this is the parser's error.
+abbrev pub GivesPart : Form → List (List ℕ) → List ℕ → Result (List ℕ) NoAnswer → Type 0
+GivesPart form ks text (Err (Refused (NotJson e))) =
+    ParsesText None text (Err e) × ¬ (error_kind e ≡ kind.OutOfMemory) × ¬ IsAccepted None text
+GivesPart form ks text f = (t : Tree) × IsText None text t × GivesPartOf form ks t f
 
--- The two are a pointer and a JSON text, and the part is written. Or one of them is not, with its parser's
--- error; then nothing is written.
-abbrev pub WritesPart : List ℕ → List ℕ → Option (List ℕ) → Option (List ℕ) → Result (Unit {0}) PartError → Type 0
-WritesPart pointer text old new (Err (BadPointer e)) =
-    Reads pointer (Err e) × ¬ (e ≡ refusal.OutOfMemory) × IsNoPointer pointer × (new ≡ old)
-WritesPart pointer text old new (Err (Refused e)) =
-    ((tokens : List (List ℕ)) × (pointer ≡ pointer_text tokens))
-    × ParsesText None text (Err e) × ¬ (error_kind e ≡ kind.OutOfMemory) × ¬ IsAccepted None text × (new ≡ old)
-WritesPart pointer text old new (Err OutOfMemory) = (new ≡ old) ⊎ Finds pointer text old new (Err OutOfMemory)
-WritesPart pointer text old new result = Finds pointer text old new result
+-- What is printed where there is no part: null, or nothing. For a private contract.
+abbrev pub GivesMissing : Bool → Result (List ℕ) NoAnswer → Type 0
+GivesMissing or_null (Ok bytes) = (or_null ≡ true) × (bytes ≡ codes "null" ++ line_feed ∷ [])
+GivesMissing or_null (Err (No w)) = (or_null ≡ false) × (string_bytes w ≡ codes "the pointer names no part")
+GivesMissing or_null (Err _) = ⊥

@@ -2,24 +2,24 @@
 //! arguments and the statuses.
 #![tactic(auto)]
 
-mod failure;
+mod options;
 mod part;
+mod pointer;
 
-use failure::part_failure;
-use part::write_part;
-use std::alloc::Global;
-use std::io::Write;
+use options::{NULL, RAW, Request, requested};
+use part::Asked;
+use pointer::read_pointer;
 use std::process::ExitCode;
 use tinyjson_cli::{
-    Answer, Failure, HELP, Misuse, Program, Status, VERSION, answer_files, argument_words,
-    arguments_of, misused,
+    HELP, INDENT, LINES, Misuse, Program, Status, VERSION, answer_texts, argument_words,
+    arguments_of, misused, report,
 };
 
 const PROGRAM: Program<'static> = Program {
     name: "json_part",
-    options: &[HELP, VERSION],
+    options: &[LINES, INDENT, RAW, NULL, HELP, VERSION],
     help: "\
-Usage: json_part POINTER [FILE..]
+Usage: json_part [-l] [-i] [-r] [-n] POINTER [FILE..]
 
 Prints the part of each JSON text at a JSON Pointer (RFC 6901), as compact text
 with sorted keys.
@@ -28,12 +28,17 @@ The texts are those of the files, or standard input where none is named; '-' is
 standard input, too. Options may come anywhere; after '--' all are operands.
 
 Options:
+  -l, --lines    take each line of an input as a text; where one is refused or
+                 has no part, report its number and go on
+  -i, --indent   indent by two spaces
+  -r, --raw      print a string without quotes and escapes
+  -n, --null     print null where there is no part
   -h, --help     print this page
   -V, --version  print the version
 
 Exit status:
   0  each part was printed
-  1  a text has no part there
+  1  a text has no part there; with -l: a line has none or is refused
   2  the arguments are not understood, or POINTER is no pointer
   3  an input is no JSON text, or not UTF-8
   4  memory ran out, or a read or a write failed
@@ -43,28 +48,11 @@ Examples:
   {\"b\":2}
   $ echo '{\"a/b\": \"x\"}' | json_part /a~1b
   \"x\"
+  $ printf '{\"a\": \"x\"}\\n{}\\n' | json_part -lrn /a
+  x
+  null
 ",
 };
-
-/// A pointer that is followed in each text.
-#[derive(Drop)]
-struct Asked<'a> {
-    pointer: &'a str,
-}
-
-impl Answer for Asked<'_> {
-    fn answer<W: Write>(
-        &self,
-        alloc: Global,
-        text: &str,
-        output: &mut W,
-    ) -> Result<Status, Failure> {
-        match write_part(alloc, self.pointer, text, output) {
-            Ok(()) => Ok(Status::Done),
-            Err(error) => Err(part_failure(alloc, error)),
-        }
-    }
-}
 
 fn main(rt: HostRuntime) -> ExitCode {
     let (Ok(status) | Err(status)) = run(&rt);
@@ -74,8 +62,25 @@ fn main(rt: HostRuntime) -> ExitCode {
 fn run(rt: &HostRuntime) -> Result<Status, Status> {
     let words = argument_words(rt, PROGRAM)?;
     let arguments = arguments_of(rt, PROGRAM, words.as_slice())?;
-    let Some((pointer, files)) = arguments.first() else {
+    let Some(
+        Request {
+            by_lines,
+            form,
+            pointer,
+            files,
+        },
+    ) = requested(&arguments)
+    else {
         return Err(misused(rt, PROGRAM, Misuse::Missing("POINTER")));
     };
-    Ok(answer_files(rt, PROGRAM, files, &Asked { pointer }))
+    match read_pointer(rt.alloc(), pointer) {
+        Ok(pointer) => {
+            let asked = Asked {
+                pointer: &pointer,
+                form,
+            };
+            Ok(answer_texts(rt, PROGRAM, by_lines, files, asked))
+        }
+        Err(failure) => Err(report(rt, PROGRAM, None, &failure)),
+    }
 }

@@ -1,106 +1,132 @@
-//! Writes the part of a text that a pointer names.
-ghost use Rattle.std.specs.IoError.{error_kind};
-ghost use Rattle.std.specs.Prelude.{◌≡◌, Some};
+//! Prints the part of a text that a pointer names.
+ghost use Rattle.std.specs.Prelude.{◌++◌, ◌∷◌, [], encode_utf8_all};
 ghost use Rattle.std.specs.Str.{chars};
-ghost use Rattle.tinyjson_document.specs.Document.{document_tree};
+ghost use Rattle.tinyjson.specs.Characters.{line_feed};
+ghost use Rattle.tinyjson.specs.Written.{WritesPrefix};
+ghost use Rattle.tinyjson_cli.specs.Layout.{laid_out};
+ghost use Rattle.tinyjson_cli.specs.Texts.{Answers};
+ghost use Rattle.tinyjson_document.specs.Document.{document_tree, tree};
 ghost use Rattle.tinyjson_pointer.specs.Tokens.{tokens_of};
-ghost use Rattle.json_part.specs.Part.{part_error_message};
-ghost use Rattle.json_part.specs.Part.{IsFailedWrite, WritesFound, WritesPart};
+ghost use Rattle.json_part.specs.Part.{GivesMissing, GivesPart, GivesPartOf, printed};
 
 use std::alloc::Global;
-use std::fmt;
-use std::io::{self, ErrorKind, Write};
-use tinyjson::JsonParseError;
-use tinyjson_document::Document;
-use tinyjson_pointer::{Pointer, PointerError};
+use std::io::{self, Write};
+use tinyjson_cli::{NoAnswer, TextAnswer};
+use tinyjson_document::{Document, Node};
+use tinyjson_lines::{Cause, write_all};
+use tinyjson_pointer::Pointer;
 
-/// Why no part is written.
-#[derive(Drop)]
-pub enum PartError {
-    /// The pointer's text is not a pointer.
-    BadPointer(PointerError),
-    /// The text is no JSON text.
-    Refused(JsonParseError),
-    /// The pointer names no part.
-    NoPart,
-    /// An allocation failed.
-    OutOfMemory,
-    /// A write failed.
-    Writing,
+/// How a part is printed.
+#[derive(Clone, Copy)]
+pub struct Form {
+    /// Whether its text is indented with two spaces.
+    pub is_indented: bool,
+    /// Whether the characters of a string are printed in place of its text.
+    pub is_raw: bool,
+    /// Whether `null` is printed where there is no part.
+    pub or_null: bool,
 }
 
-/// The message that the program writes after its name.
-impl fmt::Display for PartError {
-    ghost output = { λ e. Some (part_error_message e) };
-
-    fn fmt<W: fmt::Write>(&self, f: &mut fmt::Formatter<W>) -> fmt::Result {
-        match self {
-            PartError::BadPointer(error) => write!(f, "{error}"),
-            PartError::Refused(error) => write!(f, "{error}"),
-            PartError::NoPart => f.write_str("the pointer names no part"),
-            PartError::OutOfMemory => f.write_str("out of memory"),
-            PartError::Writing => f.write_str("writing failed"),
-        }
-    }
+/// What is asked of each text: the part that a pointer names, in a form.
+#[derive(Clone, Copy)]
+pub struct Asked<'a> {
+    pub pointer: &'a Pointer,
+    pub form: Form,
 }
 
-/// Writes the compact text of the part that the pointer names, and a line feed.
-///
-/// The pointer is parsed first, and both are parsed before anything is written. After `Writing`, or if memory
-/// runs out, a prefix of the line may be written.
-///
 /// ```
-/// write_part(alloc, "/a/0", r#"{"a":[7]}"#, &mut output)?; // 7 and a line feed
+/// asked.answer_text(alloc, r#"{"a":[7.0]}"#, &mut output)?; // where `/a/0` is asked: writes 7 and a line feed
 /// ```
-pub fn write_part<W: Write>(
-    alloc: Global,
-    pointer: &str,
-    text: &str,
-    output: &mut W,
-) -> Result<(), PartError>
-    ensures { WritesPart (chars pointer.now) (chars text.now)
-        (W.contents output.old) (W.contents output.new) result }
-{
-    let pointer = match Pointer::parse(alloc, pointer) {
-        Ok(pointer) => pointer,
-        Err(PointerError::OutOfMemory) => return Err(PartError::OutOfMemory),
-        Err(error) => return Err(PartError::BadPointer(error)),
-    };
-    match Document::read(alloc, text) {
-        Ok(document) => write_found(alloc, &pointer, &document, output),
-        Err(error) => {
-            if error.is_out_of_memory() {
-                return Err(PartError::OutOfMemory);
+impl TextAnswer for Asked<'_> {
+    ghost gives = { λ a text f. GivesPart a.form (tokens_of a.pointer.now) text f };
+
+    fn answer_text<W: Write>(
+        &self,
+        alloc: Global,
+        text: &str,
+        output: &mut W,
+    ) -> io::Result<Option<NoAnswer>> {
+        match Document::read(alloc, text) {
+            Ok(document) => answer_document(alloc, *self, &document, output),
+            Err(error) => {
+                if error.is_out_of_memory() {
+                    return Err(error.into());
+                }
+                Ok(Some(NoAnswer::Refused(Cause::NotJson(error))))
             }
-            Err(PartError::Refused(error))
         }
     }
 }
 
-fn write_found<W: Write>(
+/// Prints the part of a document.
+fn answer_document<W: Write>(
     alloc: Global,
-    pointer: &Pointer,
+    asked: Asked<'_>,
     document: &Document,
     output: &mut W,
-) -> Result<(), PartError>
-    ensures { WritesFound (tokens_of pointer.now) (document_tree document.now)
+) -> io::Result<Option<NoAnswer>>
+    ensures { Answers (GivesPartOf asked.entry.form (tokens_of asked.entry.pointer.now)
+        (document_tree document.now)) (W.contents output.old) (W.contents output.new) result }
+{
+    let Some(part) = asked.pointer.find_part(document.root()) else {
+        return answer_missing(alloc, asked.form.or_null, output);
+    };
+    write_part(alloc, part, asked.form, output)?;
+    Ok(None)
+}
+
+/// Prints null where there is no part, if that is asked.
+fn answer_missing<W: Write>(
+    alloc: Global,
+    or_null: bool,
+    output: &mut W,
+) -> io::Result<Option<NoAnswer>>
+    ensures { Answers (GivesMissing or_null)
         (W.contents output.old) (W.contents output.new) result }
 {
-    let Some(part) = pointer.find_part(document.root()) else {
-        return Err(PartError::NoPart);
-    };
-    match part.write_line_to(alloc, output) {
-        Ok(()) => Ok(()),
-        Err(error) => Err(writing_error(error)),
+    if !or_null {
+        let words = "the pointer names no part".to_string(alloc)?;
+        return Ok(Some(NoAnswer::No(words)));
+    }
+    write_all(output, b"null\n")?;
+    Ok(None)
+}
+
+/// Prints a part.
+fn write_part<W: Write>(alloc: Global, part: Node<'_>, form: Form, output: &mut W) -> io::Result<()>
+    ensures { WritesPrefix (W.contents output.old) (W.contents output.new)
+        (printed form (tree part.entry)) result }
+{
+    if !form.is_raw {
+        return write_text(alloc, part, form.is_indented, output);
+    }
+    match part.string() {
+        Some(characters) => write_raw(characters, output),
+        None => write_text(alloc, part, form.is_indented, output),
     }
 }
 
-/// The error of a write that failed.
-pub(crate) fn writing_error(error: io::Error) -> PartError
-    ensures { IsFailedWrite (error_kind error ≡ ErrorKind.OutOfMemory) result }
+/// Writes the text of a part, and a line feed.
+fn write_text<W: Write>(
+    alloc: Global,
+    part: Node<'_>,
+    is_indented: bool,
+    output: &mut W,
+) -> io::Result<()>
+    ensures { WritesPrefix (W.contents output.old) (W.contents output.new)
+        (laid_out is_indented (tree part.entry)) result }
 {
-    if error.kind() == ErrorKind::OutOfMemory {
-        return PartError::OutOfMemory;
+    if is_indented {
+        return part.format_line_to(alloc, output);
     }
-    PartError::Writing
+    part.write_line_to(alloc, output)
+}
+
+/// Writes characters in UTF-8, and a line feed.
+fn write_raw<W: Write>(characters: &str, output: &mut W) -> io::Result<()>
+    ensures { WritesPrefix (W.contents output.old) (W.contents output.new)
+        (encode_utf8_all (chars characters.now) ++ line_feed ∷ []) result }
+{
+    write_all(output, characters.as_bytes())?;
+    write_all(output, b"\n")
 }

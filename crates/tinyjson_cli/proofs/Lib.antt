@@ -1,1 +1,3 @@
+pub mod Answering
 pub mod Joining
+pub mod Layouts

@@ -5,3 +5,6 @@ pub mod Shown
 pub mod Misuses
 pub mod Places
 pub mod Refusals
+pub mod Layout
+pub mod Texts
+pub mod Unanswered

@@ -1,0 +1,200 @@
+//! Programs that answer texts: whole inputs, or each line of an input.
+ghost use Rattle.std.specs.Prelude.{◌≡◌, ℕ, List, Option, Result, Bool, option_map};
+ghost use Rattle.std.specs.Str.{chars};
+ghost use Rattle.tinyjson_cli.specs.Texts.{AnswersLine, AnswersText, failure_of, handles_text};
+ghost use Rattle.tinyjson_cli.specs.declared.texts.NoAnswer.{NoAnswer};
+
+use crate::answer::{Answer, answer_files};
+use crate::arguments::Known;
+use crate::failure::{Failure, Place};
+use crate::input::writing_error;
+use crate::lines::{AnswerLines, answer_lines};
+use crate::program::Program;
+use crate::status::Status;
+use crate::unanswered::{UnansweredLine, tell_unanswered};
+use std::alloc::Global;
+use std::io::{self, BufRead, Write};
+use std::str;
+use tinyjson_lines::{Cause, LineHandler, content, for_each_line};
+
+/// `-l` and `--lines`.
+pub const LINES: Known<'static> = Known {
+    letter: b'l',
+    name: "lines",
+    takes_number: false,
+};
+
+/// Why a text has no answer.
+#[derive(Drop)]
+pub enum NoAnswer {
+    /// The text is rejected.
+    Refused(Cause),
+    /// The answer is no, as these words say.
+    No(String),
+    /// The text is a line that is longer than the limit.
+    TooLong,
+}
+
+/// What a program answers for a text.
+///
+/// `gives` relates what is asked and the characters of a text to the bytes of the answer, or to why there is none.
+pub trait TextAnswer {
+    ghost gives: { Self → List ℕ → Result (List ℕ) NoAnswer → Type 0 };
+
+    /// Writes the answer for a text, or returns why there is none. Then nothing is written.
+    ///
+    /// After an error of the writer, or if memory runs out, a prefix of the answer may be written.
+    fn answer_text<W: Write>(
+        &self,
+        alloc: Global,
+        text: &str,
+        output: &mut W,
+    ) -> io::Result<Option<NoAnswer>>
+        ensures { AnswersText gives self.now (chars text.now)
+            (W.contents output.old) (W.contents output.new) result };
+}
+
+/// Answers each file or standard input: as one text, or with `by_lines` each line as a text. The status is the greatest.
+pub fn answer_texts<A: TextAnswer + Copy>(
+    rt: &HostRuntime,
+    program: Program<'_>,
+    by_lines: bool,
+    files: &[&str],
+    asked: A,
+) -> Status {
+    if by_lines {
+        let mut by_lines = ByLines {
+            alloc: rt.alloc(),
+            program: program.name,
+            asked,
+        };
+        return answer_lines(rt, program, files, &mut by_lines);
+    }
+    answer_files(rt, program, files, &Whole { asked })
+}
+
+/// Answers an input as one text.
+#[derive(Drop)]
+struct Whole<A> {
+    asked: A,
+}
+
+impl<A: TextAnswer + Copy> Answer for Whole<A> {
+    fn answer<W: Write>(
+        &self,
+        alloc: Global,
+        text: &str,
+        output: &mut W,
+    ) -> Result<Status, Failure> {
+        match self.asked.answer_text(alloc, text, output) {
+            Ok(None) => Ok(Status::Done),
+            Ok(Some(why)) => Err(unanswered_failure(why)),
+            Err(error) => Err(writing_error(error)),
+        }
+    }
+}
+
+/// The failure for a text that has no answer.
+pub fn unanswered_failure(why: NoAnswer) -> Failure
+    ensures { result ≡ failure_of why }
+{
+    match why {
+        NoAnswer::Refused(Cause::NotJson(error)) => Failure::NotJson(error),
+        NoAnswer::Refused(_) => Failure::NotUtf8(Place { line: 1, column: 0 }),
+        NoAnswer::No(words) => Failure::No(words),
+        NoAnswer::TooLong => Failure::Closed,
+    }
+}
+
+/// Answers each line of an input as a text.
+#[derive(Drop)]
+struct ByLines<'a, A> {
+    alloc: Global,
+    program: &'a str,
+    asked: A,
+}
+
+impl<A: TextAnswer + Copy> AnswerLines for ByLines<'_, A> {
+    fn answer<R: BufRead, W: Write, E: Write>(
+        &mut self,
+        file: Option<&str>,
+        input: &mut R,
+        output: &mut W,
+        errors: &mut E,
+    ) -> io::Result<(bool, Status)> {
+        let mut lines = TextLines {
+            alloc: self.alloc,
+            asked: self.asked,
+            program: self.program,
+            file,
+            are_answered: true,
+        };
+        for_each_line(self.alloc, None, &mut lines, input, output, errors)?;
+        let status = if lines.are_answered {
+            Status::Done
+        } else {
+            Status::No
+        };
+        Ok((true, status))
+    }
+}
+
+/// A handler that writes the answer for each line, and reports each line that has none under its number.
+#[derive(Drop)]
+pub struct TextLines<'a, A> {
+    /// The allocator.
+    pub alloc: Global,
+    /// What is asked of each line.
+    pub asked: A,
+    /// The name of the program, for messages.
+    pub program: &'a str,
+    /// The name of the file with the lines, if it has one, for messages.
+    pub file: Option<&'a str>,
+    /// Whether each line so far has an answer.
+    pub are_answered: bool,
+}
+
+impl<A: TextAnswer + Copy> LineHandler for TextLines<'_, A> {
+    ghost handles = { handles_text A.gives };
+
+    fn handle_line<W: Write, E: Write>(
+        &mut self,
+        number: u64,
+        line: Option<&[u8]>,
+        output: &mut W,
+        errors: &mut E,
+    ) -> io::Result<bool> {
+        let Some(why) = answer_line(self.alloc, &self.asked, line, output)? else {
+            return Ok(true);
+        };
+        self.are_answered = false;
+        output.flush()?;
+        let unanswered = UnansweredLine {
+            program: self.program,
+            file: self.file,
+            number,
+            why: &why,
+        };
+        tell_unanswered(self.alloc, errors, &unanswered)?;
+        Ok(true)
+    }
+}
+
+/// Writes the answer for one line, or returns why there is none.
+fn answer_line<A: TextAnswer, W: Write>(
+    alloc: Global,
+    asked: &A,
+    line: Option<&[u8]>,
+    output: &mut W,
+) -> io::Result<Option<NoAnswer>>
+    ensures { AnswersLine A.gives asked.now (option_map (λ s. s.now) line.entry)
+        (W.contents output.old) (W.contents output.new) result }
+{
+    let Some(line) = line else {
+        return Ok(Some(NoAnswer::TooLong));
+    };
+    let Ok(text) = str::from_utf8(content(line)) else {
+        return Ok(Some(NoAnswer::Refused(Cause::NotUtf8)));
+    };
+    asked.answer_text(alloc, text, output)
+}
