@@ -447,7 +447,13 @@ FAILING = [([OPERATIONS], PATCHED[:-1] + b',"z":%s}' % LONG, b'%s,"z":%s}\n' % (
 
 # Where each request for memory is refused.
 SOME = b'{"title":"Goodbye!","author":{"givenName":"John","a":[1.5]},"tags":["example",{"b":"x"}]}'
-REFUSED_MEMORY = [([OPERATIONS], SOME), ([OPERATIONS], b'{"title":"Goodbye!"}')]
+REFUSED_MEMORY = [([OPERATIONS], SOME), ([OPERATIONS], b'{"title":"Goodbye!"}'), (["-li", OPERATIONS], SOME + b'\n{"title":1}\n[1,]\n' + SOME)]
+
+# The same where each line is a text.
+MANY, MANY_PATCHED = (PATCHED + b"\n") * 1_000, (CHANGED + b"\n") * 1_000
+STREAMS_OF_LINES = [(["-l", OPERATIONS], MANY, (1, "line 1: not UTF-8"), (4, FOLDER), (4, FULL))]
+FAILING_LINES = [(["-l", OPERATIONS], MANY, MANY_PATCHED, (4, BROKEN), (4, BROKEN))]
+INTERRUPTED_LINES = [(["-l", OPERATIONS], MANY * 3, MANY_PATCHED * 3)]
 
 
 # How many rows are not padded, and why.
@@ -497,6 +503,51 @@ def patched(folder, given, operations, **how):
     with open(path, "wb") as file:
         file.write(operations)
     return run_of(program("json_patch"), ["operations"], given, cwd=folder, **how)
+
+
+def told_of_lines(output, *lines):
+    """The answer of `json_patch -l` that prints this, and reports these lines."""
+    return 1, output, b"".join(b"json_patch: line %s\n" % line for line in lines)
+
+
+# The arguments, the operations, the input, and the answer.
+ADD, TEST = patch(("add", "/a", "1")), patch(("test", "/a", "1"))
+AT_0 = b"%%d: operation 0: %s" % DIFFERENT.encode()
+OPTIONS = [
+    (["-i"], ADD, b'{"b":[]}', printed(b"{", b'  "a": 1,', b'  "b": []', b"}")),
+    (["--indent"], TEST, b'{"a":1.0}', printed(b"{", b'  "a": 1', b"}")),
+    (["-l"], ADD, b"", printed()),
+    (["-l"], ADD, b'{"b":2}\n{"a":3}', printed(b'{"a":1,"b":2}', b'{"a":1}')),
+    (["--lines"], TEST, b'{"a":1.0}\n{"a":2}\n[1,]\n\n"\xff"\n{"a":1,"b":3}\n', told_of_lines(b'{"a":1}\n{"a":1,"b":3}\n', AT_0 % 2,
+        b"3, col 3: Invalid character: ]", b"4, col 0: Unexpected EOF", b"5: not UTF-8")),
+    (["-l"], patch(("add", "/0", "1")), b"[]\n[2]\n[3]\n", printed(b"[1]", b"[1,2]", b"[1,3]")),
+    (["-li"], ADD, b"{}\n{}", printed(*[b"{", b'  "a": 1', b"}"] * 2)),
+    (["-l"], TEST, b'{"a":1}\n{"a":0}\n' * 35_000, told_of_lines(b'{"a":1}\n' * 35_000, *(AT_0 % n for n in range(2, 70_001, 2)))),
+]
+
+
+def patched_by(folder, words, operations, given):
+    """The answer to a patch with options."""
+    path = os.path.join(folder, "operations")
+    with open(path, "w", encoding="utf-8") as file:
+        file.write(operations)
+    return run_of(program("json_patch"), [*words, "operations"], given, cwd=folder)
+
+
+def check_lines(checks):
+    """Rows with options; and each row of the RFC in lines of which the second is refused, as it is and padded."""
+    for row in OPTIONS:
+        words, operations, given, expected = row
+        name = f"json_patch: {words} {operations[:60]} {given[:60]}"
+        checks.row(name, expected, patched_by, checks.folder, words, operations, given, at=row)
+    for row in APPLIED:
+        given, operations, result = (it.encode() for it in row)
+        for given, operations, result in ((given, operations, result), padded_patch(given, operations, result)):
+            given = given.replace(b"\n", b" ")
+            lines = given + b"\n[,]\n" + given + b"\n"
+            answer = told_of_lines(result + b"\n" + result + b"\n", b"2, col 1: Invalid character: ,")
+            name = f"json_patch -l: {operations[-60:]} {given[:60]} {len(given)}"
+            checks.row(name, answer, patched_by, checks.folder, ["-l"], operations.decode(), lines, at=row)
 
 
 def answers():
@@ -577,10 +628,13 @@ def check_deep(checks):
 def check_faults(checks):
     FAULTS.streams(checks, STREAMS)
     FAULTS.failing(checks, FAILING)
+    FAULTS.streams(checks, STREAMS_OF_LINES)
+    FAULTS.failing(checks, FAILING_LINES)
+    FAULTS.interrupted(checks, INTERRUPTED_LINES)
     FAULTS.refusing(checks, REFUSED_MEMORY)
 
 
 PAGE = Page("json_patch", [OPERATIONS], PATCHED)
 
 
-PARTS = (PAGE.check, *shared(check_rows), check_padded, check_many, check_deep, check_faults)
+PARTS = (PAGE.check, *shared(check_rows), check_lines, check_padded, check_many, check_deep, check_faults)
