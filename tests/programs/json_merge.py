@@ -89,7 +89,17 @@ FAILING = [([PATCH], b'{"a":%s}' % LONG, b'{"a":%s,%s}\n' % (LONG, ADDED), (4, B
 
 # Where each request for memory is refused: a patch that replaces, removes, adds and merges.
 CHANGED = b'{"title":"","author":{"familyName":[[{"a":1.5}]],"b":"x"},"tags":{"a":[1]},"c":[{"d":[]}]}'
-REFUSED_MEMORY = [([PATCH], CHANGED)]
+REFUSED_MEMORY = [
+    ([PATCH], CHANGED),
+    (["-i", "-p2", PATCH, PATCH], CHANGED),
+    (["-l", PATCH], b'{"a":[1.5]}\n[1,]\n\xff\n[{"b":"x"}]\n'),
+]
+
+# The same where each line is a text.
+MANY, MANY_MERGED = b'{"zz":[1.0]}\n' * 5_000, b'{%s,"zz":[1]}\n' % ADDED * 5_000
+STREAMS_OF_LINES = [(["-l", PATCH], MANY, (1, "line 1: not UTF-8"), (4, FOLDER), (4, FULL))]
+FAILING_LINES = [(["-l", PATCH], MANY, MANY_MERGED, (4, BROKEN), (4, BROKEN))]
+INTERRUPTED_LINES = [(["-l", PATCH], MANY * 3, MANY_MERGED * 3)]
 
 
 # Deep values in what fails, and where memory is refused: members that the patch merges into, replaces, and leaves.
@@ -102,10 +112,46 @@ DEEP_MEMORY = [([PATCH], b'{"title":%s,"author":{"familyName":%s,"b":%s},"c":%s}
 
 def merged(folder, patch, given):
     """The answer to a patch, from a file."""
-    path = os.path.join(folder, "patch")
-    with open(path, "wb") as file:
-        file.write(patch)
-    return run_of(program("json_merge"), ["patch"], given, cwd=folder)
+    return merged_by(folder, [], [patch], given)
+
+
+def merged_by(folder, words, patches, given):
+    """The answer to some patches, each from a file."""
+    names = [f"patch{place or ''}" for place in range(len(patches))]
+    for name, patch in zip(names, patches):
+        with open(os.path.join(folder, name), "wb") as file:
+            file.write(patch)
+    return run_of(program("json_merge"), [*words, *names], given, cwd=folder)
+
+
+def told(output, *lines):
+    """The answer of `json_merge -l` that prints this, and reports these lines."""
+    return 1, output, b"".join(b"json_merge: line %s\n" % line for line in lines)
+
+
+# The arguments, the patches, the input, and the answer. Patches in order: RFC 7396 applies one to the result of another.
+SET, NULL, NEST = b'{"a":1}', b'{"a":null}', b'{"a":{"b":2}}'
+OPTIONS = [
+    (["-i"], [SET], b'{"b":[]}', printed(b"{", b'  "a": 1,', b'  "b": []', b"}")),
+    (["--indent"], [b"[1.0]"], b"{}", printed(b"[", b"  1", b"]")),
+    (["-p2"], [SET, NULL], b'{"b":2}', printed(b'{"b":2}')),
+    (["-p2"], [NULL, SET], b'{"b":2}', printed(b'{"a":1,"b":2}')),
+    (["--patches=2"], [NEST, b'{"a":{"c":3}}'], b"[]", printed(b'{"a":{"b":2,"c":3}}')),
+    (["-p", "3"], [SET, b'"x"', b'{"c":[null]}'], b"{}", printed(b'{"c":[null]}')),
+    (["-p1"], [SET], b"{}", printed(SET)),
+    (["-p2"], [SET, b"[1,]"], b"{}", reported(2, "json_merge", "the patch: Parse error at line:1, col:3: Invalid character: ]")),
+    (["-p2"], [SET], b"{}", misused("json_merge", "PATCH is missing")),
+    (["-p"], [], b"{}", misused("json_merge", "no number of 1 to 9 digits after -p")),
+    (["-l"], [SET], b"", printed()),
+    (["-l"], [SET], b'{"b":2}\n[]\n1', printed(b'{"a":1,"b":2}', SET, SET)),
+    (["--lines"], [NULL], b'{"a":[1]}\n[1,]\n\n"\xff"\n{"a":1,"b":2.0}\n', told(b'{}\n{"b":2}\n', b"2, col 3: Invalid character: ]",
+        b"3, col 0: Unexpected EOF", b"4: not UTF-8")),
+    (["-lp2"], [SET, NEST], b"{}\n{}\n", printed(NEST, NEST)),
+    (["-li"], [SET], b"{}\n{}", printed(*[b"{", b'  "a": 1', b"}"] * 2)),
+    (["-l"], [b"[1,]"], b"{}\n", reported(2, "json_merge", "the patch: Parse error at line:1, col:3: Invalid character: ]")),
+    (["-l"], [NULL], b'{"a":1}\nx\n' * 35_000, told(b"{}\n" * 35_000, *(b"%d, col 0: Invalid character: x" % n for n in range(2, 70_001, 2)))),
+    (["-l"], [SET], NESTED + b"\n" + b'{"b":%s}' % NESTED, printed(SET, b'{"a":1,"b":%s}' % NESTED)),
+]
 
 
 def check_rows(checks):
@@ -119,6 +165,21 @@ def check_rows(checks):
     for row in ROWS:
         words, given, expected = row
         checks.row(f"json_merge: {words} {given}", expected, run_of, program("json_merge"), words, given, at=row)
+    for row in OPTIONS:
+        words, patches, given, expected = row
+        name = f"json_merge: {words} {patches} {given[:60]}"
+        checks.row(name, expected, merged_by, checks.folder, words, patches, given, at=row)
+
+
+def check_lines(checks):
+    """Each row of the RFC, in lines of which the second is refused, as it is and padded."""
+    for row in MERGED:
+        given, patch, result = (it.encode() for it in row)
+        for given, patch, result in ((given, patch, result), padded_merge(given, patch, result)):
+            lines = given + b"\n[,]\n" + given + b"\n"
+            answer = told(result + b"\n" + result + b"\n", b"2, col 1: Invalid character: ,")
+            name = f"json_merge -l: {patch[-60:]} {given[:60]} {len(given)}"
+            checks.row(name, answer, merged_by, checks.folder, ["-l"], [patch], lines, at=row)
 
 
 def check_padded(checks):
@@ -133,15 +194,20 @@ def check_padded(checks):
 def check_faults(checks):
     FAULTS.streams(checks, STREAMS)
     FAULTS.failing(checks, FAILING)
+    FAULTS.streams(checks, STREAMS_OF_LINES)
+    FAULTS.failing(checks, FAILING_LINES)
+    FAULTS.interrupted(checks, INTERRUPTED_LINES)
     FAULTS.refusing(checks, REFUSED_MEMORY)
 
 
 def check_deep(checks):
-    FAULTS.deep(checks, DEEP_FAILURES)
+    lines = NESTED + b"x\n1\n" + NESTED
+    answer = told(b"{%s}\n" % ADDED * 2, b"1, col 200001: Expected EOF but got character 'x'")
+    FAULTS.deep(checks, [*DEEP_FAILURES, (["-l", PATCH], lines, answer)])
     FAULTS.refusing_deep(checks, DEEP_MEMORY)
 
 
 PAGE = Page("json_merge", [PATCH])
 
 
-PARTS = (PAGE.check, check_rows, check_padded, check_deep, check_faults)
+PARTS = (PAGE.check, check_rows, check_lines, check_padded, check_deep, check_faults)

@@ -1,122 +1,79 @@
-//! Applies a patch to a value; both are texts.
-ghost use Rattle.std.specs.IoError.{error_kind};
-ghost use Rattle.std.specs.Prelude.{◌≡◌, Some};
-ghost use Rattle.std.specs.Str.{chars};
+//! Applies merge patches to texts.
+ghost use Rattle.std.specs.Prelude.{◌≡◌, IfOk, map};
 ghost use Rattle.tinyjson.specs.View.{view};
-ghost use Rattle.json_merge.specs.Apply.{merge_error_message, patch_depth};
-ghost use Rattle.json_merge.specs.Apply.{IsFailedWrite, AppliesTree, Applies, WritesMerged};
+ghost use Rattle.tinyjson_cli.specs.Texts.{Answers};
+ghost use Rattle.json_merge.specs.Apply.{GivesMerged, GivesMergedOf, all_merged};
 
-use std::alloc::Global;
-use std::fmt;
-use std::io::{self, ErrorKind, Write};
-use tinyjson::{JsonParseError, JsonValue};
-use tinyjson_lines::write_line;
+use std::alloc::{AllocError, Global};
+use std::io::{self, Write};
+use tinyjson::JsonValue;
+use tinyjson_cli::{NoAnswer, TextAnswer, write_laid_out};
+use tinyjson_lines::Cause;
 use tinyjson_patch::merge;
 
-/// How many containers may be nested in a patch: merging and freeing it take stack with its nesting.
-const PATCH_DEPTH: usize = 1_000;
-
-/// Why no result is written.
-#[derive(Drop)]
-pub enum MergeError {
-    /// The patch is no JSON text, or more than 1,000 containers are nested in it.
-    BadPatch(JsonParseError),
-    /// The text of the value is no JSON text.
-    Refused(JsonParseError),
-    /// An allocation failed.
-    OutOfMemory,
-    /// A write failed.
-    Writing,
+/// What is asked of each text: its value with some patches applied (RFC 7396), each to the result of the one before.
+#[derive(Clone, Copy)]
+pub struct Asked<'a> {
+    /// The patches, in order.
+    pub patches: &'a [JsonValue],
+    /// Whether the text of the result is indented with two spaces.
+    pub is_indented: bool,
 }
 
-/// The message that the program writes after its name.
-impl fmt::Display for MergeError {
-    ghost output = { λ e. Some (merge_error_message e) };
-
-    fn fmt<W: fmt::Write>(&self, f: &mut fmt::Formatter<W>) -> fmt::Result {
-        match self {
-            MergeError::BadPatch(error) => write!(f, "the patch: {error}"),
-            MergeError::Refused(error) => write!(f, "{error}"),
-            MergeError::OutOfMemory => f.write_str("out of memory"),
-            MergeError::Writing => f.write_str("writing failed"),
-        }
-    }
-}
-
-/// Writes the compact text of the value with the patch applied (RFC 7396), and a line feed.
-///
-/// The patch is parsed first, and both are parsed before anything is written. After `Writing`, or if memory
-/// runs out, a prefix of the line may be written. The value may be nested to any depth.
-///
 /// ```
-/// write_merged(alloc, r#"{"a":null}"#, r#"{"a":1,"b":2}"#, &mut output)?; // {"b":2} and a line feed
+/// asked.answer_text(alloc, r#"{"a":1,"b":2}"#, &mut output)?; // by {"a":null}: writes {"b":2} and a line feed
 /// ```
-pub fn write_merged<W: Write>(
-    alloc: Global,
-    patch: &str,
-    text: &str,
-    output: &mut W,
-) -> Result<(), MergeError>
-    ensures { WritesMerged (chars patch.now) (chars text.now)
-        (W.contents output.old) (W.contents output.new) result }
-{
-    match JsonValue::from_str_with_depth_limit(alloc, patch, PATCH_DEPTH) {
-        Ok(patch) => apply_to_text(alloc, &patch, text, output),
-        Err(error) => {
-            if error.is_out_of_memory() {
-                return Err(MergeError::OutOfMemory);
+impl TextAnswer for Asked<'_> {
+    ghost gives = { λ a text f. GivesMerged a.is_indented (map view a.patches.now) text f };
+
+    fn answer_text<W: Write>(
+        &self,
+        alloc: Global,
+        text: &str,
+        output: &mut W,
+    ) -> io::Result<Option<NoAnswer>> {
+        match JsonValue::from_str(alloc, text) {
+            Ok(value) => answer_value(alloc, *self, value, output),
+            Err(error) => {
+                if error.is_out_of_memory() {
+                    return Err(error.into());
+                }
+                Ok(Some(NoAnswer::Refused(Cause::NotJson(error))))
             }
-            Err(MergeError::BadPatch(error))
         }
     }
 }
 
-fn apply_to_text<W: Write>(
+/// Writes the text of a value with the patches applied.
+fn answer_value<W: Write>(
     alloc: Global,
-    patch: &JsonValue,
-    text: &str,
-    output: &mut W,
-) -> Result<(), MergeError>
-    ensures { Applies (view patch.now) (chars text.now)
-        (W.contents output.old) (W.contents output.new) result }
-{
-    match JsonValue::from_str(alloc, text) {
-        Ok(value) => apply_to_value(alloc, patch, value, output),
-        Err(error) => {
-            if error.is_out_of_memory() {
-                return Err(MergeError::OutOfMemory);
-            }
-            Err(MergeError::Refused(error))
-        }
-    }
-}
-
-fn apply_to_value<W: Write>(
-    alloc: Global,
-    patch: &JsonValue,
+    asked: Asked<'_>,
     value: JsonValue,
     output: &mut W,
-) -> Result<(), MergeError>
-    ensures { AppliesTree (view patch.now) (view value)
-        (W.contents output.old) (W.contents output.new) result }
+) -> io::Result<Option<NoAnswer>>
+    ensures { Answers (GivesMergedOf asked.entry.is_indented (map view asked.entry.patches.now)
+        (view value)) (W.contents output.old) (W.contents output.new) result }
 {
-    let Ok(merged) = merge(value, patch, alloc) else {
-        return Err(MergeError::OutOfMemory);
-    };
-    let answer = write_line(alloc, &merged, output);
+    let merged = merge_all(alloc, value, asked.patches)?;
+    let written = write_laid_out(alloc, &merged, asked.is_indented, output);
     merged.dismantle();
-    match answer {
-        Ok(()) => Ok(()),
-        Err(error) => Err(writing_error(error)),
+    match written {
+        Ok(()) => Ok(None),
+        Err(error) => Err(error),
     }
 }
 
-/// The error of a write that failed.
-pub(crate) fn writing_error(error: io::Error) -> MergeError
-    ensures { IsFailedWrite (error_kind error ≡ ErrorKind.OutOfMemory) result }
+/// The value with the patches applied, in order. The only error is out of memory.
+fn merge_all(
+    alloc: Global,
+    value: JsonValue,
+    patches: &[JsonValue],
+) -> Result<JsonValue, AllocError>
+    ensures { IfOk result (λ v. view v ≡ all_merged (view value) (map view patches.now)) }
 {
-    if error.kind() == ErrorKind::OutOfMemory {
-        return MergeError::OutOfMemory;
+    let mut merged = value;
+    for patch in patches {
+        merged = merge(merged, patch, alloc)?;
     }
-    MergeError::Writing
+    Ok(merged)
 }

@@ -1,25 +1,25 @@
-//! Applies a JSON Merge Patch (RFC 7396) to each JSON text, and prints the result. Its help page lists the
+//! Applies JSON Merge Patches (RFC 7396) to each JSON text, and prints the result. Its help page lists the
 //! arguments and the statuses.
 #![tactic(auto)]
 
 mod apply;
-mod failure;
+mod options;
+mod reading;
 
-use apply::write_merged;
-use failure::apply_failure;
-use std::alloc::Global;
-use std::io::Write;
+use apply::Asked;
+use options::{PATCHES, Request, requested};
+use reading::read_patches;
 use std::process::ExitCode;
 use tinyjson_cli::{
-    Answer, Failure, HELP, Misuse, Program, Status, VERSION, answer_files, argument_words,
-    arguments_of, misused, read_named, report,
+    HELP, INDENT, LINES, Misuse, Program, Status, VERSION, answer_texts, argument_words,
+    arguments_of, misused, report,
 };
 
 const PROGRAM: Program<'static> = Program {
     name: "json_merge",
-    options: &[HELP, VERSION],
+    options: &[LINES, INDENT, PATCHES, HELP, VERSION],
     help: "\
-Usage: json_merge PATCH [FILE..]
+Usage: json_merge [-l] [-i] [-p N] PATCH.. [FILE..]
 
 Applies a JSON Merge Patch (RFC 7396) to each JSON text, and prints the result as
 compact text with sorted keys. PATCH is the name of the patch's file.
@@ -28,11 +28,17 @@ The texts are those of the files, or standard input where none is named; '-' is
 standard input, too. Options may come anywhere; after '--' all are operands.
 
 Options:
-  -h, --help     print this page
-  -V, --version  print the version
+  -l, --lines      take each line of an input as a text; where one is refused,
+                   report its number and go on
+  -i, --indent     indent by two spaces
+  -p, --patches N  the first N names are patches, applied in order; if not
+                   given, the first one is
+  -h, --help       print this page
+  -V, --version    print the version
 
 Exit status:
   0  each result was printed
+  1  with -l: a line is refused
   2  the arguments are not understood, or PATCH can't be read,
      is no JSON text, or has more than 1,000 nested containers
   3  an input is no JSON text, or not UTF-8
@@ -47,26 +53,6 @@ Examples:
 ",
 };
 
-/// A patch that is applied to each text.
-#[derive(Drop)]
-struct Asked {
-    patch: String,
-}
-
-impl Answer for Asked {
-    fn answer<W: Write>(
-        &self,
-        alloc: Global,
-        text: &str,
-        output: &mut W,
-    ) -> Result<Status, Failure> {
-        match write_merged(alloc, self.patch.as_str(), text, output) {
-            Ok(()) => Ok(Status::Done),
-            Err(error) => Err(apply_failure(alloc, error)),
-        }
-    }
-}
-
 fn main(rt: HostRuntime) -> ExitCode {
     let (Ok(status) | Err(status)) = run(&rt);
     ExitCode::from(status.code())
@@ -75,11 +61,25 @@ fn main(rt: HostRuntime) -> ExitCode {
 fn run(rt: &HostRuntime) -> Result<Status, Status> {
     let words = argument_words(rt, PROGRAM)?;
     let arguments = arguments_of(rt, PROGRAM, words.as_slice())?;
-    let Some((file, files)) = arguments.first() else {
+    let Some(
+        Request {
+            by_lines,
+            is_indented,
+            patches,
+            files,
+        },
+    ) = requested(&arguments)
+    else {
         return Err(misused(rt, PROGRAM, Misuse::Missing("PATCH")));
     };
-    match read_named(rt, file) {
-        Ok(patch) => Ok(answer_files(rt, PROGRAM, files, &Asked { patch })),
+    match read_patches(rt, patches) {
+        Ok(patches) => {
+            let asked = Asked {
+                patches: patches.as_slice(),
+                is_indented,
+            };
+            Ok(answer_texts(rt, PROGRAM, by_lines, files, asked))
+        }
         Err(failure) => Err(report(rt, PROGRAM, None, &failure)),
     }
 }

@@ -1,0 +1,46 @@
+//! The patches that the arguments name.
+ghost use Rattle.std.specs.Str.{chars};
+ghost use Rattle.json_merge.specs.Reading.{IsPatchFailure, ReadsMergePatch, patch_depth};
+
+use std::alloc::Global;
+use tinyjson::{JsonParseError, JsonValue};
+use tinyjson_cli::{Failure, read_named};
+
+/// How many containers may be nested in a patch: merging and freeing it take stack with its nesting.
+const PATCH_DEPTH: usize = 1_000;
+
+/// The patches of these files, in order.
+pub fn read_patches(rt: &HostRuntime, files: &[&str]) -> Result<Vec<JsonValue>, Failure> {
+    let mut patches = Vec::new(rt.alloc());
+    for file in files {
+        let text = read_named(rt, file)?;
+        let patch = read_patch(rt.alloc(), text.as_str())?;
+        if patches.push(patch).is_err() {
+            return Err(Failure::OutOfMemory);
+        }
+    }
+    Ok(patches)
+}
+
+/// The patch of a text, of at most 1,000 nested containers.
+fn read_patch(alloc: Global, text: &str) -> Result<JsonValue, Failure>
+    ensures { ReadsMergePatch (chars text.now) result }
+{
+    match JsonValue::from_str_with_depth_limit(alloc, text, PATCH_DEPTH) {
+        Ok(patch) => Ok(patch),
+        Err(error) => Err(patch_failure(alloc, error)),
+    }
+}
+
+/// The failure for a text that is no patch.
+fn patch_failure(alloc: Global, error: JsonParseError) -> Failure
+    ensures { IsPatchFailure error result }
+{
+    if error.is_out_of_memory() {
+        return Failure::OutOfMemory;
+    }
+    match format!(in alloc; "the patch: {error}") {
+        Ok(words) => Failure::Misused(words),
+        Err(_) => Failure::OutOfMemory,
+    }
+}
