@@ -376,7 +376,7 @@ static struct tinyjson_place place_of(char **fields) {
 
 static uint32_t status_of(const char *name) {
     static const char *const names[] = {"OK", "REFUSED", "NOT_UTF8", "OUT_OF_MEMORY", "TOO_SMALL", "NO_ERROR",
-                                        "NOT_FOUND", "BAD_POINTER", "BAD_PATCH", "FAILED"};
+                                        "NOT_FOUND", "BAD_POINTER", "BAD_PATCH", "FAILED", "BAD_QUERY", "PATTERN_LIMIT"};
     uint32_t status = 0;
     while (strcmp(names[status], name) != 0) {
         status++;
@@ -384,8 +384,27 @@ static uint32_t status_of(const char *name) {
     return status;
 }
 
+static uint32_t select_values(const uint8_t *text, size_t length, const uint8_t *query, size_t query_length, size_t depth,
+                              uint8_t *buffer, size_t room, struct tinyjson_place *place) {
+    return tinyjson_select(text, length, query, query_length, false, depth, buffer, room, place);
+}
+
+static uint32_t select_paths(const uint8_t *text, size_t length, const uint8_t *query, size_t query_length, size_t depth,
+                             uint8_t *buffer, size_t room, struct tinyjson_place *place) {
+    return tinyjson_select(text, length, query, query_length, true, depth, buffer, room, place);
+}
+
 static writes_of_two *call_of(const char *name) {
-    return strcmp(name, "part") == 0 ? tinyjson_part : strcmp(name, "merge") == 0 ? tinyjson_merge : tinyjson_patch;
+    static const struct {
+        const char *name;
+        writes_of_two *call;
+    } calls[] = {{"part", tinyjson_part}, {"merge", tinyjson_merge}, {"patch", tinyjson_patch},
+                 {"select", select_values}, {"select_paths", select_paths}};
+    size_t i = 0;
+    while (strcmp(calls[i].name, name) != 0) {
+        i++;
+    }
+    return calls[i].call;
 }
 
 /* A line: a call, its two texts, the limit, the status, what is written, and the place. */

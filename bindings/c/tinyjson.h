@@ -1,4 +1,4 @@
-/* tinyjson for C: JSON texts (RFC 8259) are checked, normalized, indented, compared and patched.
+/* tinyjson for C: JSON texts (RFC 8259) are checked, normalized, indented, compared, patched and searched.
  *
  * A text is `length` bytes in UTF-8, in which at most `depth` containers are open at once. A call returns a
  * status, and answers through its pointers. It keeps nothing, and shares nothing with other calls.
@@ -28,7 +28,9 @@ enum tinyjson_status {
     TINYJSON_NOT_FOUND = 6,     /* the pointer names no part */
     TINYJSON_BAD_POINTER = 7,   /* a pointer is empty, or begins with '/' and has '~' only in "~0" and "~1" */
     TINYJSON_BAD_PATCH = 8,     /* the patch is no array of operations: the place has the number of the fault */
-    TINYJSON_FAILED = 9         /* an operation can't be applied: the place has its number */
+    TINYJSON_FAILED = 9,        /* an operation can't be applied: the place has its number */
+    TINYJSON_BAD_QUERY = 10,    /* the query is none: the place has how many of its characters precede the fault */
+    TINYJSON_PATTERN_LIMIT = 11 /* a regular expression of the query or the text is too deep or too large */
 };
 
 /* Why a text is refused. Those with a character name it in `found`. */
@@ -70,8 +72,9 @@ struct tinyjson_place {
     uint32_t found; /* a code point, or a tinyjson_value */
     size_t line;    /* from 1 on */
     size_t column;  /* how many characters were consumed after the last line feed */
-    size_t length;  /* how many bytes the answer has, or precede what is not UTF-8; or an operation, from 0 on */
-    size_t text;    /* which text of the call, from 0 on: the second of two, a pointer, a line */
+    size_t length;  /* how many bytes the answer has, or precede what is not UTF-8; an operation, from 0 on; or how
+                     * many characters of a query precede its fault */
+    size_t text;    /* which text of the call, from 0 on: the second of two, a pointer, a query, a line */
 };
 
 /* Whether the text has a value: OK, or why not. */
@@ -111,6 +114,12 @@ uint32_t tinyjson_merge(const uint8_t *target, size_t length, const uint8_t *pat
  * first. The number of a fault is that of the first item that is no operation, and 0 where the patch is no array. */
 uint32_t tinyjson_patch(const uint8_t *text, size_t length, const uint8_t *patch, size_t patch_length, size_t depth,
                         uint8_t *buffer, size_t room, struct tinyjson_place *place);
+
+/* What a JSONPath query (RFC 9535) selects, into the buffer, a line each: the normal texts of the values or, with
+ * `paths`, their normalized paths. It may select nothing. The query is read first; one that is not UTF-8 is a bad one,
+ * and the place has the length of what precedes the fault. */
+uint32_t tinyjson_select(const uint8_t *text, size_t length, const uint8_t *query, size_t query_length, bool paths,
+                         size_t depth, uint8_t *buffer, size_t room, struct tinyjson_place *place);
 
 /* The message of the error at a place, into the buffer, and its length. */
 uint32_t tinyjson_message(const struct tinyjson_place *place, uint8_t *buffer, size_t room, size_t *length);

@@ -1,4 +1,4 @@
-"""JSON texts (RFC 8259), checked, normalized, indented, compared and patched by proved code.
+"""JSON texts (RFC 8259), checked, normalized, indented, compared, patched and searched by proved code.
 
 >>> import tinyjson
 >>> tinyjson.normal('{"b": [1.50, true], "a": 2e3}')
@@ -12,10 +12,11 @@ import ctypes
 import enum
 import os
 import pathlib
-from typing import Any, Callable, Optional, Union, overload
+from typing import Any, Callable, List, Optional, Sequence, Union, overload
 
-__all__ = ["DEPTH", "BadPatch", "BadPointer", "Error", "Failed", "Kind", "NotUtf8", "Refused", "Value"]
-__all__ += ["check", "equal", "indented", "is_normal", "merge", "normal", "normal_lines", "part", "patch"]
+__all__ = ["DEPTH", "BadPatch", "BadPointer", "BadQuery", "Error", "Failed", "Kind", "NotUtf8", "PatternLimit"]
+__all__ += ["Refused", "Value", "check", "equal", "indented", "is_normal", "merge", "normal", "normal_lines", "part"]
+__all__ += ["patch", "select", "select_paths"]
 
 Text = Union[str, bytes]
 
@@ -23,7 +24,7 @@ Text = Union[str, bytes]
 DEPTH = 1000
 
 _OK, _REFUSED, _NOT_UTF8, _OUT_OF_MEMORY, _TOO_SMALL, _NO_ERROR, _NOT_FOUND = range(7)
-_BAD_POINTER, _BAD_PATCH, _FAILED = range(7, 10)
+_BAD_POINTER, _BAD_PATCH, _FAILED, _BAD_QUERY, _PATTERN_LIMIT = range(7, 12)
 
 
 class Kind(enum.IntEnum):
@@ -108,6 +109,18 @@ class Failed(ValueError):
         self.operation = operation
 
 
+class BadQuery(ValueError):
+    """The query of `select` is none; this many of its characters precede the fault."""
+
+    def __init__(self, place: int) -> None:
+        super().__init__(f"not a JSONPath query at character {place}")
+        self.place = place
+
+
+class PatternLimit(ValueError):
+    """A regular expression of the query or the text is too deep or too large."""
+
+
 class _Place(ctypes.Structure):
     _fields_ = [
         ("kind", ctypes.c_uint32),
@@ -147,6 +160,7 @@ _equal = _call("tinyjson_equal", _bytes, _size, _bytes, _size, _size, ctypes.POI
 _part = _call("tinyjson_part", _bytes, _size, _bytes, _size, _size, _bytes, _size, _place)
 _merge = _call("tinyjson_merge", _bytes, _size, _bytes, _size, _size, _bytes, _size, _place)
 _patch = _call("tinyjson_patch", _bytes, _size, _bytes, _size, _size, _bytes, _size, _place)
+_select = _call("tinyjson_select", _bytes, _size, _bytes, _size, ctypes.c_bool, _size, _bytes, _size, _place)
 _words = _call("tinyjson_message", _place, _bytes, _size, ctypes.POINTER(_size))
 
 
@@ -191,14 +205,18 @@ def _raise(status: int, place: _Place) -> None:
         raise BadPatch(place.length)
     if status == _FAILED:
         raise Failed(place.length)
+    if status == _BAD_QUERY:
+        raise BadQuery(place.length)
+    if status == _PATTERN_LIMIT:
+        raise PatternLimit("a regular expression is too deep or too large")
     if status != _OK:
         raise MemoryError("tinyjson")
 
 
-def _written(call: Callable[..., int], depth: int, *texts: Text) -> Optional[bytes]:
+def _written(call: Callable[..., int], depth: int, *texts: Text, flags: Sequence[bool] = ()) -> Optional[bytes]:
     """What a call writes, into a buffer that grows to what the call asks for, or None if there is no such part."""
     data, place = [_encoded(it) for it in texts], _Place()
-    given = [it for text in data for it in (text, len(text))]
+    given = [*(it for text in data for it in (text, len(text))), *flags]
     room = len(data[0])
     while True:
         buffer = ctypes.create_string_buffer(room)
@@ -290,6 +308,37 @@ def patch(text: Text, operations: Text, depth: int = DEPTH) -> Text:
     '{"b":2}'
     """
     return _like(text, _written(_patch, depth, text, operations))
+
+
+def _selected(text: Text, query: str, depth: int, paths: bool) -> Any:
+    written = _written(_select, depth, text, query, flags=[paths]) or b""
+    return [_like(text, line) for line in written.split(b"\n")[:-1]]
+
+
+@overload
+def select(text: str, query: str, depth: int = ...) -> List[str]: ...
+@overload
+def select(text: bytes, query: str, depth: int = ...) -> List[bytes]: ...
+def select(text: Text, query: str, depth: int = DEPTH) -> Any:
+    """The normal text of each value that a JSONPath query (RFC 9535) selects.
+
+    >>> select('{"a": [{"b": 1.0}, {"b": 2}]}', "$.a[?@.b > 1]")
+    ['{"b":2}']
+    """
+    return _selected(text, query, depth, False)
+
+
+@overload
+def select_paths(text: str, query: str, depth: int = ...) -> List[str]: ...
+@overload
+def select_paths(text: bytes, query: str, depth: int = ...) -> List[bytes]: ...
+def select_paths(text: Text, query: str, depth: int = DEPTH) -> Any:
+    """The normalized path of each value that a JSONPath query (RFC 9535) selects.
+
+    >>> select_paths('{"a": [1, 2]}', "$.a[-1:]")
+    ["$['a'][1]"]
+    """
+    return _selected(text, query, depth, True)
 
 
 def is_normal(text: Text) -> bool:

@@ -1,4 +1,4 @@
-//! JSON texts (RFC 8259), checked, normalized, indented, compared and patched by proved code.
+//! JSON texts (RFC 8259), checked, normalized, indented, compared, patched and searched by proved code.
 //!
 //! ```
 //! let text = r#"{"b": [1.50, true], "a": 2e3}"#;
@@ -86,6 +86,10 @@ pub enum Error {
     BadPatch { operation: usize },
     /// The operation of this number, from 0 on, can't be applied.
     Failed { operation: usize },
+    /// The query of [`select`] is none; this many of its characters precede the fault.
+    BadQuery { place: usize },
+    /// A regular expression of the query or the text is too deep or too large.
+    PatternLimit,
     /// Memory ran out. The text may have a value or not.
     OutOfMemory,
 }
@@ -114,6 +118,8 @@ impl fmt::Display for Error {
                 write!(f, "Not a JSON patch: no operation {operation}")
             }
             Error::Failed { operation } => write!(f, "Operation {operation} can't be applied"),
+            Error::BadQuery { place } => write!(f, "Not a JSONPath query at character {place}"),
+            Error::PatternLimit => f.write_str("A regular expression is too deep or too large"),
             Error::OutOfMemory => f.write_str("Out of memory"),
         }
     }
@@ -249,6 +255,46 @@ pub fn patch(
     )
 }
 
+/// The normal text of each value that a JSONPath query (RFC 9535) selects in a text.
+///
+/// ```
+/// use tinyjson_proved::{select, Error};
+///
+/// let text = r#"{"a": [{"b": 1.0}, {"b": 2}]}"#;
+/// assert_eq!(select(text, "$.a[?@.b > 1]", 9)?, [r#"{"b":2}"#]);
+/// assert_eq!(select(text, "$.a[01]", 9), Err(Error::BadQuery { place: 5 }));
+/// # Ok::<(), Error>(())
+/// ```
+pub fn select(text: impl AsRef<[u8]>, query: &str, depth: usize) -> Result<Vec<String>, Error> {
+    selected(text.as_ref(), query, false, depth)
+}
+
+/// The normalized path of each value that a JSONPath query (RFC 9535) selects in a text.
+///
+/// ```
+/// let paths = tinyjson_proved::select_paths(r#"{"a": [1, 2]}"#, "$.a[-1:]", 9)?;
+/// assert_eq!(paths, ["$['a'][1]"]);
+/// # Ok::<(), tinyjson_proved::Error>(())
+/// ```
+pub fn select_paths(
+    text: impl AsRef<[u8]>,
+    query: &str,
+    depth: usize,
+) -> Result<Vec<String>, Error> {
+    selected(text.as_ref(), query, true, depth)
+}
+
+fn selected(text: &[u8], query: &str, paths: bool, depth: usize) -> Result<Vec<String>, Error> {
+    let lines = written(text.len(), |buffer| {
+        sys::select(text, query, paths, depth, buffer)
+    })?;
+    Ok(lines
+        .unwrap_or_default()
+        .split_terminator('\n')
+        .map(str::to_owned)
+        .collect())
+}
+
 /// What a call writes that has an answer for each two texts with which it does not fail.
 fn changed(
     call: sys::WritesOfTwo,
@@ -318,6 +364,10 @@ fn answer(status: Status, place: &Place) -> Result<(), Error> {
         Status::FAILED => Err(Error::Failed {
             operation: place.length,
         }),
+        Status::BAD_QUERY => Err(Error::BadQuery {
+            place: place.length,
+        }),
+        Status::PATTERN_LIMIT => Err(Error::PatternLimit),
         Status::REFUSED => match kind(place.kind, place.found) {
             Some(kind) => Err(Error::Refused {
                 kind,

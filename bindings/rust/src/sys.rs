@@ -14,6 +14,8 @@ impl Status {
     pub(crate) const BAD_POINTER: Status = Status(7);
     pub(crate) const BAD_PATCH: Status = Status(8);
     pub(crate) const FAILED: Status = Status(9);
+    pub(crate) const BAD_QUERY: Status = Status(10);
+    pub(crate) const PATTERN_LIMIT: Status = Status(11);
 }
 
 /// What a call answers besides its status.
@@ -110,6 +112,17 @@ extern "C" {
         room: usize,
         place: *mut Place,
     ) -> Status;
+    fn tinyjson_select(
+        text: *const u8,
+        length: usize,
+        query: *const u8,
+        query_length: usize,
+        paths: bool,
+        depth: usize,
+        buffer: *mut u8,
+        room: usize,
+        place: *mut Place,
+    ) -> Status;
     fn tinyjson_message(
         place: *const Place,
         buffer: *mut u8,
@@ -173,6 +186,32 @@ pub(crate) fn write_of_two(
             first.len(),
             front,
             length,
+            depth,
+            target,
+            room,
+            &mut place,
+        )
+    };
+    (status, place)
+}
+
+pub(crate) fn select(
+    text: &[u8],
+    query: &str,
+    paths: bool,
+    depth: usize,
+    buffer: &mut [u8],
+) -> (Status, Place) {
+    let mut place = Place::default();
+    let (front, length) = (query.as_ptr(), query.len());
+    let (room, target) = (buffer.len(), buffer.as_mut_ptr());
+    let status = unsafe {
+        tinyjson_select(
+            text.as_ptr(),
+            text.len(),
+            front,
+            length,
+            paths,
             depth,
             target,
             room,

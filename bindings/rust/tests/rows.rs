@@ -2,7 +2,8 @@
 use std::thread;
 
 use tinyjson_proved::{
-    check, equal, indented, is_normal, merge, normal, normal_lines, part, patch, Error, Kind,
+    check, equal, indented, is_normal, merge, normal, normal_lines, part, patch, select,
+    select_paths, Error, Kind,
 };
 
 /// A line of the file: a text, its limit, and what is expected of it.
@@ -182,12 +183,17 @@ fn answers_each_pair() {
             ("BAD_POINTER", _) => Err(Error::BadPointer),
             ("BAD_PATCH", _) => Err(Error::BadPatch { operation }),
             ("FAILED", _) => Err(Error::Failed { operation }),
+            ("BAD_QUERY", _) => Err(Error::BadQuery { place: operation }),
+            ("PATTERN_LIMIT", _) => Err(Error::PatternLimit),
             (_, "0") => Err(error_of(&one, depth, 0)),
             _ => Err(error_of(&other, depth.min(1000), 1)),
         };
+        let lines = |found: Vec<String>| Some(found.iter().map(|line| format!("{line}\n")).collect());
         let answer = match (fields[0], std::str::from_utf8(&other)) {
             ("part", Ok(pointer)) => part(&one, pointer, depth),
-            ("part", Err(_)) => continue,
+            ("select", Ok(query)) => select(&one, query, depth).map(lines),
+            ("select_paths", Ok(query)) => select_paths(&one, query, depth).map(lines),
+            ("part" | "select" | "select_paths", Err(_)) => continue,
             ("patch", _) => patch(&one, &other, depth).map(Some),
             _ => merge(&one, &other, depth).map(Some),
         };

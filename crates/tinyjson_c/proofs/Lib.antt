@@ -4,3 +4,5 @@ pub mod Stopping
 pub mod Equal
 -- One line more.
 pub mod Growing
+-- What a query selects in a text.
+pub mod Selecting

@@ -14,3 +14,5 @@ pub mod Lines
 pub mod Merge
 -- The tree of a text after the operations of a patch.
 pub mod Patch
+-- What a query selects in a text.
+pub mod Select

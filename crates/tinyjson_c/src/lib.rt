@@ -14,10 +14,14 @@ ghost use Rattle.tinyjson_c.specs.Merge.{Merges, patch_depth};
 ghost use Rattle.tinyjson_c.specs.Message.{error_words};
 ghost use Rattle.tinyjson_c.specs.Part.{IsBadPointer, IsNoText, Leads};
 ghost use Rattle.tinyjson_c.specs.Patch.{Fails, IsBadPatch, Patches};
-ghost use Rattle.tinyjson_c.specs.Place.{IsError, length_place};
+ghost use Rattle.tinyjson_c.specs.Place.{IsError, length_place, memory_place};
+ghost use Rattle.tinyjson_c.specs.Select.{HasLargePattern, IsBadQuery, IsQueryOf, Selects};
+ghost use Rattle.tinyjson_c.specs.Select.{part_lines};
 ghost use Rattle.tinyjson_c.specs.Stop.{IsAcceptedText, IsTextOf, Stops};
 ghost use Rattle.tinyjson_grammar.specs.Refusal.{MayGrow};
 ghost use Rattle.tinyjson_normal.specs.Normal.{IsNormal};
+ghost use Rattle.tinyjson_path.specs.Nodes.{Part};
+ghost use Rattle.tinyjson_path.specs.Query.{Query};
 
 mod buffer;
 mod lines;
@@ -26,6 +30,7 @@ mod message;
 mod part;
 mod patch;
 mod place;
+mod select;
 mod status;
 mod stop;
 mod text;
@@ -35,8 +40,8 @@ use buffer::{fill, put};
 use message::{Message, kind_at};
 pub use place::TinyjsonPlace;
 pub use status::{
-    BAD_PATCH, BAD_POINTER, FAILED, NO_ERROR, NOT_FOUND, NOT_UTF8, OK, OUT_OF_MEMORY, REFUSED,
-    TOO_SMALL,
+    BAD_PATCH, BAD_POINTER, BAD_QUERY, FAILED, NO_ERROR, NOT_FOUND, NOT_UTF8, OK, OUT_OF_MEMORY,
+    PATTERN_LIMIT, REFUSED, TOO_SMALL,
 };
 use std::alloc::Global;
 use stop::text_of;
@@ -277,6 +282,42 @@ pub extern "C" fn tinyjson_patch(
     match patch::patched(alloc, text, patch, depth) {
         Ok(written) => put(&written, buffer, place),
         Err(none) => none.put(place),
+    }
+}
+
+/// Writes a line for each value that a JSONPath query (RFC 9535) selects in a text to the front of a buffer, if
+/// they fit: its normal form, or its normalized path. The query is read first. If it is no query, the length is
+/// how many characters are before the fault, or bytes if it is not UTF-8.
+#[unsafe(no_mangle)]
+pub extern "C" fn tinyjson_select(
+    alloc: Global,
+    text: &[u8],
+    query: &[u8],
+    paths: bool,
+    depth: usize,
+    buffer: &mut [u8],
+    place: &mut TinyjsonPlace,
+) -> u32
+    ensures written { result ≡ OK → (ps : List Part)
+        × Selects (Some depth) text.now query.now ps
+        × HasWritten (part_lines paths ps) buffer.old buffer.new place.new }
+    ensures too_small { result ≡ TOO_SMALL → (ps : List Part)
+        × Selects (Some depth) text.now query.now ps
+        × LacksRoom (part_lines paths ps) buffer.old place.new }
+    ensures bad_query { result ≡ BAD_QUERY → (n : ℕ) × IsBadQuery query.now n
+        × (place.new ≡ length_place 1 n) }
+    ensures limit { result ≡ PATTERN_LIMIT → HasLargePattern (Some depth) text.now query.now
+        × (place.new ≡ length_place 0 0) }
+    ensures memory { result ≡ OUT_OF_MEMORY → place.new ≡ memory_place 0 }
+    ensures stopped { result ≢ OK → result ≢ TOO_SMALL → result ≢ BAD_QUERY
+        → result ≢ PATTERN_LIMIT → result ≢ OUT_OF_MEMORY
+        → ((q : Query) × IsQueryOf query.now q)
+        × Stops (Some depth) text.now 0 result place.new }
+    ensures left { result ≢ OK → buffer.new ≡ buffer.old }
+{
+    match select::selected(alloc, text, query, paths, depth) {
+        Ok(written) => put(&written, buffer, place),
+        Err(error) => error.put(0, place),
     }
 }
 

@@ -20,3 +20,7 @@ pub const BAD_POINTER: u32 = 7;
 pub const BAD_PATCH: u32 = 8;
 /// An operation of the patch can't be applied.
 pub const FAILED: u32 = 9;
+/// The text of the query is not a query.
+pub const BAD_QUERY: u32 = 10;
+/// A regular expression of the query or the text is too deep or too large.
+pub const PATTERN_LIMIT: u32 = 11;
