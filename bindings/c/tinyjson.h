@@ -121,6 +121,12 @@ uint32_t tinyjson_patch(const uint8_t *text, size_t length, const uint8_t *patch
 uint32_t tinyjson_select(const uint8_t *text, size_t length, const uint8_t *query, size_t query_length, bool paths,
                          size_t depth, uint8_t *buffer, size_t room, struct tinyjson_place *place);
 
+/* What tinyjson_select writes of each line, with an empty line behind it, into the buffer. The last line may lack its
+ * line feed. A line without a value, or with a regular expression above the limits, stops the call: `text` is its
+ * number, from 0 on. */
+uint32_t tinyjson_select_lines(const uint8_t *text, size_t length, const uint8_t *query, size_t query_length, bool paths,
+                               size_t depth, uint8_t *buffer, size_t room, struct tinyjson_place *place);
+
 /* The message of the error at a place, into the buffer, and its length. */
 uint32_t tinyjson_message(const struct tinyjson_place *place, uint8_t *buffer, size_t room, size_t *length);
 

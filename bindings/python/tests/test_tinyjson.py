@@ -114,8 +114,17 @@ RAISED = {
     "BAD_PATCH": (tinyjson.BadPatch, {"operation": 4}),
     "FAILED": (tinyjson.Failed, {"operation": 4}),
     "BAD_QUERY": (tinyjson.BadQuery, {"place": 4}),
-    "PATTERN_LIMIT": (tinyjson.PatternLimit, {}),
+    "PATTERN_LIMIT": (tinyjson.PatternLimit, {"text": 5}),
 }
+
+
+def lists(written, feed):
+    """The lines of each text, behind which is an empty line."""
+    texts = []
+    while written:
+        front, feeds, written = written.partition(feed + feed) if not written.startswith(feed) else ("", feed, written[1:])
+        texts.append(front.split(feed) if front else [])
+    return texts
 
 
 class Pairs(unittest.TestCase):
@@ -123,6 +132,8 @@ class Pairs(unittest.TestCase):
         words = None if written is None else written.decode()
         if call in (tinyjson.select, tinyjson.select_paths):
             written, words = written.split(b"\n")[:-1], words.split("\n")[:-1]
+        elif call in (tinyjson.select_lines, tinyjson.select_lines_paths):
+            written, words = lists(written, b"\n"), lists(words, "\n")
         self.assertEqual(call(one, other, depth), written)
         self.assertEqual(call(one.decode(), other.decode(), depth), words)
 

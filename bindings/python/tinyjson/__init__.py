@@ -16,7 +16,7 @@ from typing import Any, Callable, List, Optional, Sequence, Union, overload
 
 __all__ = ["DEPTH", "BadPatch", "BadPointer", "BadQuery", "Error", "Failed", "Kind", "NotUtf8", "PatternLimit"]
 __all__ += ["Refused", "Value", "check", "equal", "indented", "is_normal", "merge", "normal", "normal_lines", "part"]
-__all__ += ["patch", "select", "select_paths"]
+__all__ += ["patch", "select", "select_lines", "select_lines_paths", "select_paths"]
 
 Text = Union[str, bytes]
 
@@ -118,7 +118,11 @@ class BadQuery(ValueError):
 
 
 class PatternLimit(ValueError):
-    """A regular expression of the query or the text is too deep or too large."""
+    """A regular expression of the query or the text, which is this line of `select_lines`, is too deep or too large."""
+
+    def __init__(self, text: int) -> None:
+        super().__init__("a regular expression is too deep or too large")
+        self.text = text
 
 
 class _Place(ctypes.Structure):
@@ -161,6 +165,7 @@ _part = _call("tinyjson_part", _bytes, _size, _bytes, _size, _size, _bytes, _siz
 _merge = _call("tinyjson_merge", _bytes, _size, _bytes, _size, _size, _bytes, _size, _place)
 _patch = _call("tinyjson_patch", _bytes, _size, _bytes, _size, _size, _bytes, _size, _place)
 _select = _call("tinyjson_select", _bytes, _size, _bytes, _size, ctypes.c_bool, _size, _bytes, _size, _place)
+_select_lines = _call("tinyjson_select_lines", _bytes, _size, _bytes, _size, ctypes.c_bool, _size, _bytes, _size, _place)
 _words = _call("tinyjson_message", _place, _bytes, _size, ctypes.POINTER(_size))
 
 
@@ -208,7 +213,7 @@ def _raise(status: int, place: _Place) -> None:
     if status == _BAD_QUERY:
         raise BadQuery(place.length)
     if status == _PATTERN_LIMIT:
-        raise PatternLimit("a regular expression is too deep or too large")
+        raise PatternLimit(place.text)
     if status != _OK:
         raise MemoryError("tinyjson")
 
@@ -339,6 +344,39 @@ def select_paths(text: Text, query: str, depth: int = DEPTH) -> Any:
     ["$['a'][1]"]
     """
     return _selected(text, query, depth, True)
+
+
+def _selected_lines(text: Text, query: str, depth: int, paths: bool) -> Any:
+    """An empty line ends what is selected of a line."""
+    found: List[List[Text]] = [[]]
+    for line in (_written(_select_lines, depth, text, query, flags=[paths]) or b"").split(b"\n")[:-1]:
+        if line:
+            found[-1].append(_like(text, line))
+        else:
+            found.append([])
+    return found[:-1]
+
+
+@overload
+def select_lines(text: str, query: str, depth: int = ...) -> List[List[str]]: ...
+@overload
+def select_lines(text: bytes, query: str, depth: int = ...) -> List[List[bytes]]: ...
+def select_lines(text: Text, query: str, depth: int = DEPTH) -> Any:
+    """What `select` returns of each line. The last line may lack its line feed.
+
+    >>> select_lines("[1.0,2]\\n{}", "$[*]")
+    [['1', '2'], []]
+    """
+    return _selected_lines(text, query, depth, False)
+
+
+@overload
+def select_lines_paths(text: str, query: str, depth: int = ...) -> List[List[str]]: ...
+@overload
+def select_lines_paths(text: bytes, query: str, depth: int = ...) -> List[List[bytes]]: ...
+def select_lines_paths(text: Text, query: str, depth: int = DEPTH) -> Any:
+    """What `select_paths` returns of each line. The last line may lack its line feed."""
+    return _selected_lines(text, query, depth, True)
 
 
 def is_normal(text: Text) -> bool:

@@ -74,7 +74,7 @@ pub enum Error {
         /// How many characters were consumed after the last line feed.
         column: usize,
         /// Which text of the call this is, from 0 on: the second one of [`equal`], the patch of [`merge`] and
-        /// [`patch`], the pointer of [`part`], or a line of [`normal_lines`].
+        /// [`patch`], the pointer of [`part`], or a line of [`normal_lines`] and [`select_lines`].
         text: usize,
     },
     /// The bytes are not UTF-8 after `valid_up_to` of them.
@@ -88,8 +88,8 @@ pub enum Error {
     Failed { operation: usize },
     /// The query of [`select`] is none; this many of its characters precede the fault.
     BadQuery { place: usize },
-    /// A regular expression of the query or the text is too deep or too large.
-    PatternLimit,
+    /// A regular expression of the query or the text, which is this line of [`select_lines`], is too deep or too large.
+    PatternLimit { text: usize },
     /// Memory ran out. The text may have a value or not.
     OutOfMemory,
 }
@@ -119,7 +119,9 @@ impl fmt::Display for Error {
             }
             Error::Failed { operation } => write!(f, "Operation {operation} can't be applied"),
             Error::BadQuery { place } => write!(f, "Not a JSONPath query at character {place}"),
-            Error::PatternLimit => f.write_str("A regular expression is too deep or too large"),
+            Error::PatternLimit { .. } => {
+                f.write_str("A regular expression is too deep or too large")
+            }
             Error::OutOfMemory => f.write_str("Out of memory"),
         }
     }
@@ -286,13 +288,68 @@ pub fn select_paths(
 
 fn selected(text: &[u8], query: &str, paths: bool, depth: usize) -> Result<Vec<String>, Error> {
     let lines = written(text.len(), |buffer| {
-        sys::select(text, query, paths, depth, buffer)
+        sys::select(sys::tinyjson_select, text, query, paths, depth, buffer)
     })?;
-    Ok(lines
-        .unwrap_or_default()
-        .split_terminator('\n')
-        .map(str::to_owned)
-        .collect())
+    let lines = lines.unwrap_or_default();
+    Ok(lines.split_terminator('\n').map(str::to_owned).collect())
+}
+
+/// What [`select`] returns of each line. The last line may lack its line feed.
+///
+/// ```
+/// let found = tinyjson_proved::select_lines("[1.0,2]\n{}", "$[*]", 9)?;
+/// assert_eq!(found, [vec!["1", "2"], vec![]]);
+/// # Ok::<(), tinyjson_proved::Error>(())
+/// ```
+pub fn select_lines(
+    text: impl AsRef<[u8]>,
+    query: &str,
+    depth: usize,
+) -> Result<Vec<Vec<String>>, Error> {
+    selected_lines(text.as_ref(), query, false, depth)
+}
+
+/// What [`select_paths`] returns of each line. The last line may lack its line feed.
+///
+/// ```
+/// let found = tinyjson_proved::select_lines_paths("[1]\n[[2]]", "$..[?@ > 0]", 9)?;
+/// assert_eq!(found, [["$[0]"], ["$[0][0]"]]);
+/// # Ok::<(), tinyjson_proved::Error>(())
+/// ```
+pub fn select_lines_paths(
+    text: impl AsRef<[u8]>,
+    query: &str,
+    depth: usize,
+) -> Result<Vec<Vec<String>>, Error> {
+    selected_lines(text.as_ref(), query, true, depth)
+}
+
+/// An empty line ends what is selected of a line.
+fn selected_lines(
+    text: &[u8],
+    query: &str,
+    paths: bool,
+    depth: usize,
+) -> Result<Vec<Vec<String>>, Error> {
+    let written = written(text.len(), |buffer| {
+        sys::select(
+            sys::tinyjson_select_lines,
+            text,
+            query,
+            paths,
+            depth,
+            buffer,
+        )
+    })?;
+    let (mut found, mut of_line) = (Vec::new(), Vec::new());
+    for line in written.unwrap_or_default().split_terminator('\n') {
+        if line.is_empty() {
+            found.push(std::mem::take(&mut of_line));
+        } else {
+            of_line.push(line.to_owned());
+        }
+    }
+    Ok(found)
 }
 
 /// What a call writes that has an answer for each two texts with which it does not fail.
@@ -367,7 +424,7 @@ fn answer(status: Status, place: &Place) -> Result<(), Error> {
         Status::BAD_QUERY => Err(Error::BadQuery {
             place: place.length,
         }),
-        Status::PATTERN_LIMIT => Err(Error::PatternLimit),
+        Status::PATTERN_LIMIT => Err(Error::PatternLimit { text }),
         Status::REFUSED => match kind(place.kind, place.found) {
             Some(kind) => Err(Error::Refused {
                 kind,

@@ -46,6 +46,19 @@ pub(crate) type WritesOfTwo = unsafe extern "C" fn(
     *mut Place,
 ) -> Status;
 
+/// A call that writes what a query selects.
+pub(crate) type Selects = unsafe extern "C" fn(
+    *const u8,
+    usize,
+    *const u8,
+    usize,
+    bool,
+    usize,
+    *mut u8,
+    usize,
+    *mut Place,
+) -> Status;
+
 extern "C" {
     fn tinyjson_check(text: *const u8, length: usize, depth: usize, place: *mut Place) -> Status;
     pub(crate) fn tinyjson_normal(
@@ -112,7 +125,18 @@ extern "C" {
         room: usize,
         place: *mut Place,
     ) -> Status;
-    fn tinyjson_select(
+    pub(crate) fn tinyjson_select(
+        text: *const u8,
+        length: usize,
+        query: *const u8,
+        query_length: usize,
+        paths: bool,
+        depth: usize,
+        buffer: *mut u8,
+        room: usize,
+        place: *mut Place,
+    ) -> Status;
+    pub(crate) fn tinyjson_select_lines(
         text: *const u8,
         length: usize,
         query: *const u8,
@@ -196,6 +220,7 @@ pub(crate) fn write_of_two(
 }
 
 pub(crate) fn select(
+    call: Selects,
     text: &[u8],
     query: &str,
     paths: bool,
@@ -206,7 +231,7 @@ pub(crate) fn select(
     let (front, length) = (query.as_ptr(), query.len());
     let (room, target) = (buffer.len(), buffer.as_mut_ptr());
     let status = unsafe {
-        tinyjson_select(
+        call(
             text.as_ptr(),
             text.len(),
             front,

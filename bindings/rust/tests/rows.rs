@@ -3,7 +3,7 @@ use std::thread;
 
 use tinyjson_proved::{
     check, equal, indented, is_normal, merge, normal, normal_lines, part, patch, select,
-    select_paths, Error, Kind,
+    select_lines, select_lines_paths, select_paths, Error, Kind,
 };
 
 /// A line of the file: a text, its limit, and what is expected of it.
@@ -184,16 +184,33 @@ fn answers_each_pair() {
             ("BAD_PATCH", _) => Err(Error::BadPatch { operation }),
             ("FAILED", _) => Err(Error::Failed { operation }),
             ("BAD_QUERY", _) => Err(Error::BadQuery { place: operation }),
-            ("PATTERN_LIMIT", _) => Err(Error::PatternLimit),
+            ("PATTERN_LIMIT", number) => Err(Error::PatternLimit {
+                text: number.parse().unwrap(),
+            }),
+            (_, number) if fields[0].starts_with("select_lines") => {
+                let number = number.parse().unwrap();
+                let line = one.split(|byte| *byte == b'\n').nth(number).unwrap();
+                Err(error_of(line, depth, number))
+            }
             (_, "0") => Err(error_of(&one, depth, 0)),
             _ => Err(error_of(&other, depth.min(1000), 1)),
         };
-        let lines = |found: Vec<String>| Some(found.iter().map(|line| format!("{line}\n")).collect());
+        let lines =
+            |found: Vec<String>| Some(found.iter().map(|line| format!("{line}\n")).collect());
+        let all = |found: Vec<Vec<String>>| {
+            let texts = found.into_iter().filter_map(lines);
+            Some(texts.map(|text| text + "\n").collect())
+        };
         let answer = match (fields[0], std::str::from_utf8(&other)) {
             ("part", Ok(pointer)) => part(&one, pointer, depth),
             ("select", Ok(query)) => select(&one, query, depth).map(lines),
             ("select_paths", Ok(query)) => select_paths(&one, query, depth).map(lines),
-            ("part" | "select" | "select_paths", Err(_)) => continue,
+            ("select_lines", Ok(query)) => select_lines(&one, query, depth).map(all),
+            ("select_lines_paths", Ok(query)) => select_lines_paths(&one, query, depth).map(all),
+            (
+                "part" | "select" | "select_paths" | "select_lines" | "select_lines_paths",
+                Err(_),
+            ) => continue,
             ("patch", _) => patch(&one, &other, depth).map(Some),
             _ => merge(&one, &other, depth).map(Some),
         };

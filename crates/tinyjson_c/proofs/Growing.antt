@@ -1,6 +1,6 @@
 -- One line more.
-use Rattle.std.proofs.Common.{◌≡◌, ◌≢◌, ℕ, ◌==◌, ◌+◌, Bool, false, List, [], ◌∷◌, ◌++◌, Option, refl, sym, ap, ◌∙◌, ◌≤◌, subst, length, arith, append_assoc, append-nil, length-append, length-drop}
-use Rattle.std.proofs.lemmas.Bool.{false≢true}
+use Rattle.std.proofs.Common.{◌≡◌, ◌≢◌, ℕ, ◌==◌, ◌+◌, Bool, true, false, List, [], ◌∷◌, ◌++◌, Option, refl, sym, ap, ◌∙◌, ◌≤◌, subst, length, arith, append_assoc, append-nil, length-append, length-drop}
+use Rattle.std.proofs.lemmas.Bool.{eqb-true, false≢true}
 use Rattle.std.specs.Prelude.{encode_utf8_all}
 use Rattle.tinyjson.specs.Text.{compact}
 use Rattle.tinyjson_c.specs.Lines.{AreFirst, first_line, later_lines, lines_text}
@@ -34,18 +34,29 @@ abbrev pub HasRead : Option ℕ → List ℕ → List ℕ → List ℕ → ℕ �
 HasRead limit bytes rest written number =
     (ts : List Tree) × AreFirst limit bytes ts rest × (written ≡ lines_text ts) × (number ≡ length ts)
 
-pub one_more : (limit : Option ℕ) (bytes rest line later old new : List ℕ) (number : ℕ) → HasRead limit bytes rest old number → rest ≢ []
-    → line ≡ first_line rest → later ≡ later_lines rest
-    → (t : Tree) × IsTextOf limit line t × (new ≡ old ++ (encode_utf8_all (compact t) ++ line_feed ∷ []))
-    → HasRead limit bytes later new (number + 1)
-one_more limit bytes rest line later old new number i more first after w =
+-- these lines were read, and what is made of their trees is written
+abbrev pub HasMade : (List Tree → List ℕ) → Option ℕ → List ℕ → List ℕ → List ℕ → ℕ → Type 0
+HasMade made limit bytes rest written number =
+    (ts : List Tree) × AreFirst limit bytes ts rest × (written ≡ made ts) × (number ≡ length ts)
+
+pub one_more_made : (made : List Tree → List ℕ) (of : Tree → List ℕ) → ((ts : List Tree) (t : Tree) → made (ts ++ t ∷ []) ≡ made ts ++ of t)
+    → (limit : Option ℕ) (bytes rest line later old new : List ℕ) (number : ℕ) → HasMade made limit bytes rest old number → rest ≢ []
+    → line ≡ first_line rest → later ≡ later_lines rest → (t : Tree) × IsTextOf limit line t × (new ≡ old ++ of t)
+    → HasMade made limit bytes later new (number + 1)
+one_more_made made of grows limit bytes rest line later old new number i more first after w =
     let P : List ℕ → Type 0 = λ z. AreFirst limit bytes (i.0 ++ w.0 ∷ []) z in
     let Q : List ℕ → Type 0 = λ z. IsTextOf limit z w.0 in (
       i.0 ++ w.0 ∷ [],
       subst P (sym after) (first_more limit bytes i.0 rest w.0 i.1 more (subst Q first w.1)),
-      w.2 ∙ (ap (λ x. x ++ (encode_utf8_all (compact w.0) ++ line_feed ∷ [])) i.2 ∙ sym (lines_more i.0 w.0)),
+      w.2 ∙ (ap (λ x. x ++ of w.0) i.2 ∙ sym (grows i.0 w.0)),
       ap (λ n. n + 1) i.3 ∙ sym (length_more i.0 w.0),
     )
+
+pub one_more : (limit : Option ℕ) (bytes rest line later old new : List ℕ) (number : ℕ) → HasRead limit bytes rest old number → rest ≢ []
+    → line ≡ first_line rest → later ≡ later_lines rest
+    → (t : Tree) × IsTextOf limit line t × (new ≡ old ++ (encode_utf8_all (compact t) ++ line_feed ∷ []))
+    → HasRead limit bytes later new (number + 1)
+one_more = one_more_made lines_text (λ t. encode_utf8_all (compact t) ++ line_feed ∷ []) lines_more
 
 pub counted : (bytes rest later : List ℕ) (number : ℕ) → number + length rest ≤ length bytes → rest ≢ [] → later ≡ later_lines rest
     → number + 1 + length later ≤ length bytes
@@ -59,3 +70,7 @@ counted bytes rest later number h more after =
 pub not_empty : (bytes : List ℕ) (is_empty : Bool) → is_empty ≡ (length bytes == 0) → is_empty ≡ false → bytes ≢ []
 not_empty [] is_empty e f = λ h. false≢true (sym f ∙ e)
 not_empty (b ∷ bs) is_empty e f = λ h. cc
+
+pub empty : (bytes : List ℕ) (is_empty : Bool) → is_empty ≡ (length bytes == 0) → is_empty ≡ true → bytes ≡ []
+empty [] is_empty e f = refl
+empty (b ∷ bs) is_empty e f = let none = eqb-true (length (b ∷ bs)) 0 (sym e ∙ f) in absurd (omega arith)

@@ -6,3 +6,5 @@ pub mod Equal
 pub mod Growing
 -- What a query selects in a text.
 pub mod Selecting
+-- What a query selects in texts that are lines.
+pub mod SelectingLines

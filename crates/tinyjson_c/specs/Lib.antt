@@ -16,3 +16,5 @@ pub mod Merge
 pub mod Patch
 -- What a query selects in a text.
 pub mod Select
+-- What a query selects in texts that are lines.
+pub mod SelectLines

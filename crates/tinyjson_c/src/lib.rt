@@ -17,6 +17,7 @@ ghost use Rattle.tinyjson_c.specs.Patch.{Fails, IsBadPatch, Patches};
 ghost use Rattle.tinyjson_c.specs.Place.{IsError, length_place, memory_place};
 ghost use Rattle.tinyjson_c.specs.Select.{HasLargePattern, IsBadQuery, IsQueryOf, Selects};
 ghost use Rattle.tinyjson_c.specs.Select.{part_lines};
+ghost use Rattle.tinyjson_c.specs.SelectLines.{IsLineAt, SelectsLines};
 ghost use Rattle.tinyjson_c.specs.Stop.{IsAcceptedText, IsTextOf, Stops};
 ghost use Rattle.tinyjson_grammar.specs.Refusal.{MayGrow};
 ghost use Rattle.tinyjson_normal.specs.Normal.{IsNormal};
@@ -31,6 +32,7 @@ mod part;
 mod patch;
 mod place;
 mod select;
+mod select_lines;
 mod status;
 mod stop;
 mod text;
@@ -318,6 +320,43 @@ pub extern "C" fn tinyjson_select(
     match select::selected(alloc, text, query, paths, depth) {
         Ok(written) => put(&written, buffer, place),
         Err(error) => error.put(0, place),
+    }
+}
+
+/// Writes what `tinyjson_select` writes of each line, with an empty line after it, to the front of a buffer, if
+/// it all fits. The last line may lack its line feed. If a line is no JSON, or a regular expression that it needs
+/// exceeds a limit, the place is that in the line, and has the number of lines before it.
+#[unsafe(no_mangle)]
+pub extern "C" fn tinyjson_select_lines(
+    alloc: Global,
+    text: &[u8],
+    query: &[u8],
+    paths: bool,
+    depth: usize,
+    buffer: &mut [u8],
+    place: &mut TinyjsonPlace,
+) -> u32
+    ensures written { result ≡ OK → (bs : List ℕ)
+        × SelectsLines (Some depth) text.now query.now paths bs
+        × HasWritten bs buffer.old buffer.new place.new }
+    ensures too_small { result ≡ TOO_SMALL → (bs : List ℕ)
+        × SelectsLines (Some depth) text.now query.now paths bs
+        × LacksRoom bs buffer.old place.new }
+    ensures bad_query { result ≡ BAD_QUERY → (n : ℕ) × IsBadQuery query.now n
+        × (place.new ≡ length_place 1 n) }
+    ensures limit { result ≡ PATTERN_LIMIT → (n : ℕ) × (line : List ℕ)
+        × IsLineAt (Some depth) text.now n line
+        × HasLargePattern (Some depth) line query.now × (place.new ≡ length_place n 0) }
+    ensures memory { result ≡ OUT_OF_MEMORY → (n : ℕ) × (place.new ≡ memory_place n) }
+    ensures stopped { result ≢ OK → result ≢ TOO_SMALL → result ≢ BAD_QUERY
+        → result ≢ PATTERN_LIMIT → result ≢ OUT_OF_MEMORY
+        → ((q : Query) × IsQueryOf query.now q)
+        × StopsAtLine (Some depth) text.now result place.new }
+    ensures left { result ≢ OK → buffer.new ≡ buffer.old }
+{
+    match select_lines::select_lines(alloc, text, query, paths, depth) {
+        Ok(written) => put(&written, buffer, place),
+        Err(line) => line.error.put(line.number, place),
     }
 }
 

@@ -45,7 +45,7 @@ pub(crate) fn normal_lines(
 }
 
 /// The first line without its line feed, and the lines after it.
-fn split_line(bytes: &[u8]) -> (&[u8], &[u8])
+pub(crate) fn split_line(bytes: &[u8]) -> (&[u8], &[u8])
     ensures line { result.0.now ≡ first_line bytes.now }
     ensures later { result.1.now ≡ later_lines bytes.now }
 {
