@@ -1,5 +1,6 @@
-"""Rows of `json_schema`: a value, or each line of some, checked against a schema (JSON Schema 2020-12, drafts 6 and 7)."""
+"""Rows of `json_schema`: a value, or each line of some, checked against a schema (JSON Schema 2020-12, drafts 4, 6 and 7)."""
 
+import itertools
 import json
 import os
 
@@ -699,32 +700,40 @@ REFUSED_RESOURCES = [
     ('{"$ref":"x#y z","$defs":{"a":{"$id":"x"}}}', "/$ref"), ('{"$ref":"x#1","allOf":[{"$id":"x"}]}', "/$ref"), ('{"$ref":"x#%FF","$defs":{"a":{"$id":"x"}}}', "/$ref"), ('{"$ref":"x#%2","$defs":{"a":{"$id":"x"}}}', "/$ref"),
 ]
 
-# The URIs of drafts 7 and 6, as schemas spell them.
+# The URIs of drafts 4, 6 and 7, as schemas spell them.
 SPELLED = ["http://json-schema.org/%s/schema#", "http://json-schema.org/%s/schema", "https://json-schema.org/%s/schema#", "https://json-schema.org/%s/schema"]
 
-# Schemas of draft 7 and of draft 6, without their `$schema`; most are of the official suite. Places are in the words of 2020-12.
-BOTH_DRAFTS = [
-    # Validation, 6.4.1 and 6.4.2 (draft 6: 6.9 and 6.10): `items` is a schema, or an array with `additionalItems` for the rest.
+# Schemas of drafts 4, 6 and 7, without their `$schema`; most are of the official suite. Places are in the words of 2020-12.
+OLD_DRAFTS = [
+    # Validation, 6.4.1 and 6.4.2 (draft 6: 6.9 and 6.10; draft 4: 5.3.1): `items` is a schema, or an array with `additionalItems` for the rest.
     ('{"items":{"type":"integer"}}', ["[1,2,3]", "[]", '{"foo":"bar"}'], [('[1,"x"]', "/1", "/items/type")]),
     ('{"items":[{"type":"integer"},{"type":"string"}]}', ['[1,"foo"]', "[1]", '[1,"foo",true]', "[]", '{"0":"invalid","1":"valid","length":2}'], [('["foo",1]', "/0", "/prefixItems/0/type")]),
     ('{"items":[{}],"additionalItems":{"type":"integer"}}', ["[null,2,3,4]", "[null]"], [('[null,2,3,"foo"]', "/3", "/items/type")]),
     ('{"items":[{},{},{}],"additionalItems":false}', ["[1,2,3]", "[]"], [("[1,2,3,4]", "/3", "/items")]),
     ('{"items":{},"additionalItems":false}', ["[1,2,3,4,5]"], []),
     ('{"additionalItems":false}', ["[1,2,3,4,5]", '{"foo":"bar"}'], []),
-    ('{"items":[true,false]}', ["[1]", "[]"], [('[1,"foo"]', "/1", "/prefixItems/1")]),
-    # 6.5.7 (draft 6: 6.21): of `dependencies` a list asks for members, and a schema is for the whole value.
+    # 6.5.7 (draft 6: 6.21; draft 4: 5.4.5): of `dependencies` a list asks for members, and a schema is for the whole value.
     ('{"dependencies":{"bar":["foo"]}}', ["{}", '{"foo":1}', '{"foo":1,"bar":2}', '["bar"]', '"foobar"', "12"], [('{"bar":2}', "", "/dependentRequired")]),
     ('{"dependencies":{"bar":[]}}', ["{}", '{"bar":2}'], []),
     ('{"dependencies":{"quux":["foo","bar"]}}', ["{}", '{"foo":1,"bar":2}', '{"foo":1,"bar":2,"quux":3}'], [('{"foo":1,"quux":2}', "", "/dependentRequired"), ('{"quux":1}', "", "/dependentRequired")]),
     ('{"dependencies":{"bar":{"properties":{"foo":{"type":"integer"},"bar":{"type":"integer"}}},"a":["b"]}}', ['{"foo":1,"bar":2}', '{"foo":"quux"}', '{"a":1,"b":1}'],
      [('{"foo":"quux","bar":2}', "/foo", "/dependentSchemas/bar/properties/foo/type"), ('{"a":1}', "", "/dependentRequired")]),
-    ('{"dependencies":{"foo":true,"bar":false}}', ['{"foo":1}', "{}"], [('{"bar":2}', "", "/dependentSchemas/bar"), ('{"foo":1,"bar":2}', "", "/dependentSchemas/bar")]),
-    # Core, 8.3 (draft 6: 8): `$ref` hides what is beside it, but not the schemas that references lead to.
+    # Core, 8.3 (draft 6: 8; draft 4: JSON Reference, 3): `$ref` hides what is beside it, but not the schemas that references lead to.
     ('{"definitions":{"reffed":{"type":"array"}},"properties":{"foo":{"$ref":"#/definitions/reffed","maxItems":2}}}', ['{"foo":[]}', '{"foo":[1,2,3]}'], [('{"foo":"string"}', "/foo", "/properties/foo/$ref/type")]),
     ('{"$ref":"#/definitions/a","type":"string","definitions":{"a":{"$ref":"#/$defs/b","minimum":5}},"$defs":{"b":{"type":"integer"}}}', ["1"], [('"a"', "", "/$ref/$ref/type")]),
     ('{"properties":{"$ref":{"type":"string"}}}', ['{"$ref":"a"}'], [('{"$ref":2}', "/$ref", "/properties/$ref/type")]),
     ('{"properties":{"a":{"$ref":"#/definitions/n"}},"definitions":{"n":{"items":[{"type":"null"}]}}}', ['{"a":[null]}'], [('{"a":[1]}', "/a/0", "/properties/a/$ref/prefixItems/0/type")]),
     ('{"properties":{"a":{"items":{"type":"null"}},"b":{"$ref":"#/properties/a/items"}}}', ['{"b":null}'], [('{"b":1}', "/b", "/properties/b/$ref/type")]),
+    # Validation, 6.5.6 (draft 4: 5.4.4).
+    ('{"properties":{"foo":{}},"patternProperties":{"^v":{}},"additionalProperties":false}', ['{"foo":1}', '{"foo":1,"vroom":2}', "[1,2,3]"], [('{"foo":1,"quux":"boom"}', "/quux", "/additionalProperties")]),
+    ('{"additionalProperties":{"type":"boolean"}}', ['{"foo":true}'], [('{"foo":1}', "/foo", "/additionalProperties/type")]),
+]
+
+# The same of drafts 6 and 7.
+BOTH_DRAFTS = [
+    # Core, 4.3.1: the schemas that are truth values.
+    ('{"items":[true,false]}', ["[1]", "[]"], [('[1,"foo"]', "/1", "/prefixItems/1")]),
+    ('{"dependencies":{"foo":true,"bar":false}}', ['{"foo":1}', "{}"], [('{"bar":2}', "", "/dependentSchemas/bar"), ('{"foo":1,"bar":2}', "", "/dependentSchemas/bar")]),
     # Core, 8.2: an `$id` is a name, or a URI with an empty fragment or none.
     ('{"allOf":[{"$ref":"#foo"}],"definitions":{"A":{"$id":"#foo","type":"integer"}}}', ["1"], [('"a"', "", "/allOf/0/$ref/type")]),
     ('{"$id":"http://localhost:1234/root","allOf":[{"$ref":"http://localhost:1234/nested.json#foo"}],"definitions":{"A":{"$id":"nested.json#","definitions":{"B":{"$id":"#foo","type":"integer"}}}}}',
@@ -743,14 +752,42 @@ DRAFT_7 = [
     ('{"if":{"exclusiveMaximum":0},"then":{"minimum":-10},"else":{"multipleOf":2}}', ["-1", "4"], [("-100", "", "/then/minimum"), ("3", "", "/else/multipleOf")]),
 ]
 
-# What is rejected in both: keywords of later drafts that would say something, also beside what becomes one; and references that lead to
+# The same of draft 4.
+DRAFT_4 = [
+    # Validation, 5.1.2 and 5.1.3: a limit is excluded by a boolean.
+    ('{"maximum":3.0,"exclusiveMaximum":true}', ["2.2", '"x"'], [("3.0", "", "/exclusiveMaximum"), ("3.5", "", "/exclusiveMaximum")]),
+    ('{"maximum":3.0,"exclusiveMaximum":false}', ["2.6", "3.0"], [("3.5", "", "/maximum")]),
+    ('{"maximum":3.0}', ["2.6", "3.0"], [("3.5", "", "/maximum")]),
+    ('{"minimum":1.1,"exclusiveMinimum":true}', ["1.2", "null"], [("1.1", "", "/exclusiveMinimum"), ("0.6", "", "/exclusiveMinimum")]),
+    ('{"minimum":1.1,"exclusiveMinimum":false}', ["2.6", "1.1"], [("0.6", "", "/minimum")]),
+    ('{"minimum":0,"maximum":9,"exclusiveMaximum":true}', ["0", "8.9"], [("9", "", "/exclusiveMaximum"), ("-1", "", "/minimum")]),
+    ('{"properties":{"a":{"minimum":0,"maximum":9,"exclusiveMinimum":true}}}', ['{"a":9}'], [('{"a":0}', "/a", "/properties/a/exclusiveMinimum"), ('{"a":10}', "/a", "/properties/a/maximum")]),
+    # Core, 7.2: `id` is a name, or a URI.
+    ('{"allOf":[{"$ref":"#foo"}],"definitions":{"A":{"id":"#foo","type":"integer"}}}', ["1"], [('"a"', "", "/allOf/0/$ref/type")]),
+    ('{"id":"http://localhost:1234/root","allOf":[{"$ref":"http://localhost:1234/nested.json#foo"}],"definitions":{"A":{"id":"nested.json#","definitions":{"B":{"id":"#foo","type":"integer"}}}}}',
+     ["1"], [('"a"', "", "/allOf/0/$ref/type")]),
+    ('{"id":"http://localhost:1234/sibling_id/base/","definitions":{"foo":{"id":"http://localhost:1234/sibling_id/foo.json","type":"string"},"base_foo":{"id":"foo.json","type":"number"}},'
+     '"allOf":[{"$ref":"foo.json","id":"http://localhost:1234/sibling_id/"}]}', ["1"], [('"a"', "", "/allOf/0/$ref/type")]),
+    ('{"definitions":{"a":{"id":"b","definitions":{"c":{"type":"null"}},"items":{"$ref":"#/definitions/c"}}},"$ref":"b"}', ["[null]"], [("[1]", "/0", "/$ref/items/$ref/type")]),
+    ('{"properties":{"id":{"type":"null"},"a":{"enum":[{"id":"b"},{"id":"b"}]}}}', ['{"id":null,"a":{"id":"b"}}'], [('{"id":1}', "/id", "/properties/id/type")]),
+]
+
+# What is rejected in draft 4 alone: keywords of draft 6, booleans in place of schemas, and a boolean beside no limit.
+REFUSED_DRAFT_4 = [
+    ('{"const":1}', ""), ('{"properties":{"a":{"const":1}}}', "/properties/a"), ('{"contains":{}}', "/contains"), ('{"propertyNames":{}}', "/propertyNames"), ('{"if":{}}', "/if"), ('{"$id":"a"}', "/$id"), ('{"id":"b","$id":"a"}', "/$id"),
+    ('{"not":true}', "/not"), ('{"not":false}', "/not"), ('{"items":[{},false]}', "/prefixItems/1"), ('{"properties":{"a":true}}', "/properties/a"), ('{"dependencies":{"a":false}}', "/dependentSchemas/a"),
+    ('{"exclusiveMaximum":3}', "/exclusiveMaximum"), ('{"maximum":4,"exclusiveMaximum":3}', "/exclusiveMaximum"), ('{"exclusiveMaximum":true}', "/exclusiveMaximum"), ('{"exclusiveMinimum":true,"maximum":1}', "/exclusiveMinimum"),
+    ('{"id":5}', "/$id"), ('{"definitions":{"a":{"id":"b#c"}}}', "/definitions/a/$id"), ('{"not":{"$schema":"http://json-schema.org/draft-06/schema#"}}', "/not/$schema"), ('{"minimum":"1","exclusiveMinimum":true}', "/exclusiveMinimum"),
+]
+
+# What is rejected in all three: keywords of later drafts that would say something, also beside what becomes one; and references that lead to
 # an array at `items`, or may.
 REFUSED_DRAFTS = [
     ('{"unevaluatedProperties":false}', "/unevaluatedProperties"), ('{"prefixItems":[true]}', "/prefixItems"), ('{"dependentRequired":{"a":["b"]}}', "/dependentRequired"),
-    ('{"properties":{"a":{"$anchor":"b"}}}', "/properties/a/$anchor"), ('{"contains":true,"minContains":2}', "/minContains"), ('{"$dynamicAnchor":"a"}', "/$dynamicAnchor"),
+    ('{"properties":{"a":{"$anchor":"b"}}}', "/properties/a/$anchor"), ('{"minContains":2}', "/minContains"), ('{"$dynamicAnchor":"a"}', "/$dynamicAnchor"),
     ('{"items":[true],"prefixItems":[false]}', "/prefixItems"), ('{"dependencies":{},"dependentSchemas":{}}', "/dependentSchemas"), ('{"$id":"#a","$anchor":"b"}', "/$anchor"),
     ('{"items":[true],"additionalItems":{},"not":{"$ref":"#/items"}}', "/not/$ref"), ('{"items":[true],"additionalItems":{"not":{}},"not":{"$ref":"#/%69tems/not"}}', "/not/$ref"),
-    ('{"$id":"http://a/b","items":[true],"additionalItems":{},"not":{"$ref":"http://a/b#/items"}}', "/not/$ref"), ('{"additionalItems":{},"not":{"$ref":"#/additionalItems"}}', "/not/$ref"),
+    ('{"items":[true],"not":{"$ref":"http://a/b#/items"}}', "/not/$ref"), ('{"additionalItems":{},"not":{"$ref":"#/additionalItems"}}', "/not/$ref"),
     ('{"items":[]}', "/prefixItems"), ('{"dependencies":{"a":5}}', "/dependentSchemas/a"), ('{"dependencies":{"a":["b","b"]}}', "/dependentRequired"), ('{"dependencies":[]}', "/dependentRequired"),
     ('{"definitions":{"a":{"type":"any"}}}', "/definitions/a/type"), ('{"$ref":5,"type":"any"}', "/$ref"), ('{"items":{"$schema":"https://json-schema.org/draft/2020-12/schema"}}', "/items/$schema"),
 ]
@@ -1025,15 +1062,16 @@ def answers():
         for row in rows:
             schema, place = row
             yield row, schema, "1", reported(2, "json_schema", words % place)
-    for row in BOTH_DRAFTS + DRAFT_7:
-        schema, valid, others = row
-        for number in range(6 + (row in DRAFT_7), 8):
+    for rows, drafts in ((OLD_DRAFTS, (4, 6, 7)), (BOTH_DRAFTS, (6, 7)), (DRAFT_7, (7,)), (DRAFT_4, (4,))):
+        for row, number in itertools.product(rows, drafts):
+            schema, valid, others = row
             whole = of_draft(number, schema)
             yield from ((row, whole, value, judged(None)) for value in valid)
             yield from ((row, whole, value, judged(places)) for value, *places in others)
-    for row in REFUSED_DRAFTS:
-        schema, place = row
-        yield from ((row, of_draft(number, schema), "1", reported(2, "json_schema", NOT_APPLIED % place)) for number in (6, 7))
+    for rows, drafts in ((REFUSED_DRAFTS, (4, 6, 7)), (REFUSED_DRAFT_4, (4,))):
+        for row, number in itertools.product(rows, drafts):
+            schema, place = row
+            yield row, of_draft(number, schema), "1", reported(2, "json_schema", NOT_APPLIED % place)
     for row in UNKNOWN:
         schema, words = row
         yield row, schema, "1", (0, b"", told(f'the schema: "{word}" is no keyword' for word in words))
@@ -1070,11 +1108,15 @@ def check_drafts(checks):
         row(["-d", "7"], '{"$schema":"%s",%s' % (spelled, listed[1:]), refused("/items"))
     row(["-d", "6"], of_draft(7, '{"if":true,"then":{"type":"null"}}'), (1, unit_of("", "/then/type"), b""))
     row([], of_draft(6, '{"if":true}'), refused("/if"))
+    row(["-d", "4"], '{"minimum":1,"exclusiveMinimum":true,"items":{"id":"#a"}}', (0, b"", b""))
+    row([], '{"minimum":1,"exclusiveMinimum":true}', refused("/exclusiveMinimum"))
+    row(["-d4"], of_draft(7, '{"exclusiveMinimum":1,"items":false}'), (1, unit_of("/0", "/items"), b""))
+    row(["-d", "4"], "true", refused(""))
     other = '"http://example.com/\\u001b"'
     line = b'json_schema: the schema: "http://example.com/U+001B" is an unknown $schema\n'
     row([], '{"$schema":%s,"items":false}' % other, (1, unit_of("/0", "/items"), line))
     row(["-d", "7"], '{"$schema":%s,%s' % (other, listed[1:]), (1, unit_of("/1", "/items"), line))
-    row(["-d", "5"], "true", reported(2, "json_schema", "no draft 5: the drafts are 6, 7 and 2020"))
+    row(["-d", "5"], "true", reported(2, "json_schema", "no draft 5: the drafts are 4, 6, 7 and 2020"))
     row(["-d", "x"], "true", misused("json_schema", "no number of 1 to 9 digits after -d"))
 
 

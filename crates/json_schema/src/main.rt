@@ -33,10 +33,10 @@ const PROGRAM: Program<'static> = Program {
     help: "\
 Usage: json_schema [-l] [-d DRAFT] SCHEMA [FILE..]
 
-Checks JSON texts against a JSON Schema of draft 6, draft 7 or 2020-12. SCHEMA
-is the name of the schema's file. Of a value that is not valid one line of JSON
-is printed: the place in the schema, and the place in the value that does not
-meet it.
+Checks JSON texts against a JSON Schema of draft 4, 6, 7 or 2020-12. SCHEMA is
+the name of the schema's file. Of a value that is not valid one line of JSON is
+printed: the place in the schema, and the place in the value that does not meet
+it.
 
 The texts are those of the files, or standard input where none is named; '-' is
 standard input, too. Options may come anywhere; after '--' all are operands.
@@ -46,7 +46,7 @@ that of --draft, which is 2020 for 2020-12 by default.
 
 Options:
   -l, --lines    check each line; reports and messages have its number
-  -d, --draft N  read a schema that names no draft in draft N: 6, 7 or 2020
+  -d, --draft N  read a schema that names no draft in draft N: 4, 6, 7 or 2020
   -h, --help     print this page
   -V, --version  print the version
 
@@ -102,6 +102,7 @@ fn asked_draft(alloc: Global, number: Option<usize>) -> Result<Draft, Failure> {
         None | Some(2020) => Ok(Draft::Draft202012),
         Some(7) => Ok(Draft::Draft7),
         Some(6) => Ok(Draft::Draft6),
+        Some(4) => Ok(Draft::Draft4),
         Some(number) => Err(schema_failure(alloc, &SchemaFailure::NoDraft(number))),
     }
 }

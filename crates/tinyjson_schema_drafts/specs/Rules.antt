@@ -1,11 +1,13 @@
--- What becomes of the members of a schema of draft 6 or 7 in the words of 2020-12. Sections are of draft 7: Core
--- (draft-handrews-json-schema-01) and Validation (draft-handrews-json-schema-validation-01).
-use Rattle.std.specs.Prelude.{ℕ, Bool, true, false, not, ◌&&◌, ◌==◌, List, [], ◌∷◌, Option, Some, None, cond, codes, is_some, encode_utf8_all}
+-- What becomes of the members of a schema of draft 4, 6 or 7 in the words of 2020-12. Sections are of draft 7: Core
+-- (draft-handrews-json-schema-01) and Validation (draft-handrews-json-schema-validation-01); of draft 4 where it is named: Core
+-- (draft-zyp-json-schema-04) and Validation (draft-fge-json-schema-validation-00).
+use Rattle.std.specs.Prelude.{ℕ, Bool, true, false, not, ◌&&◌, ◌==◌, List, [], ◌∷◌, Option, Some, None, cond, codes, is_some}
+use Rattle.std.specs.Prelude.{encode_utf8_all}
 use Rattle.std.specs.Option.{option_map_or}
 use Rattle.std.specs.Str.{bytes_eq}
-use Rattle.tinyjson.specs.Access.{is_array}
+use Rattle.tinyjson.specs.Access.{is_array, is_boolean}
 use Rattle.tinyjson.specs.Characters.{solidus}
-use Rattle.tinyjson.specs.Tree.{Tree, string}
+use Rattle.tinyjson.specs.Tree.{Tree, boolean, string}
 use Rattle.uri_reference.specs.Resolving.{is_empty, without_fragment, fragment_of}
 use Rattle.tinyjson_schema_keywords.specs.Applied.{schema_at}
 use Rattle.tinyjson_schema_keywords.specs.Names.{keywords, keyword_among}
@@ -15,7 +17,9 @@ use Rattle.tinyjson_schema_drafts.specs.Dialects.{dialect_named}
 use Rattle.tinyjson_schema_drafts.specs.declared.draft.Dialect.{Dialect}
 use Rattle.tinyjson_schema_drafts.specs.declared.draft.Dialect.TheVariants.{Known}
 use Rattle.tinyjson_schema_drafts.specs.declared.draft.Draft.{Draft}
-use Rattle.tinyjson_schema_drafts.specs.declared.draft.Draft.TheVariants.{Draft6, Draft7}
+use Rattle.tinyjson_schema_drafts.specs.declared.draft.Draft.TheVariants.{Draft4, Draft6, Draft7}
+use Rattle.tinyjson_schema_drafts.specs.declared.rule.Limit.{Limit}
+use Rattle.tinyjson_schema_drafts.specs.declared.rule.Limit.TheVariants.{Missing, Inclusive, Exclusive}
 use Rattle.tinyjson_schema_drafts.specs.declared.rule.Rule.{Rule}
 use Rattle.tinyjson_schema_drafts.specs.declared.rule.Rule.TheVariants as rule
 use Rattle.tinyjson_schema_drafts.specs.declared.rule.Traits.{Traits}
@@ -24,11 +28,29 @@ use Rattle.tinyjson_schema_drafts.specs.declared.rule.Traits.{Traits}
 abbrev pub has_list : Tree → Bool
 has_list s = option_map_or is_array (schema_at s kw.Items) false
 
+abbrev pub is_true : Tree → Bool
+is_true (boolean b) = b
+is_true _ = false
+
+abbrev pub has_true : Tree → Keyword → Bool
+has_true s k = option_map_or is_true (schema_at s k) false
+
+-- the limit at the keyword k, which is excluded if that at e is true (draft 4: Validation, 5.1.2.2 and 5.1.3.2)
+abbrev pub limit_of : Tree → Keyword → Keyword → Limit
+limit_of s k e = cond (is_some (schema_at s k)) (cond (has_true s e) Exclusive Inclusive) Missing
+
 abbrev pub traits_of : Draft → Tree → Traits
-traits_of d s = record { draft = d; has_reference = is_some (schema_at s kw.Ref); has_list = has_list s }
+traits_of d s = record {
+  draft = d;
+  has_reference = is_some (schema_at s kw.Ref);
+  has_list = has_list s;
+  maximum = limit_of s kw.Maximum kw.ExclusiveMaximum;
+  minimum = limit_of s kw.Minimum kw.ExclusiveMinimum;
+}
 
 -- In a schema inside, the draft's own name is left out (Core, 7).
 abbrev pub dialect_rule_by : Draft → Dialect → Rule
+dialect_rule_by Draft4 (Known Draft4) = rule.Drop
 dialect_rule_by Draft6 (Known Draft6) = rule.Drop
 dialect_rule_by Draft7 (Known Draft7) = rule.Drop
 dialect_rule_by _ _ = rule.Reject
@@ -46,10 +68,11 @@ id_rule_by bs = cond (is_empty (without_fragment bs)) (option_map_or fragment_ru
 
 abbrev pub id_rule : Tree → Rule
 id_rule (string cs) = id_rule_by (encode_utf8_all cs)
-id_rule _ = rule.Keep
+id_rule _ = rule.Id
 
 -- `if`, `then` and `else` came with draft 7 (Validation, 6.6).
 abbrev pub if_rule : Draft → Rule
+if_rule Draft4 = rule.Reject
 if_rule Draft6 = rule.Reject
 if_rule _ = rule.Schema
 
@@ -57,10 +80,33 @@ if_rule _ = rule.Schema
 abbrev pub items_rule : Bool → Rule
 items_rule list = cond list rule.Prefix rule.Schema
 
+-- `$id`, `contains` and `propertyNames` came with draft 6.
+abbrev pub later_rule : Draft → Rule → Rule
+later_rule Draft4 x = rule.Reject
+later_rule _ x = x
+
+-- A boolean is a schema there in draft 4, too (Validation, 5.4.4).
+abbrev pub additional_rule : Tree → Rule
+additional_rule w = cond (is_boolean w) rule.Keep rule.Schema
+
+-- A limit that draft 4 excludes becomes x (Validation, 5.1.2.2 and 5.1.3.2).
+abbrev pub limit_rule : Draft → Limit → Rule → Rule
+limit_rule Draft4 Exclusive x = x
+limit_rule _ _ x = rule.Keep
+
+abbrev pub is_limit : Limit → Bool
+is_limit Missing = false
+is_limit _ = true
+
+-- In draft 4 it is a boolean, and the limit is beside it (5.1.2.1 and 5.1.3.1).
+abbrev pub flag_rule : Draft → Limit → Tree → Rule
+flag_rule Draft4 l w = cond (is_boolean w && is_limit l) rule.Drop rule.Reject
+flag_rule _ l w = rule.Keep
+
 -- A keyword that came later and would apply is rejected.
 abbrev pub rule_by : Traits → Keyword → Tree → Rule
 rule_by x kw.Schema w = dialect_rule x.draft w
-rule_by x kw.Id w = id_rule w
+rule_by x kw.Id w = later_rule x.draft (id_rule w)
 rule_by x kw.Ref w = rule.Reference
 rule_by x kw.Defs w = rule.Map
 rule_by x kw.Definitions w = rule.Map
@@ -70,9 +116,13 @@ rule_by x kw.AllOf w = rule.Schemas
 rule_by x kw.AnyOf w = rule.Schemas
 rule_by x kw.OneOf w = rule.Schemas
 rule_by x kw.Not w = rule.Schema
-rule_by x kw.Contains w = rule.Schema
-rule_by x kw.AdditionalProperties w = rule.Schema
-rule_by x kw.PropertyNames w = rule.Schema
+rule_by x kw.Contains w = later_rule x.draft rule.Schema
+rule_by x kw.AdditionalProperties w = additional_rule w
+rule_by x kw.PropertyNames w = later_rule x.draft rule.Schema
+rule_by x kw.Maximum w = limit_rule x.draft x.maximum rule.Below
+rule_by x kw.Minimum w = limit_rule x.draft x.minimum rule.Above
+rule_by x kw.ExclusiveMaximum w = flag_rule x.draft x.maximum w
+rule_by x kw.ExclusiveMinimum w = flag_rule x.draft x.minimum w
 rule_by x kw.If w = if_rule x.draft
 rule_by x kw.Then w = if_rule x.draft
 rule_by x kw.Else w = if_rule x.draft
@@ -90,14 +140,23 @@ rule_by x kw.MinContains w = rule.Reject
 rule_by x kw.ContentSchema w = rule.Reject
 rule_by x _ w = rule.Keep
 
+-- A boolean is a schema there in draft 4, too (Validation, 5.3.1).
+abbrev pub rest_rule : Tree → Rule
+rest_rule w = cond (is_boolean w) rule.RestFlag rule.Rest
+
+-- Draft 4 has `id` in place of `$id` (Core, 7.2).
+abbrev pub own_id_rule : Draft → Tree → Rule
+own_id_rule Draft4 w = id_rule w
+own_id_rule _ w = rule.Keep
+
 -- `additionalItems` is for the items that an array at `items` leaves (Validation, 6.4.2), and is left out without one; of
 -- `dependencies` see Validation, 6.5.7.
-abbrev pub other_rule : Traits → List ℕ → Rule
-other_rule x key = cond (bytes_eq key (codes "additionalItems")) (cond x.has_list rule.Rest rule.Drop)
-    (cond (bytes_eq key (codes "dependencies")) rule.Dependencies rule.Keep)
+abbrev pub other_rule : Traits → List ℕ → Tree → Rule
+other_rule x key w = cond (bytes_eq key (codes "additionalItems")) (cond x.has_list (rest_rule w) rule.Drop)
+    (cond (bytes_eq key (codes "dependencies")) rule.Dependencies (cond (bytes_eq key (codes "id")) (own_id_rule x.draft w) rule.Keep))
 
 abbrev pub rule_at : Traits → List ℕ → Tree → Option Keyword → Rule
-rule_at x key w None = other_rule x key
+rule_at x key w None = other_rule x key w
 rule_at x key w (Some k) = rule_by x k w
 
 -- `$ref` hides what is beside it (Core, 8.3), but not the schemas that references lead to.

@@ -1,8 +1,9 @@
--- A schema of draft 6 or 7 in the words of 2020-12.
-use Rattle.std.specs.Prelude.{ℕ, Bool, true, false, not, ◌&&◌, List, [], ◌∷◌, Option, Some, None, cond, is_some, encode_utf8_all}
+-- A schema of draft 4, 6 or 7 in the words of 2020-12.
+use Rattle.std.specs.Prelude.{ℕ, Bool, true, false, not, ◌&&◌, List, [], ◌∷◌, Option, Some, None, cond, codes, is_some, encode_utf8_all}
 use Rattle.std.specs.Option.{option_map_or}
 use Rattle.std.specs.Str.{chars}
 use Rattle.tinyjson.specs.Access.{is_array}
+use Rattle.tinyjson.specs.Index.{tree_at_key}
 use Rattle.tinyjson.specs.Tree.{Tree, null, string, array, object, Items, no_items, item, Members, no_members, member, put, find}
 use Rattle.uri_reference.specs.Resolving.{is_empty, without_fragment, fragment_of}
 use Rattle.tinyjson_schema_keywords.specs.Applied.{schema_at}
@@ -12,6 +13,7 @@ use Rattle.tinyjson_schema_keywords.specs.declared.keyword.Keyword.TheVariants a
 use Rattle.tinyjson_schema_drafts.specs.Pointers.{reference_in_words}
 use Rattle.tinyjson_schema_drafts.specs.Rules.{traits_of, rule_of}
 use Rattle.tinyjson_schema_drafts.specs.declared.draft.Draft.{Draft}
+use Rattle.tinyjson_schema_drafts.specs.declared.draft.Draft.TheVariants.{Draft4}
 use Rattle.tinyjson_schema_drafts.specs.declared.rule.Rule.{Rule}
 use Rattle.tinyjson_schema_drafts.specs.declared.rule.Rule.TheVariants as rule
 use Rattle.tinyjson_schema_drafts.specs.declared.rule.Traits.{Traits}
@@ -25,12 +27,17 @@ abbrev pub has_uri : Tree → Bool
 has_uri (string cs) = is_uri (encode_utf8_all cs)
 has_uri _ = false
 
--- a schema with a URI, which `$ref` does not hide
-abbrev pub is_resource : Tree → Bool
-is_resource s = cond (is_some (schema_at s kw.Ref)) false (option_map_or has_uri (schema_at s kw.Id) false)
+-- in draft 4 `id` (Core, 7.2)
+abbrev pub id_of : Draft → Tree → Option Tree
+id_of Draft4 s = tree_at_key s (codes "id")
+id_of _ s = schema_at s kw.Id
 
-abbrev pub resource_in : Tree → Tree → Tree
-resource_in r s = cond (is_resource s) s r
+-- a schema with a URI, which `$ref` does not hide
+abbrev pub is_resource : Draft → Tree → Bool
+is_resource d s = cond (is_some (schema_at s kw.Ref)) false (option_map_or has_uri (id_of d s) false)
+
+abbrev pub resource_in : Draft → Tree → Tree → Tree
+resource_in d r s = cond (is_resource d s) s r
 
 -- without an empty fragment
 abbrev pub has_empty_fragment : List ℕ → Bool
@@ -60,6 +67,10 @@ put_new k w ms = cond (is_some (find (name k) ms)) ms (put (name k) w ms)
 -- the keyword of 2020-12, where its name is another one
 abbrev pub word_of : Rule → Option Keyword
 word_of rule.Rest = Some kw.Items
+word_of rule.RestFlag = Some kw.Items
+word_of rule.Below = Some kw.ExclusiveMaximum
+word_of rule.Above = Some kw.ExclusiveMinimum
+word_of rule.Id = Some kw.Id
 word_of rule.Prefix = Some kw.PrefixItems
 word_of rule.Dependencies = Some kw.DependentSchemas
 word_of rule.Name = Some kw.Anchor
@@ -108,11 +119,22 @@ value_by rule.Map r w one list entries mixed = Some entries
 value_by rule.Dependencies r w one list entries mixed = Some mixed
 value_by x r w one list entries mixed = value_alone x r w
 
+-- a schema that is no object, of which draft 4 has none (Core, 4)
+abbrev pub other_in_words : Draft → Tree → Tree
+other_in_words Draft4 w = null
+other_in_words _ w = w
+
+-- `const` came with draft 6, and accepts null: a schema of draft 4 with it becomes null itself.
+abbrev pub has_later_const : Draft → Tree → Bool
+has_later_const Draft4 s = not (is_some (schema_at s kw.Ref)) && is_some (schema_at s kw.Const)
+has_later_const _ s = false
+
 abbrev mutual
   -- a schema of the draft d in the resource r
   pub in_words : Draft → Tree → Tree → Tree
-  in_words d r (object ms) = object (words_among (traits_of d (object ms)) d (resource_in r (object ms)) ms)
-  in_words d r w = w
+  in_words d r (object ms) =
+      cond (has_later_const d (object ms)) null (object (words_among (traits_of d (object ms)) d (resource_in d r (object ms)) ms))
+  in_words d r w = other_in_words d w
 
   pub words_among : Traits → Draft → Tree → Members → Members
   words_among x d r no_members = no_members

@@ -2,7 +2,7 @@
 ghost use Rattle.std.specs.Prelude.{◌≡◌, option_map};
 ghost use Rattle.tinyjson.specs.View.{view};
 ghost use Rattle.tinyjson_schema_drafts.specs.Dialects.{dialect_of, dialect_named, draft_named};
-ghost use Rattle.tinyjson_schema_drafts.specs.Dialects.{is_draft_6, is_draft_7, is_2020_12};
+ghost use Rattle.tinyjson_schema_drafts.specs.Dialects.{is_draft_4, is_draft_6, is_draft_7, is_2020_12};
 ghost use Rattle.tinyjson_schema_drafts.specs.Dialects.{without_dialect, unknown_dialect};
 ghost use Rattle.tinyjson_schema_drafts.specs.Dialects.{unknown_in, unknown_uri};
 
@@ -12,6 +12,8 @@ use tinyjson_schema_keywords::{Keyword, schema_at};
 /// A version of JSON Schema.
 #[derive(Clone, Copy)]
 pub enum Draft {
+    /// Draft 4 (draft-zyp-json-schema-04, draft-fge-json-schema-validation-00).
+    Draft4,
     /// Draft 6 (draft-wright-json-schema-01).
     Draft6,
     /// Draft 7 (draft-handrews-json-schema-01).
@@ -69,6 +71,9 @@ fn draft_named(uri: &str) -> Dialect
     if is_draft_6(uri) {
         return Dialect::Known(Draft::Draft6);
     }
+    if is_draft_4(uri) {
+        return Dialect::Known(Draft::Draft4);
+    }
     Dialect::Unknown
 }
 
@@ -105,6 +110,18 @@ fn is_draft_6(uri: &str) -> bool
             | "http://json-schema.org/draft-06/schema"
             | "https://json-schema.org/draft-06/schema#"
             | "https://json-schema.org/draft-06/schema"
+    )
+}
+
+fn is_draft_4(uri: &str) -> bool
+    ensures { result ≡ is_draft_4 uri.now }
+{
+    matches!(
+        uri,
+        "http://json-schema.org/draft-04/schema#"
+            | "http://json-schema.org/draft-04/schema"
+            | "https://json-schema.org/draft-04/schema#"
+            | "https://json-schema.org/draft-04/schema"
     )
 }
 

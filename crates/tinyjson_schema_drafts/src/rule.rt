@@ -1,10 +1,13 @@
 //! What becomes of the members of a schema.
 ghost use Rattle.std.specs.Prelude.{◌≡◌, Some, option_map, is_some};
-ghost use Rattle.tinyjson.specs.Access.{is_array};
+ghost use Rattle.tinyjson.specs.Access.{is_array, is_boolean};
+ghost use Rattle.tinyjson_schema_drafts.specs.Rules.{is_true};
 ghost use Rattle.tinyjson.specs.View.{view};
-ghost use Rattle.tinyjson_schema_drafts.specs.Rules.{traits_of, has_list, is_kept_beside};
+ghost use Rattle.tinyjson_schema_drafts.specs.Rules.{traits_of, has_list, limit_of, has_true, is_kept_beside};
 ghost use Rattle.tinyjson_schema_drafts.specs.Rules.{rule_of, rule_by};
-ghost use Rattle.tinyjson_schema_drafts.specs.Rules.{other_rule, dialect_rule, id_rule, id_rule_by, fragment_rule, items_rule, if_rule};
+ghost use Rattle.tinyjson_schema_drafts.specs.Rules.{other_rule, rest_rule, own_id_rule, dialect_rule, id_rule, id_rule_by};
+ghost use Rattle.tinyjson_schema_drafts.specs.Rules.{fragment_rule, items_rule, if_rule, later_rule};
+ghost use Rattle.tinyjson_schema_drafts.specs.Rules.{additional_rule, limit_rule, flag_rule, is_limit};
 
 use crate::draft::{Dialect, Draft, dialect_named};
 use tinyjson::JsonValue;
@@ -24,6 +27,12 @@ pub enum Rule {
     Schema,
     /// The schema of the items that a list leaves: `items`.
     Rest,
+    /// The same, as a boolean.
+    RestFlag,
+    /// A number that is not accepted, nor are those above: `exclusiveMaximum`.
+    Below,
+    /// A number that is not accepted, nor are those below: `exclusiveMinimum`.
+    Above,
     /// An array of schemas.
     Schemas,
     /// The schemas of the first items: `prefixItems`.
@@ -32,12 +41,23 @@ pub enum Rule {
     Map,
     /// An object of schemas and of arrays of keys: `dependentSchemas` and `dependentRequired`.
     Dependencies,
-    /// A URI, without an empty fragment.
+    /// A URI, without an empty fragment: `$id`.
     Id,
     /// A fragment that is a name: `$anchor`.
     Name,
     /// A reference.
     Reference,
+}
+
+/// The limit that `maximum` or `minimum` sets.
+#[derive(Clone, Copy)]
+pub enum Limit {
+    /// There is none.
+    Missing,
+    /// It is accepted.
+    Inclusive,
+    /// It is not accepted: `exclusiveMaximum` or `exclusiveMinimum` of draft 4 is true.
+    Exclusive,
 }
 
 /// What decides over the members of a schema.
@@ -48,6 +68,8 @@ pub struct Traits {
     pub has_reference: bool,
     /// Whether its `items` is an array.
     pub has_list: bool,
+    pub maximum: Limit,
+    pub minimum: Limit,
 }
 
 pub fn traits_of(draft: Draft, schema: &JsonValue) -> Traits
@@ -57,7 +79,46 @@ pub fn traits_of(draft: Draft, schema: &JsonValue) -> Traits
         draft,
         has_reference: schema_at(schema, Keyword::Ref).is_some(),
         has_list: has_list(schema),
+        maximum: limit_of(schema, Keyword::Maximum, Keyword::ExclusiveMaximum),
+        minimum: limit_of(schema, Keyword::Minimum, Keyword::ExclusiveMinimum),
     }
+}
+
+fn limit_of(schema: &JsonValue, limit: Keyword, flag: Keyword) -> Limit
+    ensures { result ≡ limit_of (view schema.now) limit flag }
+{
+    if schema_at(schema, limit).is_none() {
+        return Limit::Missing;
+    }
+    if has_true(schema, flag) {
+        Limit::Exclusive
+    } else {
+        Limit::Inclusive
+    }
+}
+
+fn has_true(schema: &JsonValue, keyword: Keyword) -> bool
+    ensures { result ≡ has_true (view schema.now) keyword }
+{
+    match schema_at(schema, keyword) {
+        Some(value) => is_true(value),
+        None => false,
+    }
+}
+
+fn is_true(value: &JsonValue) -> bool
+    ensures { result ≡ is_true (view value.now) }
+{
+    match value {
+        JsonValue::Boolean(value) => *value,
+        _ => false,
+    }
+}
+
+fn is_boolean(value: &JsonValue) -> bool
+    ensures { result ≡ is_boolean (view value.now) }
+{
+    matches!(value, JsonValue::Boolean(_))
 }
 
 fn has_list(schema: &JsonValue) -> bool
@@ -85,7 +146,7 @@ pub fn rule_of(traits: Traits, name: &str, value: &JsonValue) -> Rule
     }
     match keyword {
         Some(keyword) => rule_by(traits, keyword, value),
-        None => other_rule(traits, name),
+        None => other_rule(traits, name, value),
     }
 }
 
@@ -104,13 +165,18 @@ fn rule_by(traits: Traits, keyword: Keyword, value: &JsonValue) -> Rule
 {
     match keyword {
         Keyword::Schema => dialect_rule(traits.draft, value),
-        Keyword::Id => id_rule(value),
+        Keyword::Id => later_rule(traits.draft, id_rule(value)),
         Keyword::Ref => Rule::Reference,
         Keyword::Defs | Keyword::Definitions | Keyword::Properties | Keyword::PatternProperties =>
             Rule::Map,
         Keyword::AllOf | Keyword::AnyOf | Keyword::OneOf => Rule::Schemas,
-        Keyword::Not | Keyword::Contains | Keyword::AdditionalProperties | Keyword::PropertyNames =>
-            Rule::Schema,
+        Keyword::Not => Rule::Schema,
+        Keyword::Contains | Keyword::PropertyNames => later_rule(traits.draft, Rule::Schema),
+        Keyword::AdditionalProperties => additional_rule(value),
+        Keyword::Maximum => limit_rule(traits.draft, traits.maximum, Rule::Below),
+        Keyword::Minimum => limit_rule(traits.draft, traits.minimum, Rule::Above),
+        Keyword::ExclusiveMaximum => flag_rule(traits.draft, traits.maximum, value),
+        Keyword::ExclusiveMinimum => flag_rule(traits.draft, traits.minimum, value),
         Keyword::If | Keyword::Then | Keyword::Else => if_rule(traits.draft),
         Keyword::Items => items_rule(traits.has_list),
         Keyword::Anchor
@@ -133,6 +199,7 @@ fn dialect_rule(draft: Draft, value: &JsonValue) -> Rule
     ensures { result ≡ dialect_rule draft (view value.now) }
 {
     match (draft, dialect_named(value)) {
+        (Draft::Draft4, Dialect::Known(Draft::Draft4)) => Rule::Drop,
         (Draft::Draft6, Dialect::Known(Draft::Draft6)) => Rule::Drop,
         (Draft::Draft7, Dialect::Known(Draft::Draft7)) => Rule::Drop,
         _ => Rule::Reject,
@@ -144,8 +211,64 @@ fn if_rule(draft: Draft) -> Rule
     ensures { result ≡ if_rule draft }
 {
     match draft {
-        Draft::Draft6 => Rule::Reject,
+        Draft::Draft4 | Draft::Draft6 => Rule::Reject,
         _ => Rule::Schema,
+    }
+}
+
+/// What becomes of a keyword that came with draft 6.
+fn later_rule(draft: Draft, rule: Rule) -> Rule
+    ensures { result ≡ later_rule draft rule }
+{
+    match draft {
+        Draft::Draft4 => Rule::Reject,
+        _ => rule,
+    }
+}
+
+/// In draft 4, too, the value may be a boolean.
+fn additional_rule(value: &JsonValue) -> Rule
+    ensures { result ≡ additional_rule (view value.now) }
+{
+    if is_boolean(value) {
+        Rule::Keep
+    } else {
+        Rule::Schema
+    }
+}
+
+/// What becomes of `maximum` or `minimum`, given what the limit becomes where draft 4 excludes it.
+fn limit_rule(draft: Draft, limit: Limit, exclusive: Rule) -> Rule
+    ensures { result ≡ limit_rule draft limit exclusive }
+{
+    match (draft, limit) {
+        (Draft::Draft4, Limit::Exclusive) => exclusive,
+        _ => Rule::Keep,
+    }
+}
+
+/// What becomes of `exclusiveMaximum` or `exclusiveMinimum`: in draft 4 a boolean, beside a limit.
+fn flag_rule(draft: Draft, limit: Limit, value: &JsonValue) -> Rule
+    ensures { result ≡ flag_rule draft limit (view value.now) }
+{
+    match draft {
+        Draft::Draft4 => {
+            if is_boolean(value) && is_limit(limit) {
+                Rule::Drop
+            } else {
+                Rule::Reject
+            }
+        }
+        _ => Rule::Keep,
+    }
+}
+
+fn is_limit(limit: Limit) -> bool
+    ensures { result ≡ is_limit limit }
+{
+    match limit {
+        Limit::Missing => false,
+        _ => true,
     }
 }
 
@@ -161,7 +284,7 @@ fn id_rule(value: &JsonValue) -> Rule
 {
     match value {
         JsonValue::String(id) => id_rule_by(id.as_str()),
-        _ => Rule::Keep,
+        _ => Rule::Id,
     }
 }
 
@@ -187,18 +310,39 @@ fn fragment_rule(fragment: &[u8]) -> Rule
 }
 
 /// What becomes of a name that is no keyword of 2020-12.
-fn other_rule(traits: Traits, name: &str) -> Rule
-    ensures { result ≡ other_rule traits name.now }
+fn other_rule(traits: Traits, name: &str, value: &JsonValue) -> Rule
+    ensures { result ≡ other_rule traits name.now (view value.now) }
 {
     match name {
         "additionalItems" => {
             if traits.has_list {
-                Rule::Rest
+                rest_rule(value)
             } else {
                 Rule::Drop
             }
         }
         "dependencies" => Rule::Dependencies,
+        "id" => own_id_rule(traits.draft, value),
+        _ => Rule::Keep,
+    }
+}
+
+fn rest_rule(value: &JsonValue) -> Rule
+    ensures { result ≡ rest_rule (view value.now) }
+{
+    if is_boolean(value) {
+        Rule::RestFlag
+    } else {
+        Rule::Rest
+    }
+}
+
+/// `$id` is `id` in draft 4.
+fn own_id_rule(draft: Draft, value: &JsonValue) -> Rule
+    ensures { result ≡ own_id_rule draft (view value.now) }
+{
+    match draft {
+        Draft::Draft4 => id_rule(value),
         _ => Rule::Keep,
     }
 }

@@ -6,7 +6,8 @@ ghost use Rattle.tinyjson.specs.Tree.{put};
 ghost use Rattle.tinyjson.specs.View.{view, items_view, members_view, members_listed};
 ghost use Rattle.tinyjson_schema_drafts.specs.Translated.{translated, in_words, words_among, value_of};
 ghost use Rattle.tinyjson_schema_drafts.specs.Translated.{list_in_words, items_in_words, map_in_words};
-ghost use Rattle.tinyjson_schema_drafts.specs.Translated.{members_in_words, resource_in, is_resource, has_uri};
+ghost use Rattle.tinyjson_schema_drafts.specs.Translated.{members_in_words, other_in_words, resource_in, is_resource};
+ghost use Rattle.tinyjson_schema_drafts.specs.Translated.{id_of, has_uri, has_later_const};
 ghost use Rattle.tinyjson_schema_drafts.specs.Translated.{id_in_words, name_in_words, key_lists};
 ghost use Rattle.tinyjson_schema_drafts.specs.Translated.{is_uri, has_empty_fragment};
 ghost use Rattle.tinyjson_schema_drafts.specs.Translated.{lists_among, value_alone};
@@ -18,7 +19,7 @@ use crate::rule::{Rule, Traits, is_array, rule_of, traits_of};
 use std::alloc::{AllocError, Global};
 use std::collections::HashMap;
 use tinyjson::{JsonValue, insert_member, sorted_members};
-use tinyjson_schema_keywords::{Keyword, schema_at};
+use tinyjson_schema_keywords::{Keyword, operand, schema_at};
 use uri_reference::{fragment, without_fragment};
 
 /// Where a schema is read: its draft, and the resource that it is in, by which references are judged.
@@ -29,7 +30,7 @@ pub struct Reading<'a> {
     pub alloc: Global,
 }
 
-/// A schema of draft 6 or 7 in the words of 2020-12; the only error is out of memory.
+/// A schema of draft 4, 6 or 7 in the words of 2020-12; the only error is out of memory.
 ///
 /// A keyword that the draft has not, and that would apply in 2020-12, becomes null, and so does a reference that
 /// would lead elsewhere: `Schema::read` of `tinyjson_schema` then rejects the schema at that place.
@@ -58,12 +59,15 @@ fn in_words(schema: &JsonValue, reading: Reading<'_>) -> Result<JsonValue, Alloc
         (view reading.entry.resource.now) (view schema.now)) }
 {
     let JsonValue::Object(keywords) = schema else {
-        return schema.try_clone(reading.alloc);
+        return other_in_words(schema, reading.draft, reading.alloc);
     };
+    if has_later_const(schema, reading.draft) {
+        return Ok(JsonValue::Null);
+    }
     let traits = traits_of(reading.draft, schema);
     let inner = Reading {
         draft: reading.draft,
-        resource: resource_in(reading.resource, schema),
+        resource: resource_in(reading.resource, schema, reading.draft),
         alloc: reading.alloc,
     };
     let sorted = sorted_members(reading.alloc, keywords)?;
@@ -71,26 +75,58 @@ fn in_words(schema: &JsonValue, reading: Reading<'_>) -> Result<JsonValue, Alloc
     Ok(JsonValue::Object(members))
 }
 
-/// The resource that the keywords of a schema are in: the schema itself, if it has a URI.
-fn resource_in<'a>(resource: &'a JsonValue, schema: &'a JsonValue) -> &'a JsonValue
-    ensures { view result.now ≡ resource_in (view resource.now) (view schema.now) }
+/// Whether a schema of draft 4 has `const`, which is of draft 6, and which would accept null in its place.
+fn has_later_const(schema: &JsonValue, draft: Draft) -> bool
+    ensures { result ≡ has_later_const draft (view schema.now) }
 {
-    if is_resource(schema) {
+    match draft {
+        Draft::Draft4 => {
+            schema_at(schema, Keyword::Ref).is_none() && schema_at(schema, Keyword::Const).is_some()
+        }
+        _ => false,
+    }
+}
+
+/// A schema that is no object; draft 4 has none.
+fn other_in_words(schema: &JsonValue, draft: Draft, alloc: Global) -> Result<JsonValue, AllocError>
+    ensures { IfOk result (λ v. view v ≡ other_in_words draft (view schema.now)) }
+{
+    match draft {
+        Draft::Draft4 => Ok(JsonValue::Null),
+        _ => schema.try_clone(alloc),
+    }
+}
+
+/// The resource that the keywords of a schema are in: the schema itself, if it has a URI.
+fn resource_in<'a>(resource: &'a JsonValue, schema: &'a JsonValue, draft: Draft) -> &'a JsonValue
+    ensures { view result.now ≡ resource_in draft (view resource.now) (view schema.now) }
+{
+    if is_resource(schema, draft) {
         schema
     } else {
         resource
     }
 }
 
-fn is_resource(schema: &JsonValue) -> bool
-    ensures { result ≡ is_resource (view schema.now) }
+fn is_resource(schema: &JsonValue, draft: Draft) -> bool
+    ensures { result ≡ is_resource draft (view schema.now) }
 {
     if schema_at(schema, Keyword::Ref).is_some() {
         return false;
     }
-    match schema_at(schema, Keyword::Id) {
+    match id_of(schema, draft) {
         Some(id) => has_uri(id),
         None => false,
+    }
+}
+
+/// The `$id` of a schema, which is `id` in draft 4.
+fn id_of(schema: &JsonValue, draft: Draft) -> Option<&JsonValue>
+    ensures { option_map (λ x. view x.now) result ≡ id_of draft (view schema.now) }
+{
+    match draft {
+        Draft::Draft4 => operand(schema, "id"),
+        _ => schema_at(schema, Keyword::Id),
     }
 }
 
@@ -313,7 +349,10 @@ fn word_of(rule: Rule) -> Option<Keyword>
     ensures { result ≡ word_of rule }
 {
     match rule {
-        Rule::Rest => Some(Keyword::Items),
+        Rule::Rest | Rule::RestFlag => Some(Keyword::Items),
+        Rule::Below => Some(Keyword::ExclusiveMaximum),
+        Rule::Above => Some(Keyword::ExclusiveMinimum),
+        Rule::Id => Some(Keyword::Id),
         Rule::Prefix => Some(Keyword::PrefixItems),
         Rule::Dependencies => Some(Keyword::DependentSchemas),
         Rule::Name => Some(Keyword::Anchor),
