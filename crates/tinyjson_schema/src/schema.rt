@@ -78,6 +78,13 @@ impl<'s> Schema<'s> {
         }
     }
 
+    /// The whole schema, with its anchors and the patterns parsed so far.
+    pub fn whole(&self) -> &Whole<'s>
+        ensures { result.now ≡ self.now.whole }
+    {
+        &self.whole
+    }
+
     /// What the value violates of the schema, and where in the value. `None` means that the value is valid. Up to
     /// `steps` nested schemas are applied, by keywords and by references; for more the error is `TooDeep`. The
     /// other error is out of memory.

@@ -1,0 +1,4 @@
+mod Cutting
+mod Joining
+mod Leading
+mod Telling

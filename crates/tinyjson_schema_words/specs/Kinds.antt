@@ -1,0 +1,33 @@
+-- The kinds of values, as a sentence names them.
+use Rattle.std.specs.Prelude.{ℕ, ◌||◌, List, [], ◌++◌, cond, codes, encode_utf8_all}
+use Rattle.std.specs.Str.{bytes_eq}
+use Rattle.tinyjson.specs.Kind.{kind_of, kind_name}
+use Rattle.tinyjson.specs.Tree.{Tree, string, array, Items}
+use Rattle.tinyjson_schema_words.specs.Brief.{joined}
+
+abbrev pub article : List ℕ → List ℕ
+article n = cond (bytes_eq n (codes "null")) [] (cond (bytes_eq n (codes "array") || (bytes_eq n (codes "integer")
+    || bytes_eq n (codes "object"))) (codes "an ") (codes "a "))
+
+-- `a string`, `an array`, `null`
+abbrev pub with_article : List ℕ → List ℕ
+with_article n = article n ++ n
+
+-- the kind of a value
+abbrev pub kind_words : Tree → List ℕ
+kind_words t = with_article (kind_name (kind_of t))
+
+-- a type that `type` names
+abbrev pub type_name : Tree → List ℕ
+type_name (string cs) = with_article (encode_utf8_all cs)
+type_name _ = []
+
+abbrev pub type_list : Items → List ℕ
+type_list ts = joined (codes " or ") type_name ts
+
+abbrev pub types : Tree → List ℕ
+types (array ts) = type_list ts
+types t = type_name t
+
+abbrev pub type_words : Tree → Tree → List ℕ
+type_words w t = codes "must be " ++ (types w ++ (codes ", is " ++ kind_words t))

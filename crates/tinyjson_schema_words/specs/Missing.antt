@@ -1,0 +1,20 @@
+-- The names that an object lacks.
+use Rattle.std.specs.Option.{option_map_or}
+use Rattle.std.specs.Prelude.{ℕ, Bool, true, List, [], ◌++◌, Option, Some, None, cond, codes, is_some}
+use Rattle.tinyjson.specs.Index.{tree_at_key}
+use Rattle.tinyjson.specs.Tree.{Tree, string, Items, no_items, item}
+use Rattle.tinyjson_schema_keywords.specs.Applied.{items_in}
+use Rattle.tinyjson_schema_words.specs.Brief.{brief}
+
+abbrev pub is_there : Tree → Tree → Bool
+is_there (string k) t = is_some (tree_at_key t k)
+is_there _ t = true
+
+-- the first of the names that is no key of the value
+abbrev pub missing : Items → Tree → Option Tree
+missing no_items t = None
+missing (item k ks) t = cond (is_there k t) (missing ks t) (Some k)
+
+-- `"a" is required`
+abbrev pub required_words : Tree → Tree → List ℕ
+required_words w t = option_map_or (λ k. brief k ++ codes " is required") (missing (items_in w) t) []

@@ -1,0 +1,51 @@
+//! What a value lacks that violates a schema, in words.
+ghost use Rattle.std.specs.Prelude.{◌≡◌, IfOk};
+ghost use Rattle.std.specs.String.{string_bytes};
+ghost use Rattle.tinyjson.specs.View.{view};
+ghost use Rattle.tinyjson_pointer.specs.Tokens.{tokens_of};
+ghost use Rattle.tinyjson_schema_words.specs.Words.{words};
+
+use crate::ending::ending;
+use crate::keyword::keyword_words;
+use std::alloc::AllocError;
+use tinyjson::JsonValue;
+use tinyjson_pointer::Pointer;
+use tinyjson_schema_keywords::Walk;
+
+/// The place in the schema and the place in the value of a violation.
+#[derive(Clone, Copy)]
+pub struct Places<'p> {
+    /// The place of the keyword, or of the schema `false`.
+    pub keyword: &'p Pointer,
+    /// The place in the value.
+    pub instance: &'p Pointer,
+}
+
+/// What the part of the value lacks that violates the keyword, as `must be at most 10, is 12`.
+///
+/// ```
+/// let words = words(places, &value, walk)?;
+/// ```
+pub fn words(
+    places: Places<'_>,
+    value: &JsonValue,
+    walk: Walk<'_, '_>,
+) -> Result<String, AllocError>
+    ensures { IfOk result (λ s. string_bytes s ≡ words (view walk.entry.whole.now.root.now)
+        (view value.now) (tokens_of places.entry.keyword.now)
+        (tokens_of places.entry.instance.now)) }
+{
+    let Some(end) = ending(places.keyword.tokens(), walk)? else {
+        return String::from_str(walk.alloc, UNMET);
+    };
+    let Some(part) = places.instance.find(value) else {
+        return String::from_str(walk.alloc, UNMET);
+    };
+    match end.keyword {
+        Some(keyword) => keyword_words(keyword, end.value, part, walk.alloc),
+        None => String::from_str(walk.alloc, "is not allowed"),
+    }
+}
+
+/// The words for a place that leads to nothing.
+const UNMET: &str = "does not meet the schema";
