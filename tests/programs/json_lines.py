@@ -7,6 +7,7 @@ import texts
 import whole
 from checks import shared
 from faults import BROKEN, FOLDER, FULL, Faults
+from long_lines import LongLines
 from padding import padded_lines, padded_rows
 from pages import Page, misused
 from running import program, printed, reported, run_of
@@ -59,6 +60,13 @@ ALL_LINES = [
         (words, b"1", misused("json_lines", "no number of 1 to 9 digits after -d"))
         for words in (["-d"], ["-d", "+1"], ["-d", "1234567890"], ["-d", ""], ["--depth="], ["-dk"])
     ],
+    (["-km"], b"1", misused("json_lines", "no number of 1 to 9 digits after -m")),
+]
+
+# Lines that are refused by their length, not padded.
+BY_LENGTH = [
+    (["-d", "1", "-m", "4", "-k"], b"[[]]\n[[] ]\n[ ]\n", told(b"[]\n", b"1, col 1: Nesting is too deep at '['", b"2: longer than 4 bytes")),
+    (["-km0"], b"\n1\n", told(b"", b"1, col 0: Unexpected EOF", b"2: longer than 0 bytes")),
 ]
 
 # Control characters are shown by their code points.
@@ -102,11 +110,26 @@ REFUSED_MEMORY = [
 ]
 
 
+def limited(is_going):
+    """The answer for lines, of which some are longer than a limit."""
+    def answer(lines):
+        output = b"".join(line + b"\n" for line in lines if not isinstance(line, int))
+        errors = [b"json_lines: line %d: longer than %d bytes\n" % (at, line) for at, line in enumerate(lines, 1) if isinstance(line, int)]
+        return (0 if not errors else 1 if is_going else 3), output, b"".join(errors)
+
+    return answer
+
+
+def check_long_lines(checks):
+    for words, is_going in (([], False), (["-k"], True)):
+        LongLines("json_lines", words, limited(is_going), is_going, unlimited=([], ["-d", "1"])).check(checks)
+
+
 def check_rows(checks):
     for row in LINES:
         given, expected = row
         checks.row(f"json_lines: {given[:60]}", expected, run_of, program("json_lines"), [], given, at=row)
-    for row in (*ALL_LINES, *CLEAN):
+    for row in (*ALL_LINES, *BY_LENGTH, *CLEAN):
         words, given, expected = row
         checks.row(f"json_lines: {words} {given[:60]}", expected, run_of, program("json_lines"), words, given, at=row)
 
@@ -165,4 +188,4 @@ def check_memory(checks):
 PAGE = Page("json_lines", [], is_lines=True)
 
 
-PARTS = (PAGE.check, check_groups, check_rows, check_padded, check_deep, check_faults, *shared(check_memory))
+PARTS = (PAGE.check, check_groups, check_rows, check_long_lines, check_padded, check_deep, check_faults, *shared(check_memory))

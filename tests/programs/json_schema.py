@@ -6,6 +6,7 @@ import os
 
 from checks import shared
 from faults import BROKEN, FOLDER, FULL, NO_TEXT, Faults
+from long_lines import LongLines
 from pages import Page, misused
 from places import TOP
 from padded_schemas import padded_lines, padded_refused, padded_values
@@ -1128,6 +1129,22 @@ def check_lines(checks):
         checks.row(name, expected, checked, checks.folder, schema, ["-l"], given, at=row)
 
 
+def limited(lines):
+    """The answer for lines by a schema that no value meets; some are longer than a limit."""
+    output = b"".join(unit_of("", "", line=at) for at, line in enumerate(lines, 1) if not isinstance(line, int))
+    errors = told([f"line {at}: longer than {line} bytes" for at, line in enumerate(lines, 1) if isinstance(line, int)])
+    return 1, output, errors
+
+
+def check_long_lines(checks):
+    """With -l, a line that is longer than a limit is not checked; without, there is no such limit."""
+    schema = os.path.join(checks.folder, "false")
+    with open(schema, "wb") as file:
+        file.write(b"false")
+    LongLines("json_schema", ["-l", schema], limited, is_going=True).check(checks)
+    checks.row("json_schema: --max-line without -l", (1, unit_of("", ""), b""), run_of, program("json_schema"), ["-m2", schema], b"[1,2]")
+
+
 def check_files(checks):
     """Each file has its own lines, and what is told of a line or a text begins with the name of its file."""
     schema, too_many = '{"items":{"allOf":[{"$ref":"#"}]},"minimum":0}', b"schemas are nested too deep"
@@ -1211,4 +1228,4 @@ def check_memory(checks):
 
 PAGE, LINES_PAGE = Page("json_schema", [SCHEMA], b"[1]"), Page("json_schema", ["-l", SCHEMA], b"[1]", is_lines=True)
 
-PARTS = (PAGE.check, LINES_PAGE.check_pipes, *shared(check_rows), check_drafts, check_lines, check_files, check_padded, check_padded_lines, check_deep, check_order, check_faults, *shared(check_memory))
+PARTS = (PAGE.check, LINES_PAGE.check_pipes, *shared(check_rows), check_drafts, check_lines, check_long_lines, check_files, check_padded, check_padded_lines, check_deep, check_order, check_faults, *shared(check_memory))

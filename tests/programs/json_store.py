@@ -1,6 +1,7 @@
 """Rows of `json_store`: for each line, how often its value was counted so far."""
 
 from faults import BROKEN, FOLDER, FULL, Faults
+from long_lines import LongLines
 from padding import padded_lines, padded_rows
 from pages import Page
 from running import printed, program, reported, run_of
@@ -54,6 +55,14 @@ INTERRUPTED = [([], LONG, b"1 " + LONG + b"\n")]
 REFUSED_MEMORY = [([], b'{"a":[1,"x"]}\n[]\n{"a":[1.0,"x"]}\n[1,]')]
 
 
+def limited(lines):
+    """The answer for lines, of which the last may be longer than a limit."""
+    texts = [line for line in lines if not isinstance(line, int)]
+    output = b"".join(b"%d %s\n" % (texts[:at].count(line) + 1, line) for at, line in enumerate(texts))
+    long = [b"json_store: line %d: longer than %d bytes\n" % (at, line) for at, line in enumerate(lines, 1) if isinstance(line, int)]
+    return 3 * bool(long), output, b"".join(long)
+
+
 def check_rows(checks):
     for row in (*LINES, *CLEAN):
         given, expected = row
@@ -82,5 +91,7 @@ def check_faults(checks):
 
 PAGE = Page("json_store", [], is_lines=True)
 
+LONG_LINES = LongLines("json_store", [], limited, is_going=False)
 
-PARTS = (PAGE.check, check_rows, check_padded, check_deep, check_faults)
+
+PARTS = (PAGE.check, LONG_LINES.check, check_rows, check_padded, check_deep, check_faults)

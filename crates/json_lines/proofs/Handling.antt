@@ -8,27 +8,50 @@ use Rattle.std.specs.declared.io.Error.{Error}
 use Rattle.tinyjson.proofs.Callers.{Appends_keeps, Appends_written, begins, stop, written_same}
 use Rattle.tinyjson.specs.Written.{Written, WrittenPart}
 use Rattle.json_lines.specs.Lines.{telling_of}
-use Rattle.json_lines.specs.Run.{Handles, WritesLine}
+use Rattle.json_lines.specs.Run.{Handles, WritesGiven, WritesLine}
 use Rattle.json_lines.specs.declared.lines.Options.{Options}
 use Rattle.json_lines.specs.declared.lines.Outcome.{Outcome}
 use Rattle.json_lines.specs.declared.lines.Outcome.TheVariants.{AllWritten, SomeRefused}
+use Rattle.tinyjson_lines.specs.Within.{IsGiven}
 use Rattle.tinyjson_lines.specs.declared.refusal.Cause.{Cause}
+use Rattle.tinyjson_lines.specs.declared.refusal.Cause.TheVariants.{NotUtf8, NotJson, TooLong}
+
+-- ---- a line that is given
+
+-- a line within the limit is written, or refused by its text
+pub within_written : (limit max : Option ℕ) (line xs : List ℕ) (held holds : Option (List ℕ)) (r : Result (Option Cause) Error)
+    → IsGiven max line (Ok xs) → WritesLine limit xs held holds r → WritesGiven limit max line held holds r
+within_written limit max line xs held holds r g h = of r (subst (λ l. WritesLine limit l held holds r) g.0 h)
+  where
+    of : (q : Result (Option Cause) Error) → WritesLine limit line held holds q → WritesGiven limit max line held holds q
+    of (Ok None) k = (k.0, (g.1, k.1), k.2)
+    of (Ok (Some NotUtf8)) k = ((g.1, k.0), k.1)
+    of (Ok (Some (NotJson e))) k = ((g.1, k.0), k.1)
+    of (Ok (Some (TooLong m))) k = absurd k.0
+    of (Err e) k = ⊎_elim (λ l. inl l) (λ l. inr (l.0, (g.1, l.1), l.2)) k
+
+-- a longer one is refused
+pub long_written : (limit max : Option ℕ) (line : List ℕ) (held : Option (List ℕ)) (m : ℕ) → IsGiven max line (Err m)
+    → WritesGiven limit max line held held (Ok (Some (TooLong m)))
+long_written limit max line held m g = (g, Keeps-refl held)
+
+-- ---- a line that was written, refused and told, or cut off
 
 module _ (options : Options) (n : ℕ) (line : List ℕ) (held holds told : Option (List ℕ)) where
-  pub line_written : (o : Option Cause) → o ≡ None → WritesLine options.limit line held holds (Ok o)
+  pub line_written : (o : Option Cause) → o ≡ None → WritesGiven options.limit options.max_line line held holds (Ok o)
       → Handles options n line held holds told told (Ok AllWritten)
   line_written o is h =
-      let w : WritesLine options.limit line held holds (Ok None) = subst (λ q. WritesLine options.limit line held holds (Ok q)) is h in
+      let w : WritesGiven options.limit options.max_line line held holds (Ok None) = subst (λ q. WritesGiven options.limit options.max_line line held holds (Ok q)) is h in
       (Ok w.0, w.1, refl, w.2, Appends-nil told)
 
-  pub write_failed : (e : Error) → WritesLine options.limit line held holds (Err e) → Handles options n line held holds told told (Err e)
+  pub write_failed : (e : Error) → WritesGiven options.limit options.max_line line held holds (Err e) → Handles options n line held holds told told (Err e)
   write_failed e h = ⊎_elim (λ k. inl (k, Keeps-refl told)) (λ w. inr (Ok w.0, w.1, w.2, stop begins)) h
 
 -- a line is refused, the output is flushed, and the refusal is told
 module _ (options : Options) (n : ℕ) (line : List ℕ) (held mid holds told tells : Option (List ℕ)) (o : Option Cause) (c : Cause)
-    (is : o ≡ Some c) (h : WritesLine options.limit line held mid (Ok o)) (flushed : Keeps mid holds) where
-  not_written : WritesLine options.limit line held mid (Ok (Some c))
-  not_written = subst (λ q. WritesLine options.limit line held mid (Ok q)) is h
+    (is : o ≡ Some c) (h : WritesGiven options.limit options.max_line line held mid (Ok o)) (flushed : Keeps mid holds) where
+  not_written : WritesGiven options.limit options.max_line line held mid (Ok (Some c))
+  not_written = subst (λ q. WritesGiven options.limit options.max_line line held mid (Ok q)) is h
 
   pub line_told : Written told tells (telling_of options n (Err c)) [] → Handles options n line held holds told tells (Ok SomeRefused)
   line_told t = (

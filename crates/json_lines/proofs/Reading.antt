@@ -19,10 +19,9 @@ use Rattle.json_lines.specs.declared.lines.Outcome.TheVariants.{AllWritten, Some
 
 -- ---- what they give
 
-fates_next : (limit : Option ℕ) (read : List (List ℕ)) (fates : List Fate) (line : List ℕ) (f : Fate) → HaveFates limit read fates
-    → HasFate limit line f
-    → HaveFates limit (read ++ line ∷ []) (fates ++ f ∷ [])
-fates_next limit read fates line f h k = both_fates limit read (line ∷ []) fates (f ∷ []) h (k, tt)
+fates_next : (limit max : Option ℕ) (read : List (List ℕ)) (fates : List Fate) (line : List ℕ) (f : Fate)
+    → HaveFates limit max read fates → HasFate limit max line f → HaveFates limit max (read ++ line ∷ []) (fates ++ f ∷ [])
+fates_next limit max read fates line f h k = both_fates limit max read (line ∷ []) fates (f ∷ []) h (k, tt)
 
 outputs_next : (fates : List Fate) (f : Fate) → outputs_of (fates ++ f ∷ []) ≡ outputs_of fates ++ output_of f
 outputs_next fates f = both_outputs fates (f ∷ []) ∙ ap (λ l. outputs_of fates ++ l) (append-nil (output_of f))
@@ -71,7 +70,7 @@ pub record Progress (options : Options) (unread left held holds told tells : Opt
     (outcome : Outcome) : Type 0 where
   pub read : List (List ℕ)
   pub fates : List Fate
-  pub are : HaveFates options.limit read fates
+  pub are : HaveFates options.limit options.max_line read fates
   pub lines_read : LinesRead unread left read
   pub written : Appends held holds (outputs_of fates)
   pub telling : Appends told tells (tellings_of options 1 fates)
@@ -146,7 +145,7 @@ module _ (options : Options) (unread left held holds told tells : Option (List �
     next r all h = record {
       read = p.read ++ line ∷ [];
       fates = p.fates ++ h.0 ∷ [];
-      are = fates_next options.limit p.read p.fates line h.0 p.are h.1;
+      are = fates_next options.limit options.max_line p.read p.fates line h.0 p.are h.1;
       lines_read = one_more;
       written = next_written h.0 h.3;
       telling = next_telling h.0 h.4;
@@ -161,7 +160,7 @@ module _ (options : Options) (unread left held holds told tells : Option (List �
     next_refused on r some_refused h = record {
       read = p.read ++ line ∷ [];
       fates = p.fates ++ h.0 ∷ [];
-      are = fates_next options.limit p.read p.fates line h.0 p.are h.1;
+      are = fates_next options.limit options.max_line p.read p.fates line h.0 p.are h.1;
       lines_read = one_more;
       written = next_written h.0 h.3;
       telling = next_telling h.0 h.4;
@@ -176,7 +175,7 @@ module _ (options : Options) (unread left held holds told tells : Option (List �
     refused off r some_refused h = record {
       read = p.read ++ line ∷ [];
       fates = p.fates ++ h.0 ∷ [];
-      are = fates_next options.limit p.read p.fates line h.0 p.are h.1;
+      are = fates_next options.limit options.max_line p.read p.fates line h.0 p.are h.1;
       reaches = reaches_refused options.goes_on unread after (p.read ++ line ∷ []) (p.fates ++ h.0 ∷ []) off one_more
           (ends_refused p.fates h.0 (sym (p.unless off) ∙ p.is) (sym some_refused ∙ h.2));
       written = next_written h.0 h.3;
@@ -185,12 +184,12 @@ module _ (options : Options) (unread left held holds told tells : Option (List �
     }
 
     -- writing it or telling of it failed
-    cut : (f : Fate) → HasFate options.limit line f → WrittenPart holds new (output_of f) → WrittenPart tells news (telling_of options n f)
+    cut : (f : Fate) → HasFate options.limit options.max_line line f → WrittenPart holds new (output_of f) → WrittenPart tells news (telling_of options n f)
         → StopsAmongLines options unread held new told news
     cut f h w t = record {
       read = p.read ++ line ∷ [];
       fates = p.fates ++ f ∷ [];
-      are = fates_next options.limit p.read p.fates line f p.are h;
+      are = fates_next options.limit options.max_line p.read p.fates line f p.are h;
       first = first_lines unread after (p.read ++ line ∷ []) one_more;
       written = stops_then (output_of f) (record { done = outputs_of p.fates; split = outputs_next p.fates f; appended = p.written }) w;
       telling = stops_then (telling_of options n f) (record {

@@ -1,5 +1,5 @@
 -- The lines of an input, and what each of them gives.
-use Rattle.std.specs.Prelude.{◌≡◌, ℕ, suc, List, [], ◌∷◌, ◌++◌, Option, Result, Ok, Err, ⊤, codes, option_map}
+use Rattle.std.specs.Prelude.{◌≡◌, ℕ, suc, List, [], ◌∷◌, ◌++◌, Option, Some, Result, Ok, Err, ⊤, codes, option_map}
 use Rattle.std.specs.Str.{IsUtf8, chars}
 use Rattle.tinyjson.specs.Error.{error_kind}
 use Rattle.tinyjson.specs.Grammar.{IsText, IsAccepted}
@@ -11,11 +11,13 @@ use Rattle.tinyjson_cli.specs.Refusals.{refusal_line}
 use Rattle.tinyjson_lines.specs.Line.{line_of}
 -- the lines of the bytes, and a line without its line feed
 pub use Rattle.tinyjson_lines.specs.Lines.{lines, onto_first, content}
+-- the line has no more bytes than the limit; it has more
+pub use Rattle.tinyjson_lines.specs.Within.{IsWithin, IsLonger}
 use Rattle.json_lines.specs.declared.lines.Options.{Options}
 use Rattle.json_lines.specs.declared.lines.Outcome.{Outcome}
 use Rattle.json_lines.specs.declared.lines.Outcome.TheVariants.{AllWritten, SomeRefused}
 use Rattle.tinyjson_lines.specs.declared.refusal.Cause.{Cause}
-use Rattle.tinyjson_lines.specs.declared.refusal.Cause.TheVariants.{NotUtf8, NotJson}
+use Rattle.tinyjson_lines.specs.declared.refusal.Cause.TheVariants.{NotUtf8, NotJson, TooLong}
 
 -- what a line gives: the tree of its text, or the cause why it is rejected
 abbrev pub Fate : Type 0
@@ -25,17 +27,23 @@ Fate = Result Tree Cause
 abbrev pub IsRefused : Option ℕ → List ℕ → JsonParseError → Type 0
 IsRefused limit xs e = ParsesText limit xs (Err e) × ¬ (error_kind e ≡ kind.OutOfMemory) × ¬ IsAccepted limit xs
 
--- The line gives this, under the limit.
-abbrev pub HasFate : Option ℕ → List ℕ → Fate → Type 0
-HasFate limit line (Ok t) = IsUtf8 (content line) × IsText limit (chars (content line)) t
-HasFate limit line (Err NotUtf8) = ¬ IsUtf8 (content line)
-HasFate limit line (Err (NotJson e)) = IsUtf8 (content line) × IsRefused limit (chars (content line)) e
+-- The text of the line gives this, under the limit of nesting.
+abbrev pub TextGives : Option ℕ → List ℕ → Fate → Type 0
+TextGives limit line (Ok t) = IsUtf8 (content line) × IsText limit (chars (content line)) t
+TextGives limit line (Err NotUtf8) = ¬ IsUtf8 (content line)
+TextGives limit line (Err (NotJson e)) = IsUtf8 (content line) × IsRefused limit (chars (content line)) e
+TextGives limit line (Err (TooLong m)) = ⊥
+
+-- The line gives this, under the limits of nesting and of its length.
+abbrev pub HasFate : Option ℕ → Option ℕ → List ℕ → Fate → Type 0
+HasFate limit max line (Err (TooLong m)) = (max ≡ Some m) × IsLonger m line
+HasFate limit max line f = IsWithin max line × TextGives limit line f
 
 -- the lines give these, in order
-abbrev pub HaveFates : Option ℕ → List (List ℕ) → List Fate → Type 0
-HaveFates limit [] [] = ⊤
-HaveFates limit (line ∷ more) (f ∷ fs) = HasFate limit line f × HaveFates limit more fs
-HaveFates limit _ _ = ⊥
+abbrev pub HaveFates : Option ℕ → Option ℕ → List (List ℕ) → List Fate → Type 0
+HaveFates limit max [] [] = ⊤
+HaveFates limit max (line ∷ more) (f ∷ fs) = HasFate limit max line f × HaveFates limit max more fs
+HaveFates limit max _ _ = ⊥
 
 -- what is written for a line: its normal form, or nothing
 abbrev pub output_of : Fate → List ℕ

@@ -7,7 +7,7 @@ use Rattle.tinyjson.specs.Written.{WrittenPart}
 use Rattle.tinyjson_lines.specs.Line.{line_of}
 -- of the known bytes these lines are read; these are all, and nothing is left
 pub use Rattle.tinyjson_lines.specs.Lines.{LinesRead, AllRead}
-use Rattle.json_lines.specs.Lines.{lines, Fate, HasFate, HaveFates, output_of, outputs_of, telling_of, tellings_of, outcome_of}
+use Rattle.json_lines.specs.Lines.{lines, Fate, TextGives, HasFate, HaveFates, output_of, outputs_of, telling_of, tellings_of, outcome_of}
 use Rattle.json_lines.specs.declared.lines.Options.{Options}
 use Rattle.json_lines.specs.declared.lines.Outcome.{Outcome}
 use Rattle.json_lines.specs.declared.lines.Outcome.TheVariants.{AllWritten, SomeRefused}
@@ -26,7 +26,7 @@ Reaches goes_on unread left read fates outcome = AllRead unread left read
 pub record AnswersLines (options : Options) (unread left held holds told tells : Option (List ℕ)) (outcome : Outcome) : Type 0 where
   pub read : List (List ℕ)
   pub fates : List Fate
-  pub are : HaveFates options.limit read fates
+  pub are : HaveFates options.limit options.max_line read fates
   pub reaches : Reaches options.goes_on unread left read fates outcome
   pub written : Appends held holds (outputs_of fates)
   pub telling : Appends told tells (tellings_of options 1 fates)
@@ -36,7 +36,7 @@ pub record AnswersLines (options : Options) (unread left held holds told tells :
 pub record StopsAmongLines (options : Options) (unread held holds told tells : Option (List ℕ)) : Type 0 where
   pub read : List (List ℕ)
   pub fates : List Fate
-  pub are : HaveFates options.limit read fates
+  pub are : HaveFates options.limit options.max_line read fates
   pub first : IfSome unread (λ xs. (more : List (List ℕ)) × (lines xs ≡ read ++ more))
   pub written : WrittenPart held holds (outputs_of fates)
   pub telling : WrittenPart told tells (tellings_of options 1 fates)
@@ -51,15 +51,21 @@ Runs options unread left held holds told tells (Err e) = StopsAmongLines options
 abbrev pub Handles : Options → ℕ → List ℕ → Option (List ℕ) → Option (List ℕ) → Option (List ℕ) → Option (List ℕ)
     → Result Outcome Error → Type 0
 Handles options n line held holds told tells (Ok outcome) =
-    (f : Fate) × HasFate options.limit line f × (outcome ≡ outcome_of (f ∷ []))
+    (f : Fate) × HasFate options.limit options.max_line line f × (outcome ≡ outcome_of (f ∷ []))
     × Appends held holds (output_of f) × Appends told tells (telling_of options n f)
 Handles options n line held holds told tells (Err e) =
     (Keeps held holds × Keeps told tells)
-    ⊎ ((f : Fate) × HasFate options.limit line f × WrittenPart held holds (output_of f) × WrittenPart told tells (telling_of options n f))
+    ⊎ ((f : Fate) × HasFate options.limit options.max_line line f × WrittenPart held holds (output_of f) × WrittenPart told tells (telling_of options n f))
 
--- the same for its output
+-- the same for its output, of a line that gives one of these
+abbrev pub Writes : (Fate → Type 0) → Option (List ℕ) → Option (List ℕ) → Result (Option Cause) Error → Type 0
+Writes Gives held holds (Ok None) = (t : Tree) × Gives (Ok t) × Appends held holds (line_of t)
+Writes Gives held holds (Ok (Some c)) = Gives (Err c) × Keeps held holds
+Writes Gives held holds (Err e) = Keeps held holds ⊎ ((t : Tree) × Gives (Ok t) × WrittenPart held holds (line_of t))
+
+-- of a line that is within the limit of length, and of any line
 abbrev pub WritesLine : Option ℕ → List ℕ → Option (List ℕ) → Option (List ℕ) → Result (Option Cause) Error → Type 0
-WritesLine limit line held holds (Ok None) = (t : Tree) × HasFate limit line (Ok t) × Appends held holds (line_of t)
-WritesLine limit line held holds (Ok (Some c)) = HasFate limit line (Err c) × Keeps held holds
-WritesLine limit line held holds (Err e) =
-    Keeps held holds ⊎ ((t : Tree) × HasFate limit line (Ok t) × WrittenPart held holds (line_of t))
+WritesLine limit line = Writes (TextGives limit line)
+
+abbrev pub WritesGiven : Option ℕ → Option ℕ → List ℕ → Option (List ℕ) → Option (List ℕ) → Result (Option Cause) Error → Type 0
+WritesGiven limit max line = Writes (HasFate limit max line)

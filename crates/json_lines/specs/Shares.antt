@@ -14,6 +14,6 @@ LinesOfShares = (xs ys : List ℕ) → lines (ended xs ++ ys) ≡ lines (ended x
 -- whatever the lines of the whole and of its shares give, what is written for the whole is what is written for the shares
 abbrev pub OutputOfShares : Type 0
 OutputOfShares =
-    (limit : Option ℕ) (xs ys : List ℕ) (whole first rest : List Fate) →
-    HaveFates limit (lines (ended xs ++ ys)) whole → HaveFates limit (lines (ended xs)) first → HaveFates limit (lines ys) rest →
+    (limit max : Option ℕ) (xs ys : List ℕ) (whole first rest : List Fate) →
+    HaveFates limit max (lines (ended xs ++ ys)) whole → HaveFates limit max (lines (ended xs)) first → HaveFates limit max (lines ys) rest →
     outputs_of whole ≡ outputs_of first ++ outputs_of rest

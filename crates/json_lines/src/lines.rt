@@ -1,16 +1,18 @@
 //! The normal forms of the lines of an input.
-ghost use Rattle.std.specs.Prelude.{[], ◌∷◌};
+ghost use Rattle.std.specs.Prelude.{[], ◌∷◌, ℕ, List, Option};
+ghost use Rattle.std.specs.Result.{result_map_both};
 ghost use Rattle.tinyjson.specs.Tree.{Tree};
 ghost use Rattle.tinyjson.specs.Written.{WritesPrefix};
 ghost use Rattle.tinyjson_normal.specs.Normal.{HasTree};
 ghost use Rattle.tinyjson_lines.specs.Line.{line_of};
-ghost use Rattle.json_lines.specs.Run.{Runs, Handles, WritesLine};
+ghost use Rattle.tinyjson_lines.specs.Within.{IsGiven};
+ghost use Rattle.json_lines.specs.Run.{Runs, Handles, WritesGiven, WritesLine};
 
 use std::alloc::Global;
 use std::io::{self, BufRead, ErrorKind, Write};
 use std::str;
 use tinyjson_cli::{RefusedLine, tell};
-use tinyjson_lines::{Cause, Refusal, content, read_line, write_all};
+use tinyjson_lines::{Cause, LineRead, Refusal, content, read_line_within, write_all};
 use tinyjson_normal::{NormalReader, NormalText};
 
 /// How lines are read.
@@ -20,6 +22,8 @@ pub struct Options<'a> {
     pub goes_on: bool,
     /// How many containers may be open at once, if there is a limit.
     pub limit: Option<usize>,
+    /// How many bytes a line may have before its line feed, if there is a limit.
+    pub max_line: Option<usize>,
     /// The name of the file with the lines, for the messages about those that are rejected.
     pub file: Option<&'a str>,
 }
@@ -37,9 +41,9 @@ pub enum Outcome {
 /// each line that is rejected to `errors`.
 ///
 /// A line ends after its line feed, and the last one where the input ends. One that is not UTF-8, no
-/// JSON text, or nested deeper than the limit is rejected: nothing is written for it, and the message
+/// JSON text, or beyond a limit is rejected: nothing is written for it, and the message
 /// has its number, where in it the parser stopped, and why. The run goes on after it if the options
-/// ask for that, and otherwise ends.
+/// ask for that, and otherwise ends. A line that is too long is passed over and not kept in memory.
 ///
 /// Memory that runs out, a read or a write that fails is an error. Then a prefix was written of the
 /// output for the lines so far, and a prefix of the messages.
@@ -63,18 +67,13 @@ pub fn run<R: BufRead, W: Write, E: Write>(
     let mut reader = NormalReader::new(alloc);
     let mut outcome = Outcome::AllWritten;
     for number in 1..u64::MAX {
-        if !read_line(input, &mut line)? {
+        let read = read_line_within(input, &mut line, options.max_line)?;
+        if let LineRead::End = read {
             output.flush()?;
             return Ok(outcome);
         }
-        let handled = handle(
-            &mut reader,
-            options,
-            number,
-            line.as_slice(),
-            output,
-            errors,
-        )?;
+        let given = read.given(line.as_slice());
+        let handled = handle(&mut reader, options, number, given, output, errors)?;
         let Outcome::SomeRefused = handled else {
             continue;
         };
@@ -86,19 +85,22 @@ pub fn run<R: BufRead, W: Write, E: Write>(
     Err(io::Error::new(ErrorKind::InvalidData, "too many lines"))
 }
 
-/// Writes the normal form of one line, or a message about it.
+/// Writes the normal form of one line that is given, or a message about it.
 fn handle<W: Write, E: Write>(
     reader: &mut NormalReader,
     options: Options<'_>,
     number: u64,
-    line: &[u8],
+    given: Result<&[u8], usize>,
     output: &mut W,
     errors: &mut E,
 ) -> io::Result<Outcome>
-    ensures { Handles options.entry number line.now (W.contents output.old) (W.contents output.new)
+    ensures { (line : List ℕ) →
+        IsGiven options.entry.max_line line
+        (result_map_both (λ s. s.now) (λ m. m) given.entry) →
+        Handles options.entry number line (W.contents output.old) (W.contents output.new)
         (E.contents errors.old) (E.contents errors.new) result }
 {
-    let Some(cause) = write_line(reader, options.limit, line, output)? else {
+    let Some(cause) = write_given(reader, options.limit, given, output)? else {
         return Ok(Outcome::AllWritten);
     };
     output.flush()?;
@@ -109,6 +111,23 @@ fn handle<W: Write, E: Write>(
     };
     tell(reader.allocator(), errors, &refused)?;
     Ok(Outcome::SomeRefused)
+}
+
+/// Writes the normal form of one line that is given; or nothing, if the line is rejected.
+fn write_given<W: Write>(
+    reader: &mut NormalReader,
+    limit: Option<usize>,
+    given: Result<&[u8], usize>,
+    output: &mut W,
+) -> io::Result<Option<Cause>>
+    ensures { (max : Option ℕ) → (line : List ℕ) →
+        IsGiven max line (result_map_both (λ s. s.now) (λ m. m) given.entry) →
+        WritesGiven limit max line (W.contents output.old) (W.contents output.new) result }
+{
+    match given {
+        Ok(line) => write_line(reader, limit, line, output),
+        Err(max) => Ok(Some(Cause::TooLong(max))),
+    }
 }
 
 /// Writes the normal form of one line and a line feed; or nothing, if the line is rejected.

@@ -11,24 +11,27 @@ use std::alloc::Global;
 use std::io::{self, BufRead, Write};
 use std::process::ExitCode;
 use tinyjson_cli::{
-    AnswerLines, HELP, Program, Status, VERSION, answer_lines, argument_words, arguments_of,
+    AnswerLines, HELP, MAX_LINE, Program, Status, VERSION, answer_lines, argument_words,
+    arguments_of,
 };
 
 const PROGRAM: Program<'static> = Program {
     name: "json_lines",
-    options: &[KEEP_GOING, DEPTH, HELP, VERSION],
+    options: &[KEEP_GOING, DEPTH, MAX_LINE, HELP, VERSION],
     help: "\
-Usage: json_lines [-k] [-d N] [FILE..]
+Usage: json_lines [-k] [-d N] [-m N] [FILE..]
 
 Reads JSON texts, one on a line, and prints the normal form of each: no white
 space, sorted keys, one spelling for each number.
 
 The lines are those of the files, or of standard input where none is named; '-'
 is standard input, too. Options may come anywhere; after '--' all are operands.
+A line is read whole, also one that -d refuses: -m bounds the memory it takes.
 
 Options:
   -k, --keep-going  go on after a line that is refused
   -d, --depth N     refuse a line with more than N nested containers
+  -m, --max-line N  refuse a line of more than N bytes, and keep it out of memory
   -h, --help        print this page
   -V, --version     print the version
 
@@ -67,6 +70,7 @@ impl AnswerLines for Asked {
         let options = Options {
             goes_on: self.options.goes_on,
             limit: self.options.limit,
+            max_line: self.options.max_line,
             file,
         };
         match lines::run(self.alloc, options, input, output, errors)? {

@@ -20,13 +20,14 @@ pub const DEPTH: Known<'static> = Known {
     takes_number: true,
 };
 
-/// How the lines of standard input are read: `[-k] [-d N]`.
+/// How the lines of standard input are read: `[-k] [-d N] [-m N]`.
 pub fn options(arguments: &Arguments<'_>) -> Options<'static>
-    ensures { (result.goes_on, result.limit) ≡ asks (given_of arguments.now) }
+    ensures { (result.goes_on, (result.limit, result.max_line)) ≡ asks (given_of arguments.now) }
 {
     Options {
         goes_on: arguments.has(b'k'),
         limit: arguments.number(b'd'),
+        max_line: arguments.number(b'm'),
         file: None,
     }
 }

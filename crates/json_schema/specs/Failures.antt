@@ -42,3 +42,4 @@ abbrev pub TellsText : Cause → Failure → Type 0
 TellsText (cause.NotJson e) f = f ≡ failure.NotJson e
 TellsText cause.NotUtf8 f = Is Refused (codes "not UTF-8") f ⊎ (f ≡ failure.OutOfMemory)
 TellsText cause.TooDeep f = Is Refused too_deep f ⊎ (f ≡ failure.OutOfMemory)
+TellsText (cause.TooLong m) f = Is Refused (codes "too long") f ⊎ (f ≡ failure.OutOfMemory)

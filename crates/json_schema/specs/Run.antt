@@ -10,7 +10,7 @@ use Rattle.tinyjson_lines.specs.Lines.{AnswersAll, StopsAmong}
 use Rattle.tinyjson_schema.specs.Reading.{tree_of}
 use Rattle.json_schema.specs.Report.{report_tree}
 use Rattle.json_schema.specs.Told.{told_line}
-use Rattle.json_schema.specs.Verdicts.{LineGives}
+use Rattle.json_schema.specs.Verdicts.{GivesWithin}
 use Rattle.json_schema.specs.declared.lines.Check.{Check}
 use Rattle.json_schema.specs.declared.lines.Outcome.{Outcome}
 use Rattle.json_schema.specs.declared.lines.Outcome.TheVariants.{AllValid, SomeInvalid, SomeRefused}
@@ -50,7 +50,7 @@ outcome_of_all (v ∷ vs) = both (outcome_of v) (outcome_of_all vs)
 
 -- the verdict on a line in this check
 abbrev pub Gives : Check → List ℕ → Verdict → Type 0
-Gives k = LineGives (tree_of k.schema.now)
+Gives k = GivesWithin k.max_line (tree_of k.schema.now)
 
 -- A run of this check: the input before and after, the output before and after, and standard error before and
 -- after.

@@ -7,7 +7,7 @@ use Rattle.tinyjson_cli.specs.Refusals.{refusal_line}
 use Rattle.tinyjson_cli.specs.Shown.{shown}
 use Rattle.tinyjson_lines.specs.declared.refusal.Cause.TheVariants as line
 use Rattle.json_schema.specs.declared.verdict.Cause.{Cause}
-use Rattle.json_schema.specs.declared.verdict.Cause.TheVariants.{NotUtf8, NotJson, TooDeep}
+use Rattle.json_schema.specs.declared.verdict.Cause.TheVariants.{NotUtf8, NotJson, TooDeep, TooLong}
 
 abbrev pub program : List ℕ
 program = codes "json_schema"
@@ -26,6 +26,7 @@ abbrev pub told_line : Option (List ℕ) → ℕ → Cause → List ℕ
 told_line file n NotUtf8 = refusal_line program file record { number = n; cause = line.NotUtf8 }
 told_line file n (NotJson e) = refusal_line program file record { number = n; cause = line.NotJson e }
 told_line file n TooDeep = told_depth file n
+told_line file n (TooLong m) = refusal_line program file record { number = n; cause = line.TooLong m }
 
 -- that a name in the schema is no keyword
 abbrev pub told_word : List ℕ → List ℕ

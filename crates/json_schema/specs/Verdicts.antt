@@ -8,6 +8,7 @@ use Rattle.tinyjson.specs.Parser.{ParsesText}
 use Rattle.tinyjson.specs.Tree.{Tree}
 use Rattle.tinyjson.specs.declared.parser.error.JsonParseError.{JsonParseError}
 use Rattle.tinyjson_lines.specs.Lines.{content}
+use Rattle.tinyjson_lines.specs.Within.{IsLonger, IsWithin}
 use Rattle.tinyjson_schema_keywords.specs.declared.walk.CheckError.TheVariants as check
 use Rattle.tinyjson_schema.specs.Valid.{Validates}
 use Rattle.json_schema.specs.declared.verdict.Cause.TheVariants as cause
@@ -41,3 +42,8 @@ TextGives s xs v = (t : Tree) × IsText depth_limit xs t × ValueGives s t v
 abbrev pub LineGives : Tree → List ℕ → Verdict → Type 0
 LineGives s line (Refused cause.NotUtf8) = ¬ IsUtf8 (content line)
 LineGives s line v = IsUtf8 (content line) × TextGives s (chars (content line)) v
+
+-- the same, or the line is longer than the limit
+abbrev pub GivesWithin : Option ℕ → Tree → List ℕ → Verdict → Type 0
+GivesWithin max s line (Refused (cause.TooLong m)) = (max ≡ Some m) × IsLonger m line
+GivesWithin max s line v = IsWithin max line × LineGives s line v

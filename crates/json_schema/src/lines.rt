@@ -1,14 +1,16 @@
 //! Checks each line of an input.
-ghost use Rattle.std.specs.Prelude.{◌≡◌};
+ghost use Rattle.std.specs.Prelude.{◌≡◌, ℕ, List};
+ghost use Rattle.std.specs.Result.{result_map_both};
+ghost use Rattle.tinyjson_lines.specs.Within.{IsGiven};
 ghost use Rattle.json_schema.specs.Run.{Runs, Handles, both, status};
 
 use crate::refusal::{Unchecked, tell_line};
 use crate::report::write_report;
-use crate::verdict::{Verdict, check_line};
+use crate::verdict::{Verdict, check_given};
 use std::alloc::Global;
 use std::io::{self, BufRead, ErrorKind, Write};
 use tinyjson_cli::Status;
-use tinyjson_lines::read_line;
+use tinyjson_lines::{LineRead, read_line_within};
 use tinyjson_schema::Schema;
 
 /// The schema that lines are checked against, and the file that they are from.
@@ -18,6 +20,8 @@ pub struct Check<'a, 's> {
     pub schema: &'a Schema<'s>,
     /// The name of the file with the lines, if it has one, for messages.
     pub file: Option<&'a str>,
+    /// How many bytes a line may have before its line feed, if there is a limit.
+    pub max_line: Option<usize>,
 }
 
 /// The outcome for the texts that were checked.
@@ -58,7 +62,7 @@ impl Outcome {
 /// Checks the JSON text on each line of the input. For one that is not valid it writes a report with the line's
 /// number to `output`. For one that can't be checked it writes the number and the reason to `errors`, and goes on.
 ///
-/// A line ends after its line feed, and the last one with the input. The error is out of memory, or a read or a
+/// A line ends after its line feed, and the last one with the input. One that is too long is not kept in memory. The error is out of memory, or a read or a
 /// write that fails. Then a prefix was written of the reports and of the messages for the lines so far.
 ///
 /// ```
@@ -79,30 +83,35 @@ pub fn check_lines<R: BufRead, W: Write, E: Write>(
     let mut line = Vec::new(alloc);
     let mut outcome = Outcome::AllValid;
     for number in 1..u64::MAX {
-        if !read_line(input, &mut line)? {
+        let read = read_line_within(input, &mut line, check.max_line)?;
+        if let LineRead::End = read {
             output.flush()?;
             return Ok(outcome);
         }
-        let of_line = handle(alloc, check, number, line.as_slice(), output, errors)?;
+        let given = read.given(line.as_slice());
+        let of_line = handle(alloc, check, number, given, output, errors)?;
         outcome = outcome.and(of_line);
     }
     Err(io::Error::new(ErrorKind::InvalidData, "too many lines"))
 }
 
-/// Checks one line, and writes its report or its message.
+/// Checks one line as it is given, and writes its report or its message.
 fn handle<W: Write, E: Write>(
     alloc: Global,
     check: Check<'_, '_>,
     number: u64,
-    line: &[u8],
+    given: Result<&[u8], usize>,
     output: &mut W,
     errors: &mut E,
 ) -> io::Result<Outcome>
-    ensures { Handles check.entry number line.now
+    ensures { (line : List ℕ) →
+        IsGiven check.entry.max_line line
+        (result_map_both (λ s. s.now) (λ m. m) given.entry) →
+        Handles check.entry number line
         (W.contents output.old) (W.contents output.new)
         (E.contents errors.old) (E.contents errors.new) result }
 {
-    match check_line(alloc, check.schema, line)? {
+    match check_given(alloc, check.schema, given)? {
         Verdict::Valid => Ok(Outcome::AllValid),
         Verdict::Invalid(violation) => {
             write_report(alloc, Some(number), &violation, output)?;

@@ -18,7 +18,7 @@ use std::io::{self, BufRead, Write};
 use std::process::ExitCode;
 use tinyjson::JsonValue;
 use tinyjson_cli::{
-    Answer, AnswerLines, Failure, HELP, Misuse, Program, Status, VERSION, answer_files,
+    Answer, AnswerLines, Failure, HELP, MAX_LINE, Misuse, Program, Status, VERSION, answer_files,
     answer_lines, argument_words, arguments_of, misused, read_named, report, writing_error,
 };
 use tinyjson_schema::{Schema, SchemaError, unknown_words};
@@ -29,9 +29,9 @@ use verdict::{DEPTH_LIMIT, Verdict, check_text};
 
 const PROGRAM: Program<'static> = Program {
     name: "json_schema",
-    options: &[LINES, DRAFT, HELP, VERSION],
+    options: &[LINES, MAX_LINE, DRAFT, HELP, VERSION],
     help: "\
-Usage: json_schema [-l] [-d DRAFT] SCHEMA [FILE..]
+Usage: json_schema [-l] [-m N] [-d DRAFT] SCHEMA [FILE..]
 
 Checks JSON texts against a JSON Schema of draft 4, 6, 7 or 2020-12. SCHEMA is
 the name of the schema's file. Of a value that is not valid one line of JSON is
@@ -45,10 +45,11 @@ is not known: the schema is read in the draft that $schema names, or else in
 that of --draft, which is 2020 for 2020-12 by default.
 
 Options:
-  -l, --lines    check each line; reports and messages have its number
-  -d, --draft N  read a schema that names no draft in draft N: 4, 6, 7 or 2020
-  -h, --help     print this page
-  -V, --version  print the version
+  -l, --lines       check each line; reports and messages have its number
+  -m, --max-line N  with -l: do not check or keep a line of more than N bytes
+  -d, --draft N     read a schema that names no draft in draft N: 4, 6, 7 or 2020
+  -h, --help        print this page
+  -V, --version     print the version
 
 Exit status:
   0  each value is valid
@@ -145,6 +146,7 @@ fn check_by(
     let mut asked = Asked {
         alloc,
         schema: &schema,
+        max_line: request.max_line,
     };
     if request.by_lines {
         return Ok(by_lines(rt, request.files, &mut asked));
@@ -179,6 +181,7 @@ fn read_schema(alloc: Global, tree: &JsonValue) -> Result<Schema<'_>, Failure> {
 struct Asked<'a, 's> {
     alloc: Global,
     schema: &'a Schema<'s>,
+    max_line: Option<usize>,
 }
 
 impl Answer for Asked<'_, '_> {
@@ -210,6 +213,7 @@ impl AnswerLines for Asked<'_, '_> {
         let check = Check {
             schema: self.schema,
             file,
+            max_line: self.max_line,
         };
         let outcome = check_lines(self.alloc, check, input, output, errors)?;
         Ok((true, outcome.status()))

@@ -34,6 +34,7 @@ pub fn tell_line<E: Write>(alloc: Global, errors: &mut E, line: Unchecked<'_>) -
     let cause = match cause {
         Cause::NotUtf8 => lines::Cause::NotUtf8,
         Cause::NotJson(error) => lines::Cause::NotJson(error),
+        Cause::TooLong(max) => lines::Cause::TooLong(max),
         Cause::TooDeep => return tell_depth(alloc, errors, file, number),
     };
     let refused = RefusedLine {

@@ -1,9 +1,11 @@
 //! The verdict on a text.
-ghost use Rattle.std.specs.Prelude.{IfOk};
+ghost use Rattle.std.specs.Prelude.{IfOk, ℕ, List, Option};
+ghost use Rattle.std.specs.Result.{result_map_both};
 ghost use Rattle.std.specs.Str.{chars};
 ghost use Rattle.tinyjson.specs.View.{view};
+ghost use Rattle.tinyjson_lines.specs.Within.{IsGiven};
 ghost use Rattle.tinyjson_schema.specs.Reading.{tree_of};
-ghost use Rattle.json_schema.specs.Verdicts.{ValueGives, TextGives, LineGives};
+ghost use Rattle.json_schema.specs.Verdicts.{ValueGives, TextGives, LineGives, GivesWithin};
 
 use std::alloc::{AllocError, Global};
 use std::str;
@@ -37,6 +39,8 @@ pub enum Cause {
     NotJson(JsonParseError),
     /// It needs more than 200 nested schemas.
     TooDeep,
+    /// It is a line with more bytes before its line feed than this limit.
+    TooLong(usize),
 }
 
 /// Checks a text. The only error is out of memory.
@@ -69,8 +73,24 @@ fn check_value(alloc: Global, schema: &Schema<'_>, value: &JsonValue) -> Result<
     }
 }
 
+/// Checks a line as it is given: itself, or the limit that it exceeds.
+pub fn check_given(
+    alloc: Global,
+    schema: &Schema<'_>,
+    given: Result<&[u8], usize>,
+) -> Result<Verdict, AllocError>
+    ensures { (max : Option ℕ) → (line : List ℕ) →
+        IsGiven max line (result_map_both (λ s. s.now) (λ m. m) given.entry) →
+        IfOk result (GivesWithin max (tree_of schema.now) line) }
+{
+    match given {
+        Ok(line) => check_line(alloc, schema, line),
+        Err(max) => Ok(Verdict::Refused(Cause::TooLong(max))),
+    }
+}
+
 /// Checks the text on a line, without its line feed.
-pub fn check_line(alloc: Global, schema: &Schema<'_>, line: &[u8]) -> Result<Verdict, AllocError>
+fn check_line(alloc: Global, schema: &Schema<'_>, line: &[u8]) -> Result<Verdict, AllocError>
     ensures { IfOk result (LineGives (tree_of schema.now) line.now) }
 {
     match str::from_utf8(content(line)) {

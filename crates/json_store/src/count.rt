@@ -4,7 +4,7 @@ use std::alloc::Global;
 use std::io::{self, BufRead, ErrorKind, Write};
 use std::str;
 use tinyjson_cli::{AnswerLines, RefusedLine, Status, tell};
-use tinyjson_lines::{Cause, Refusal, content, read_line, write_all};
+use tinyjson_lines::{Cause, LineRead, Refusal, content, read_line_within, write_all};
 use tinyjson_normal::NormalReader;
 use tinyjson_store::Store;
 
@@ -12,15 +12,17 @@ use tinyjson_store::Store;
 #[derive(Drop)]
 pub struct Counter {
     alloc: Global,
+    max_line: Option<usize>,
     reader: NormalReader,
     store: Store,
 }
 
 impl Counter {
-    /// A counter without values.
-    pub fn new(alloc: Global) -> Counter {
+    /// A counter without values, for lines of at most `max_line` bytes.
+    pub fn new(alloc: Global, max_line: Option<usize>) -> Counter {
         Counter {
             alloc,
+            max_line,
             reader: NormalReader::new(alloc),
             store: Store::new(alloc),
         }
@@ -57,11 +59,15 @@ impl AnswerLines for Counter {
     ) -> io::Result<(bool, Status)> {
         let mut line = Vec::new(self.alloc);
         for number in 1..u64::MAX {
-            if !read_line(input, &mut line)? {
-                output.flush()?;
-                return Ok((true, Status::Done));
-            }
-            if let Some(cause) = self.count(line.as_slice(), output)? {
+            let refused = match read_line_within(input, &mut line, self.max_line)? {
+                LineRead::Whole => self.count(line.as_slice(), output)?,
+                LineRead::TooLong(max) => Some(Cause::TooLong(max)),
+                LineRead::End => {
+                    output.flush()?;
+                    return Ok((true, Status::Done));
+                }
+            };
+            if let Some(cause) = refused {
                 output.flush()?;
                 let refused = RefusedLine {
                     program: "json_store",

@@ -5,13 +5,15 @@ mod count;
 
 use count::Counter;
 use std::process::ExitCode;
-use tinyjson_cli::{HELP, Program, Status, VERSION, answer_lines, argument_words, arguments_of};
+use tinyjson_cli::{
+    HELP, MAX_LINE, Program, Status, VERSION, answer_lines, argument_words, arguments_of,
+};
 
 const PROGRAM: Program<'static> = Program {
     name: "json_store",
-    options: &[HELP, VERSION],
+    options: &[MAX_LINE, HELP, VERSION],
     help: "\
-Usage: json_store [FILE..]
+Usage: json_store [-m N] [FILE..]
 
 Reads JSON texts, one on a line, and prints for each how many equal values have
 come so far, itself included, and its normal form.
@@ -21,13 +23,14 @@ is standard input, too. Options may come anywhere; after '--' all are operands.
 The first line that is refused ends the run.
 
 Options:
-  -h, --help     print this page
-  -V, --version  print the version
+  -m, --max-line N  refuse a line of more than N bytes, and keep it out of memory
+  -h, --help        print this page
+  -V, --version     print the version
 
 Exit status:
   0  all lines are JSON texts
   2  the arguments are not understood
-  3  a line is no JSON text, or not UTF-8
+  3  a line is no JSON text, not UTF-8, or longer than N bytes
   4  memory ran out, or a read or a write failed
 
 Examples:
@@ -49,6 +52,6 @@ fn main(rt: HostRuntime) -> ExitCode {
 fn run(rt: &HostRuntime) -> Result<Status, Status> {
     let words = argument_words(rt, PROGRAM)?;
     let arguments = arguments_of(rt, PROGRAM, words.as_slice())?;
-    let mut counter = Counter::new(rt.alloc());
+    let mut counter = Counter::new(rt.alloc(), arguments.number(b'm'));
     Ok(answer_lines(rt, PROGRAM, arguments.operands.as_slice(), &mut counter))
 }

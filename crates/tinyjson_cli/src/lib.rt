@@ -23,7 +23,9 @@ pub use failure::{Failure, Message, Place};
 pub use input::{read_named, read_text, reading_error, writing_error};
 pub use layout::{INDENT, write_laid_out};
 pub use lines::{AnswerLines, answer_lines};
-pub use program::{HELP, Program, VERSION, argument_words, arguments_of, misused, report};
+pub use program::{
+    HELP, MAX_LINE, Program, VERSION, argument_words, arguments_of, misused, report,
+};
 pub use refusal::{RefusedLine, tell};
 pub use shown::Shown;
 pub use status::Status;

@@ -24,6 +24,13 @@ pub const VERSION: Known<'static> = Known {
     takes_number: false,
 };
 
+/// What programs know that read lines: `-m` and `--max-line`.
+pub const MAX_LINE: Known<'static> = Known {
+    letter: b'm',
+    name: "max-line",
+    takes_number: true,
+};
+
 /// The version of all programs.
 const VERSION_NUMBER: &str = "0.2.0";
 

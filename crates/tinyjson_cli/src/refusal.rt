@@ -35,6 +35,9 @@ impl fmt::Display for RefusedLine<'_> {
                 let (column, kind) = (error.column(), error.kind());
                 write!(f, "{}:{number}:{column}: {kind}", Shown(file))
             }
+            (Some(file), Cause::TooLong(max)) => {
+                write!(f, "{}:{number}: longer than {max} bytes", Shown(file))
+            }
         }
     }
 }

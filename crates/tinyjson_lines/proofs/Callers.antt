@@ -12,6 +12,9 @@ use Rattle.tinyjson.proofs.Callers.{Appends_keeps, stop, stops_then, written_sam
 use Rattle.tinyjson.specs.Written.{Written, WrittenPart}
 use Rattle.tinyjson_bytes.specs.Scan.{is_in_line}
 use Rattle.tinyjson_lines.specs.Lines.{lines, onto_first, LinesRead, AllRead, ReadsLine, AllGive, said, AnswersAll, StopsAmong}
+use Rattle.tinyjson_lines.specs.Within.{GivesNext, IsGiven, ReadsWithin, given_as}
+use Rattle.tinyjson_lines.specs.declared.within.LineRead.{LineRead}
+use Rattle.tinyjson_lines.specs.declared.within.LineRead.TheVariants.{Whole, TooLong, End}
 
 first_by : (b : Bool) (x : ℕ) (xs : List ℕ) → cond b ((x ∷ []) ∷ lines xs) (onto_first x (lines xs)) ≡
     (if b then x ∷ [] else x ∷ take_through 10 xs) ∷ lines (if b then xs else drop_through 10 xs)
@@ -80,6 +83,16 @@ reads_kept (Some xs) None after line (Ok true) k h = absurd k
 reads_kept (Some xs) None after line (Ok false) k h = absurd k
 reads_kept (Some xs) (Some ys) after line (Ok true) k h = subst (λ zs. LinesRead (Some zs) after (line ∷ [])) k h
 reads_kept (Some xs) (Some ys) after line (Ok false) k h = subst (λ zs. AllRead (Some zs) after []) k h
+
+-- the next line, as it is given where it is read up to a limit
+pub given_next : (max : Option ℕ) (left after : Option (List ℕ)) (read : LineRead) (line slice : List ℕ) (given : Result (List ℕ) ℕ)
+    → ¬ (read ≡ End) → slice ≡ line → given ≡ given_as read slice → ReadsWithin max left after line (Ok read)
+    → GivesNext max left after given
+given_next max left after Whole line slice given n s e h =
+    (line, h.0, subst (IsGiven max line) (sym (e ∙ ap Ok s)) (refl, h.1))
+given_next max left after (TooLong m) line slice given n s e h =
+    (h.1.0, h.1.1, subst (IsGiven max h.1.0) (sym e) (h.0, h.1.2))
+given_next max left after End line slice given n s e h = absurd (n refl)
 
 -- ---- one line after the others
 

@@ -16,25 +16,13 @@ use Rattle.std.specs.List.{prefix_len}
 use Rattle.tinyjson_bytes.specs.Scan.{is_in_line}
 use Rattle.tinyjson_lines.proofs.Callers.{first_line}
 use Rattle.tinyjson_lines.specs.Lines.{content, lines, onto_first, LinesRead, AllRead}
-use Rattle.tinyjson_lines.specs.Within.{given_line, given_lines, LinesGiven, AllGiven, ReadsWithin}
+use Rattle.tinyjson_lines.specs.Within.{IsLonger, PassesOver, ReadsWithin}
 use Rattle.tinyjson_lines.specs.declared.within.LineRead.{LineRead}
 use Rattle.tinyjson_lines.specs.declared.within.LineRead.TheVariants.{Whole, TooLong, End}
 use Rattle.tinyjson_lines.specs.private.Pieces.{IsPart, TakesPiece, end_read}
 
 abbrev IsInLine : ℕ → Type 0
 IsInLine x = x ≢ 10
-
--- ---- lines that are read without a limit
-
-pub read_whole : (unread left : Option (List ℕ)) (line : List ℕ) → LinesRead unread left (line ∷ [])
-    → LinesGiven None unread left (Some line ∷ [])
-read_whole None left line h = tt
-read_whole (Some xs) None line h = absurd h
-read_whole (Some xs) (Some ys) line h = ap (map (given_line None)) h
-
-pub read_none : (max : Option ℕ) (unread left : Option (List ℕ)) → AllRead unread left [] → AllGiven max unread left []
-read_none max None left h = tt
-read_none max (Some xs) left h = (ap (map (given_line max)) h.0, h.1)
 
 -- ---- the line that a part without a line feed begins
 
@@ -89,13 +77,6 @@ content_part (x ∷ xs) h =
     let is : ends_with_byte 10 part ≡ false = rw (some, last) refl in
     ap (λ b. cond b (take (length part - 1) part) part) is
 
--- what is given of a line
-within_given : (max : ℕ) (line : List ℕ) → length (content line) ≤ max → given_line (Some max) line ≡ Some line
-within_given max line h = ap (λ b. cond b None (Some line)) (le-ltb max (length (content line)) h)
-
-long_given : (max : ℕ) (line : List ℕ) → max < length (content line) → given_line (Some max) line ≡ None
-long_given max line h = ap (λ b. cond b None (Some line)) (lt-ltb max (length (content line)) h)
-
 -- ---- pieces
 
 pub part_begins : (max : ℕ) (unread : Option (List ℕ)) (line : List ℕ) → line ≡ [] → IsPart max unread unread line
@@ -111,34 +92,32 @@ none_shown None n e h = tt
 none_shown (Some xs) n e h = h e
 
 -- the input is at its end
-at_end : (max : ℕ) (unread left after : Option (List ℕ)) → IfSome left (λ xs. xs ≡ []) → Keeps left after → Consumes unread left []
-    → AllGiven (Some max) unread after []
-at_end max None left after none kept taken = tt
-at_end max (Some u) None after none kept taken = absurd taken
-at_end max (Some u) (Some l) None none kept taken = absurd kept
-at_end max (Some u) (Some l) (Some a) none kept taken = (ap (given_lines (Some max)) (taken ∙ none), ap Some (kept ∙ none))
+at_end : (unread left after : Option (List ℕ)) → IfSome left (λ xs. xs ≡ []) → Keeps left after → Consumes unread left []
+    → AllRead unread after []
+at_end None left after none kept taken = tt
+at_end (Some u) None after none kept taken = absurd taken
+at_end (Some u) (Some l) None none kept taken = absurd kept
+at_end (Some u) (Some l) (Some a) none kept taken = (ap lines (taken ∙ none), ap Some (kept ∙ none))
 
-last_line : (max : ℕ) (unread left after : Option (List ℕ)) (x : ℕ) (xs : List ℕ) → IfSome left (λ l. l ≡ []) → Keeps left after
-    → Consumes unread left (x ∷ xs) → All IsInLine (x ∷ xs) → length (x ∷ xs) ≤ max
-    → LinesGiven (Some max) unread after (Some (x ∷ xs) ∷ [])
-last_line max None left after x xs none kept taken h w = tt
-last_line max (Some u) None after x xs none kept taken h w = absurd taken
-last_line max (Some u) (Some l) None x xs none kept taken h w = absurd kept
-last_line max (Some u) (Some l) (Some a) x xs none kept taken h w =
+last_line : (unread left after : Option (List ℕ)) (x : ℕ) (xs : List ℕ) → IfSome left (λ l. l ≡ []) → Keeps left after
+    → Consumes unread left (x ∷ xs) → All IsInLine (x ∷ xs) → LinesRead unread after ((x ∷ xs) ∷ [])
+last_line None left after x xs none kept taken h = tt
+last_line (Some u) None after x xs none kept taken h = absurd taken
+last_line (Some u) (Some l) None x xs none kept taken h = absurd kept
+last_line (Some u) (Some l) (Some a) x xs none kept taken h =
     let part : List ℕ = x ∷ xs in
     let whole : u ≡ part = taken ∙ ap (λ q. part ++ q) none ∙ append-nil part in
-    ap (given_lines (Some max)) whole
-    ∙ (ap (map (given_line (Some max))) (part_alone x xs h)
-    ∙ (ap (λ o. o ∷ []) (within_given max part (omega (arith, content_most part, w)))
-    ∙ ap (λ q. Some part ∷ given_lines (Some max) q) (sym (kept ∙ none))))
+    ap lines whole ∙ (part_alone x xs h ∙ ap (λ q. part ∷ lines q) (sym (kept ∙ none)))
 
 pub part_ends : (max : ℕ) (unread left after : Option (List ℕ)) (part slice : List ℕ) (r : LineRead) → r ≡ end_read slice → slice ≡ part
     → IfSome left (λ xs. xs ≡ []) → Keeps left after → IsPart max unread left part → ReadsWithin (Some max) unread after part (Ok r)
 part_ends max unread left after [] slice r is same none kept p =
-    subst (λ q. ReadsWithin (Some max) unread after [] (Ok q)) (sym (is ∙ ap end_read same)) (at_end max unread left after none kept p.taken)
+    subst (λ q. ReadsWithin (Some max) unread after [] (Ok q)) (sym (is ∙ ap end_read same)) (at_end unread left after none kept p.taken)
 part_ends max unread left after (x ∷ xs) slice r is same none kept p =
-    subst (λ q. ReadsWithin (Some max) unread after (x ∷ xs) (Ok q)) (sym (is ∙ ap end_read same))
-    (last_line max unread left after x xs none kept p.taken p.unended p.within)
+    subst (λ q. ReadsWithin (Some max) unread after (x ∷ xs) (Ok q)) (sym (is ∙ ap end_read same)) (
+      last_line unread left after x xs none kept p.taken p.unended,
+      omega (arith, content_most (x ∷ xs), p.within),
+    )
 
 -- what comes before the first line feed
 in_line_head : (x : ℕ) → is_in_line x ≡ true → IsInLine x
@@ -169,28 +148,35 @@ shown_feed n shown e within =
     ap (λ m. get_or shown m 0) e ∙ eqb-true _ 10 (not_false _ at)
 
 -- the rest of the line is shown
-pub whole_line : (max n : ℕ) (unread left after : Option (List ℕ)) (part shown line : List ℕ) → n ≡ prefix_len is_in_line shown
-    → n < length shown → length part + n ≤ max → line ≡ part ++ take (n + 1) shown → Consumes left after (take (n + 1) shown)
-    → IsPart max unread left part → LinesGiven (Some max) unread after (Some line ∷ [])
-whole_line max n None left after part shown line e low w is taken p = tt
-whole_line max n (Some u) None after part shown line e low w is taken p = absurd p.taken
-whole_line max n (Some u) (Some l) None part shown line e low w is taken p = absurd taken
-whole_line max n (Some u) (Some l) (Some a) part shown line e low w is taken p =
-    let q : List ℕ = take n shown in
-    let all : List ℕ = part ++ q in
-    let piece : take (n + 1) shown ≡ q ++ 10 ∷ []
-    = take_more shown n 0 low ∙ ap (λ b. q ++ b ∷ []) (shown_feed n shown e low) in
-    let whole : line ≡ all ++ 10 ∷ [] = is ∙ ap (λ t. part ++ t) piece ∙ sym (append_assoc part q (10 ∷ [])) in
-    let given : u ≡ all ++ 10 ∷ a =
-    p.taken ∙ ap (λ t. part ++ t) (taken ∙ (ap (λ t. t ++ a) piece ∙ append_assoc q (10 ∷ []) a)) ∙ sym (append_assoc part q (10 ∷ a)) in
-    let unended : All IsInLine all = All-append IsInLine part q p.unended (shown_front n shown e) in
-    let few : length q ≡ n = length-take-le n shown (omega (arith, low)) in
-    let short : length (content (all ++ 10 ∷ [])) ≤ max =
-    subst (λ t. length t ≤ max) (sym (content_ended all)) (omega (arith, length-append part q, few, w)) in
-    ap (given_lines (Some max)) given
-    ∙ (ap (map (given_line (Some max))) (part_first all (10 ∷ a) (10 ∷ []) (lines a) unended refl)
-    ∙ (ap (λ o. o ∷ given_lines (Some max) a) (within_given max (all ++ 10 ∷ []) short)
-    ∙ ap (λ t. Some t ∷ given_lines (Some max) a) (sym whole)))
+module _ (max n : ℕ) (part shown line : List ℕ) (e : n ≡ prefix_len is_in_line shown) (low : n < length shown)
+    (is : line ≡ part ++ take (n + 1) shown) where
+  abbrev all : List ℕ
+  all = part ++ take n shown
+
+  piece : take (n + 1) shown ≡ take n shown ++ 10 ∷ []
+  piece = take_more shown n 0 low ∙ ap (λ b. take n shown ++ b ∷ []) (shown_feed n shown e low)
+
+  whole : line ≡ all ++ 10 ∷ []
+  whole = is ∙ ap (λ t. part ++ t) piece ∙ sym (append_assoc part (take n shown) (10 ∷ []))
+
+  whole_read : (unread left after : Option (List ℕ)) → Consumes left after (take (n + 1) shown) → IsPart max unread left part
+      → LinesRead unread after (line ∷ [])
+  whole_read None left after taken p = tt
+  whole_read (Some u) None after taken p = absurd p.taken
+  whole_read (Some u) (Some l) None taken p = absurd taken
+  whole_read (Some u) (Some l) (Some a) taken p =
+      let q : List ℕ = take n shown in
+      let given : u ≡ all ++ 10 ∷ a =
+      p.taken ∙ ap (λ t. part ++ t) (taken ∙ (ap (λ t. t ++ a) piece ∙ append_assoc q (10 ∷ []) a)) ∙ sym (append_assoc part q (10 ∷ a)) in
+      let unended : All IsInLine all = All-append IsInLine part q p.unended (shown_front n shown e) in
+      ap lines given ∙ (part_first all (10 ∷ a) (10 ∷ []) (lines a) unended refl ∙ ap (λ t. t ∷ lines a) (sym whole))
+
+  pub whole_line : (unread left after : Option (List ℕ)) → length part + n ≤ max → Consumes left after (take (n + 1) shown)
+      → IsPart max unread left part → ReadsWithin (Some max) unread after line (Ok Whole)
+  whole_line unread left after w taken p =
+      let few : length (take n shown) ≡ n = length-take-le n shown (omega (arith, low)) in
+      let short : length (content line) ≡ length all = ap length (ap content whole ∙ content_ended all) in
+      (whole_read unread left after taken p, omega (arith, short, length-append part (take n shown), few, w))
 
 -- more of the line may follow
 pub more_part : (max n : ℕ) (unread left after : Option (List ℕ)) (part shown line : List ℕ) → n ≡ prefix_len is_in_line shown
@@ -214,42 +200,54 @@ some_taken y ys = by (y == 10)
     by true = omega arith
     by false = omega arith
 
-long_lines : (max : ℕ) (part rest : List ℕ) → All IsInLine part → max < length part
-    → given_lines (Some max) (part ++ rest) ≡ None ∷ given_lines (Some max) (drop_through 10 rest)
-long_lines max [] rest h w = absurd (omega (arith, w))
-long_lines max (x ∷ xs) [] h w =
-    let part : List ℕ = x ∷ xs in
-    ap (given_lines (Some max)) (append-nil part)
-    ∙ (ap (map (given_line (Some max))) (part_alone x xs h)
-    ∙ ap (λ o. o ∷ []) (long_given max part (subst (λ t. max < length t) (sym (content_part part h)) w)))
-long_lines max (x ∷ xs) (y ∷ ys) h w =
+-- a part that is longer than the limit begins the next line
+long_first : (max : ℕ) (part rest : List ℕ) → All IsInLine part → max < length part
+    → (line : List ℕ) × (lines (part ++ rest) ≡ line ∷ lines (drop_through 10 rest)) × IsLonger max line
+long_first max [] rest h w = absurd (omega (arith, w))
+long_first max (x ∷ xs) [] h w =
+    let part : List ℕ = x ∷ xs in (
+      part,
+      ap lines (append-nil part) ∙ part_alone x xs h,
+      subst (λ t. max < length t) (sym (content_part part h)) w,
+    )
+long_first max (x ∷ xs) (y ∷ ys) h w =
     let part : List ℕ = x ∷ xs in
     let taken : List ℕ = take_through 10 (y ∷ ys) in
-    let rest : List ℕ = drop_through 10 (y ∷ ys) in
-    let long : max < length (content (part ++ taken)) =
-    omega (arith, w, content_least (part ++ taken), length-append part taken, some_taken y ys) in
-    ap (map (given_line (Some max))) (part_first part (y ∷ ys) taken (lines rest) h (first_line (y ∷ ys) (some_taken y ys)))
-    ∙ ap (λ o. o ∷ given_lines (Some max) rest) (long_given max (part ++ taken) long)
+    let rest : List ℕ = drop_through 10 (y ∷ ys) in (
+      part ++ taken,
+      part_first part (y ∷ ys) taken (lines rest) h (first_line (y ∷ ys) (some_taken y ys)),
+      omega (arith, w, content_least (part ++ taken), length-append part taken, some_taken y ys),
+    )
 
 -- the line is too long, and passed over
-pub too_long : (max n : ℕ) (unread left mid after : Option (List ℕ)) (part shown : List ℕ) → n ≡ prefix_len is_in_line shown
-    → n ≤ length shown → max < length part + n → IfSome left (λ xs. StartsWith xs shown) → Keeps left mid → DropsThrough mid after 10
-    → IsPart max unread left part → LinesGiven (Some max) unread after (None ∷ [])
-too_long max n None left mid after part shown e most w front kept drops p = tt
-too_long max n (Some u) None mid after part shown e most w front kept drops p = absurd p.taken
-too_long max n (Some u) (Some l) None after part shown e most w front kept drops p = absurd kept
-too_long max n (Some u) (Some l) (Some m) after part shown e most w front kept drops p =
-    let q : List ℕ = take n shown in
-    let all : List ℕ = part ++ q in
-    let rest : List ℕ = drop n shown ++ drop (length shown) l in
-    let left_is : l ≡ q ++ rest =
-    starts_with_rest l shown front ∙ ap (λ t. t ++ drop (length shown) l) (sym (take-append-drop n shown))
-    ∙ append_assoc q (drop n shown) (drop (length shown) l) in
-    let given : u ≡ all ++ rest = p.taken ∙ ap (λ t. part ++ t) left_is ∙ sym (append_assoc part q rest) in
-    let unended : All IsInLine q = shown_front n shown e in
-    let few : length q ≡ n = length-take-le n shown most in
-    let long : max < length all = omega (arith, length-append part q, few, w) in
-    let dropped : after ≡ Some (drop_through 10 rest) =
-    drops ∙ ap (λ t. Some (drop_through 10 t)) (kept ∙ left_is) ∙ ap Some (drop_through-append 10 q rest unended) in
-    subst (λ o. LinesGiven (Some max) (Some u) o (None ∷ [])) (sym dropped)
-    (ap (given_lines (Some max)) given ∙ long_lines max all rest (All-append IsInLine part q p.unended unended) long)
+module _ (max n : ℕ) (part shown : List ℕ) (e : n ≡ prefix_len is_in_line shown) (most : n ≤ length shown) (w : max < length part + n) where
+  abbrev front : List ℕ
+  front = part ++ take n shown
+
+  long_front : max < length front
+  long_front = omega (arith, length-append part (take n shown), length-take-le n shown most, w)
+
+  unended_front : All IsInLine part → All IsInLine front
+  unended_front h = All-append IsInLine part (take n shown) h (shown_front n shown e)
+
+  passed_over : (unread left mid after : Option (List ℕ)) → IfSome left (λ xs. StartsWith xs shown) → Keeps left mid
+      → DropsThrough mid after 10 → IsPart max unread left part → PassesOver max unread after
+  passed_over None left mid after starts kept drops p =
+      (front, tt, subst (λ t. max < length t) (sym (content_part front (unended_front p.unended))) long_front)
+  passed_over (Some u) None mid after starts kept drops p = absurd p.taken
+  passed_over (Some u) (Some l) None after starts kept drops p = absurd kept
+  passed_over (Some u) (Some l) (Some m) after starts kept drops p =
+      let q : List ℕ = take n shown in
+      let rest : List ℕ = drop n shown ++ drop (length shown) l in
+      let left_is : l ≡ q ++ rest =
+      starts_with_rest l shown starts ∙ ap (λ t. t ++ drop (length shown) l) (sym (take-append-drop n shown))
+      ∙ append_assoc q (drop n shown) (drop (length shown) l) in
+      let given : u ≡ front ++ rest = p.taken ∙ ap (λ t. part ++ t) left_is ∙ sym (append_assoc part q rest) in
+      let dropped : after ≡ Some (drop_through 10 rest) =
+      drops ∙ ap (λ t. Some (drop_through 10 t)) (kept ∙ left_is) ∙ ap Some (drop_through-append 10 q rest (shown_front n shown e)) in
+      let long = long_first max front rest (unended_front p.unended) long_front in
+      (long.0, subst (λ o. LinesRead (Some u) o (long.0 ∷ [])) (sym dropped) (ap lines given ∙ long.1), long.2)
+
+  pub too_long : (unread left mid after : Option (List ℕ)) → IfSome left (λ xs. StartsWith xs shown) → Keeps left mid
+      → DropsThrough mid after 10 → IsPart max unread left part → (Some max ≡ Some max) × PassesOver max unread after
+  too_long unread left mid after starts kept drops p = (refl, passed_over unread left mid after starts kept drops p)

@@ -1,15 +1,16 @@
 -- A handler's steps, one after the other.
-use Rattle.std.proofs.Common.{◌≡◌, ℕ, suc, ◌+◌, Bool, true, false, ◌&&◌, List, [], ◌∷◌, ◌++◌, length, Option, None, Some, IfSome}
+use Rattle.std.proofs.Common.{◌≡◌, ℕ, suc, ◌+◌, Bool, true, false, ◌&&◌, List, [], ◌∷◌, ◌++◌, cond, length, map, Option, None, Some, IfSome}
 use Rattle.std.proofs.Common.{Result, Ok, Err, ⊎_elim, inl, inr, refl, sym, ap, ◌∙◌, subst, append_assoc, append-nil, length-append, arith}
 use Rattle.std.proofs.KnownBytes.{Appends-nil, Appends-trans, Appends-kept}
-use Rattle.std.proofs.lemmas.Bool.{false≢true}
+use Rattle.std.proofs.lemmas.Bool.{false≢true, le-ltb, lt-ltb}
 use Rattle.std.specs.Io.KnownBytes.{Appends, Keeps}
 use Rattle.std.specs.Result.{IsErr}
 use Rattle.std.specs.declared.io.Error.{Error}
 use Rattle.tinyjson.proofs.Callers.{stop, stops_then, written_same}
 use Rattle.tinyjson_lines.specs.Each.{Handles, HandlesLine, Step, Handled, go_on, lines_of, written_of, reported_of}
 use Rattle.tinyjson_lines.specs.Each.{Reaches, HandlesAll, StopsAmongSteps, RunsOver, given_by}
-use Rattle.tinyjson_lines.specs.Within.{LinesGiven, AllGiven, ReadsWithin, given_lines}
+use Rattle.tinyjson_lines.specs.Lines.{content, LinesRead, AllRead}
+use Rattle.tinyjson_lines.specs.Within.{IsWithin, LinesGiven, AllGiven, PassesOver, ReadsWithin, given_line, given_lines}
 use Rattle.tinyjson.specs.Written.{Written, WrittenPart}
 use Rattle.tinyjson_lines.specs.declared.within.LineRead.{LineRead}
 use Rattle.tinyjson_lines.specs.declared.within.LineRead.TheVariants.{Whole, TooLong, End}
@@ -39,6 +40,29 @@ first_given : (max : Option ℕ) (unread left : Option (List ℕ)) (given : List
 first_given max None left given h = tt
 first_given max (Some xs) None given h = absurd h
 first_given max (Some xs) (Some ys) given h = (given_lines max ys, h)
+
+-- what is given of lines that are read
+within_given : (max : Option ℕ) (line : List ℕ) → IsWithin max line → given_line max line ≡ Some line
+within_given None line h = refl
+within_given (Some m) line h = ap (λ b. cond b None (Some line)) (le-ltb m (length (content line)) h)
+
+whole_given : (max : Option ℕ) (unread left : Option (List ℕ)) (line : List ℕ) → LinesRead unread left (line ∷ []) → IsWithin max line
+    → LinesGiven max unread left (Some line ∷ [])
+whole_given max None left line h w = tt
+whole_given max (Some xs) None line h w = absurd h
+whole_given max (Some xs) (Some ys) line h w =
+    ap (map (given_line max)) h ∙ ap (λ o. o ∷ given_lines max ys) (within_given max line w)
+
+long_given : (m : ℕ) (unread left : Option (List ℕ)) → PassesOver m unread left → LinesGiven (Some m) unread left (None ∷ [])
+long_given m None left h = tt
+long_given m (Some xs) None h = absurd h.1
+long_given m (Some xs) (Some ys) h =
+    ap (map (given_line (Some m))) h.1
+    ∙ ap (λ b. cond b None (Some h.0) ∷ given_lines (Some m) ys) (lt-ltb m (length (content h.0)) h.2)
+
+pub none_left : (max : Option ℕ) (unread left : Option (List ℕ)) → AllRead unread left [] → AllGiven max unread left []
+none_left max None left h = tt
+none_left max (Some xs) left h = (ap (map (given_line max)) h.0, h.1)
 
 -- ---- steps
 
@@ -216,6 +240,8 @@ pub given_read : (max : Option ℕ) (left after : Option (List ℕ)) (read : Lin
     → ¬ (read ≡ End) → slice ≡ line → given ≡ given_by read slice → ReadsWithin max left after line (Ok read)
     → LinesGiven max left after (given ∷ [])
 given_read max left after Whole line slice given n s e h =
-    subst (λ l. LinesGiven max left after (l ∷ [])) (sym (e ∙ ap Some s)) h
-given_read max left after TooLong line slice given n s e h = subst (λ l. LinesGiven max left after (l ∷ [])) (sym e) h
+    subst (λ l. LinesGiven max left after (l ∷ [])) (sym (e ∙ ap Some s)) (whole_given max left after line h.0 h.1)
+given_read max left after (TooLong m) line slice given n s e h =
+    subst (λ o. LinesGiven o left after (given ∷ [])) (sym h.0)
+    (subst (λ l. LinesGiven (Some m) left after (l ∷ [])) (sym e) (long_given m left after h.1))
 given_read max left after End line slice given n s e h = absurd (n refl)

@@ -90,5 +90,5 @@ RunsOver handles max old new unread left held holds told tells (Err e) =
 -- The line that a handler is given. For a private contract.
 abbrev pub given_by : LineRead → List ℕ → Option (List ℕ)
 given_by Whole line = Some line
-given_by TooLong line = None
+given_by (TooLong m) line = None
 given_by End line = None

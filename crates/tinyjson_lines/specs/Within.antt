@@ -1,9 +1,45 @@
 -- Lines that are read up to a limit.
-use Rattle.std.specs.Prelude.{◌≡◌, ℕ, List, [], ◌∷◌, ◌++◌, cond, length, map, nat_lt, Option, None, Some, IfSome, Result, Ok, Err, ⊤}
+use Rattle.std.specs.Prelude.{◌≡◌, ◌<◌, ◌≤◌, ℕ, List, [], ◌∷◌, ◌++◌, cond, length, map, nat_lt, Option, None, Some, IfSome, Result, Ok, Err, ⊤}
 use Rattle.std.specs.declared.io.Error.{Error}
-use Rattle.tinyjson_lines.specs.Lines.{content, lines}
+use Rattle.tinyjson_lines.specs.Lines.{content, lines, LinesRead, AllRead}
 use Rattle.tinyjson_lines.specs.declared.within.LineRead.{LineRead}
 use Rattle.tinyjson_lines.specs.declared.within.LineRead.TheVariants.{Whole, TooLong, End}
+
+-- the line has no more bytes before its line feed than the limit, if there is one
+abbrev pub IsWithin : Option ℕ → List ℕ → Type 0
+IsWithin max line = IfSome max (λ m. length (content line) ≤ m)
+
+-- the line has more bytes before its line feed than the limit
+abbrev pub IsLonger : ℕ → List ℕ → Type 0
+IsLonger max line = max < length (content line)
+
+-- One line is read that is longer than the limit.
+abbrev pub PassesOver : ℕ → Option (List ℕ) → Option (List ℕ) → Type 0
+PassesOver max unread left = (line : List ℕ) × LinesRead unread left (line ∷ []) × IsLonger max line
+
+-- One line within the limit is read, or a longer one is passed over, or there is none.
+abbrev pub ReadsWithin : Option ℕ → Option (List ℕ) → Option (List ℕ) → List ℕ → Result LineRead Error → Type 0
+ReadsWithin max unread left line (Ok Whole) = LinesRead unread left (line ∷ []) × IsWithin max line
+ReadsWithin max unread left line (Ok (TooLong m)) = (max ≡ Some m) × PassesOver m unread left
+ReadsWithin max unread left line (Ok End) = AllRead unread left []
+ReadsWithin max unread left line (Err e) = ⊤
+
+-- a line as it is given after it was read: itself, or the limit that it exceeds
+abbrev pub given_as : LineRead → List ℕ → Result (List ℕ) ℕ
+given_as Whole line = Ok line
+given_as (TooLong max) line = Err max
+given_as End line = Ok line
+
+-- The line is given so.
+abbrev pub IsGiven : Option ℕ → List ℕ → Result (List ℕ) ℕ → Type 0
+IsGiven max line (Ok xs) = (xs ≡ line) × IsWithin max line
+IsGiven max line (Err m) = (max ≡ Some m) × IsLonger m line
+
+-- The next line is given so.
+abbrev pub GivesNext : Option ℕ → Option (List ℕ) → Option (List ℕ) → Result (List ℕ) ℕ → Type 0
+GivesNext max unread left given = (line : List ℕ) × LinesRead unread left (line ∷ []) × IsGiven max line given
+
+-- ---- the lines of a run
 
 -- a line as it is given: none where it has more bytes before its line feed than the limit, if there is one
 abbrev pub given_line : Option ℕ → List ℕ → Option (List ℕ)
@@ -23,10 +59,3 @@ LinesGiven max (Some xs) (Some ys) given = given_lines max xs ≡ given ++ given
 -- these lines are all, and nothing is left
 abbrev pub AllGiven : Option ℕ → Option (List ℕ) → Option (List ℕ) → List (Option (List ℕ)) → Type 0
 AllGiven max unread left given = IfSome unread (λ xs. (given_lines max xs ≡ given) × (left ≡ Some []))
-
--- One line is given, or there is none.
-abbrev pub ReadsWithin : Option ℕ → Option (List ℕ) → Option (List ℕ) → List ℕ → Result LineRead Error → Type 0
-ReadsWithin max unread left line (Ok Whole) = LinesGiven max unread left (Some line ∷ [])
-ReadsWithin max unread left line (Ok TooLong) = LinesGiven max unread left (None ∷ [])
-ReadsWithin max unread left line (Ok End) = AllGiven max unread left []
-ReadsWithin max unread left line (Err e) = ⊤

@@ -73,6 +73,6 @@ fn given_line(read: LineRead, line: &[u8]) -> Option<&[u8]>
 {
     match read {
         LineRead::Whole => Some(line),
-        LineRead::TooLong | LineRead::End => None,
+        LineRead::TooLong(_) | LineRead::End => None,
     }
 }

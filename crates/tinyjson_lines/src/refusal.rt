@@ -13,6 +13,8 @@ pub enum Cause {
     /// The line is no JSON text, or is nested deeper than the limit. The column of the error is that
     /// within the line.
     NotJson(JsonParseError),
+    /// The line has more bytes before its line feed than this limit.
+    TooLong(usize),
 }
 
 /// A line that is rejected.
@@ -24,7 +26,7 @@ pub struct Refusal {
     pub cause: Cause,
 }
 
-/// `line 3, col 4: ` and the message of the parser's kind; or `line 3: not UTF-8`.
+/// `line 3, col 4: ` and the message of the parser's kind; `line 3: not UTF-8`; or `line 3: longer than 9 bytes`.
 impl fmt::Display for Refusal {
     ghost output = { λ r. Some (refusal_message r) };
 
@@ -36,6 +38,7 @@ impl fmt::Display for Refusal {
                 let (column, kind) = (error.column(), error.kind());
                 write!(f, "line {number}, col {column}: {kind}")
             }
+            Cause::TooLong(max) => write!(f, "line {number}: longer than {max} bytes"),
         }
     }
 }

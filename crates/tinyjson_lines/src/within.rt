@@ -1,6 +1,7 @@
 //! Lines that are read up to a limit.
 ghost use Rattle.std.specs.Prelude.{◌≡◌, ◌+◌, ◌≤◌, ℕ, List, Option, Some, IfSome, length};
-ghost use Rattle.tinyjson_lines.specs.Within.{ReadsWithin};
+ghost use Rattle.std.specs.Result.{result_map_both};
+ghost use Rattle.tinyjson_lines.specs.Within.{ReadsWithin, given_as};
 ghost use Rattle.tinyjson_lines.specs.private.Pieces.{IsPart, TakesPiece, end_read};
 
 use crate::lines::read_line;
@@ -12,10 +13,27 @@ use tinyjson_bytes::line_end;
 pub enum LineRead {
     /// All of it is read.
     Whole,
-    /// It is longer than the limit, and passed over.
-    TooLong,
+    /// It has more bytes before its line feed than this limit, and is passed over.
+    TooLong(usize),
     /// There is none: the input is at its end.
     End,
+}
+
+impl LineRead {
+    /// The line that was read, or the limit that it exceeds.
+    ///
+    /// ```
+    /// let read = read_line_within(&mut input, &mut line, Some(5))?; // of "[1,2,3]\n": TooLong(5)
+    /// read.given(line.as_slice()) // Err(5)
+    /// ```
+    pub fn given(self, line: &[u8]) -> Result<&[u8], usize>
+        ensures { result_map_both (λ s. s.now) (λ m. m) result ≡ given_as self line.now }
+    {
+        match self {
+            LineRead::TooLong(max) => Err(max),
+            LineRead::Whole | LineRead::End => Ok(line),
+        }
+    }
 }
 
 /// Reads one line with its line feed, in place of what `line` held, unless it has more than `max` bytes before its line
@@ -25,7 +43,7 @@ pub enum LineRead {
 ///
 /// ```
 /// let mut input = b"[1,2,3]\n4\n".as_slice();
-/// read_line_within(&mut input, &mut line, Some(5))? // TooLong
+/// read_line_within(&mut input, &mut line, Some(5))? // TooLong(5)
 /// read_line_within(&mut input, &mut line, Some(5))? // Whole, and `line` has the bytes of "4\n"
 /// ```
 pub fn read_line_within<R: BufRead>(
@@ -91,7 +109,7 @@ fn take_piece<R: BufRead>(
     let end = line_end(available);
     if end > max.saturating_sub(line.len()) {
         input.skip_until(b'\n')?;
-        return Ok(Some(LineRead::TooLong));
+        return Ok(Some(LineRead::TooLong(max)));
     }
     if end < available.len() {
         line.extend_from_slice(&available[..end + 1])?;

@@ -1,8 +1,9 @@
 use Rattle.std.proofs.Common.{◌≡◌, ◌∷◌, [], true, false, Ok, subst}
 use Rattle.std.proofs.KnownBytes.{Keeps-refl}
-use Rattle.tinyjson_lines.proofs.Steps.{at_error, begun, ended, failed, given_read, last, next, stopped}
+use Rattle.tinyjson_lines.proofs.Steps.{at_error, begun, ended, failed, given_read, last, next, none_left, stopped}
 use Rattle.tinyjson_lines.specs.Each.{HandlesLine}
-use Rattle.tinyjson_lines.specs.Within.{LinesGiven, AllGiven, ReadsWithin}
+use Rattle.tinyjson_lines.specs.Lines.{AllRead}
+use Rattle.tinyjson_lines.specs.Within.{ReadsWithin}
 use Rattle.tinyjson_lines.proofs.each.for_each_line.Goals as goal
 
 pub loop-number-init : goal.loop-number-init
@@ -25,10 +26,10 @@ pub returns-in-End : goal.returns-in-End
 returns-in-End g c =
     let left = g.R.Read.remaining c.loop-number.input in
     let after = g.R.Read.remaining c.read_line_within.new.input in
-    let none : AllGiven c.args.max left after []
+    let none : AllRead left after []
     = subst (λ r. ReadsWithin c.args.max left after c.read_line_within.new.line.items (Ok r)) c.in-End.is c.in_ok-read.ensures.reads in
-    ended g.H.LineHandler.handles c.args.max _ _ _ _ _ _ _ _ c.loop-number.number c.loop-number.invariant.progress _ _ none
-    c.flush.ensures.bytes
+    ended g.H.LineHandler.handles c.args.max _ _ _ _ _ _ _ _ c.loop-number.number c.loop-number.invariant.progress _ _
+    (none_left c.args.max left after none) c.flush.ensures.bytes
 
 pub returns-in_err-handle_line : goal.returns-in_err-handle_line
 returns-in_err-handle_line g c =

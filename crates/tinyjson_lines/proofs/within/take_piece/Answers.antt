@@ -22,8 +22,8 @@ returns-then-end-saturating_sub-clause-reads g c = λ unread p.
     let rested = c.fill_buf.follows.lender-at-none in
     let filled = subst (FillKeeps _ (g.R.Read.remaining rested) (g.R.BufRead.consumable_len rested)) c.in-Ok.is
     c.fill_buf.follows.holds-at-none in
-    too_long c.args.max end.result unread _ _ _ c.args.line.now.items shown end.ensures.end end.ensures.within
-    (omega (arith, c.if-end-saturating_sub.true, c.saturating_sub.ensures, c.len.ensures)) c.in-Ok.ensures.front filled.0
+    too_long c.args.max end.result c.args.line.now.items shown end.ensures.end end.ensures.within
+    (omega (arith, c.if-end-saturating_sub.true, c.saturating_sub.ensures, c.len.ensures)) unread _ _ _ c.in-Ok.ensures.front filled.0
     c.in_ok-skip_until.ensures.rest p
 
 pub returns-then-end-available-clause-reads : goal.returns-then-end-available-clause-reads
@@ -36,9 +36,8 @@ returns-then-end-available-clause-reads g c = λ unread p.
     c.fill_buf.follows.holds-at-none in
     let taken = Consumes_shown _ _ _ _ shown (end.result + 1) (omega (arith, within)) c.in-Ok.ensures.front c.in-Ok.ensures.end
     filled.0 filled.1 c.consume.ensures.bytes in
-    whole_line c.args.max end.result unread _ _ c.args.line.now.items shown _ end.ensures.end within
-    (omega (arith, c.if-end-saturating_sub.false, c.saturating_sub.ensures, c.len.ensures, p.within))
-    c.in_ok-extend_from_slice.ensures.items taken.0 p
+    whole_line c.args.max end.result c.args.line.now.items shown _ end.ensures.end within c.in_ok-extend_from_slice.ensures.items
+    unread _ _ (omega (arith, c.if-end-saturating_sub.false, c.saturating_sub.ensures, c.len.ensures, p.within)) taken.0 p
 
 pub returns-clause-reads : goal.returns-clause-reads
 returns-clause-reads g c = λ unread p.
