@@ -1,4 +1,4 @@
-"""Rows of `json_schema`: a value, or each line of some, checked against a schema (JSON Schema 2020-12, drafts 4, 6 and 7)."""
+"""Rows of `json_schema`: a value, or each line of some, checked against a schema (JSON Schema 2020-12, 2019-09, drafts 4, 6 and 7)."""
 
 import itertools
 import json
@@ -701,7 +701,7 @@ REFUSED_RESOURCES = [
     ('{"$ref":"x#y z","$defs":{"a":{"$id":"x"}}}', "/$ref"), ('{"$ref":"x#1","allOf":[{"$id":"x"}]}', "/$ref"), ('{"$ref":"x#%FF","$defs":{"a":{"$id":"x"}}}', "/$ref"), ('{"$ref":"x#%2","$defs":{"a":{"$id":"x"}}}', "/$ref"),
 ]
 
-# The URIs of drafts 4, 6 and 7, as schemas spell them.
+# The URIs of drafts 4, 6, 7 and 2019-09, as schemas spell them.
 SPELLED = ["http://json-schema.org/%s/schema#", "http://json-schema.org/%s/schema", "https://json-schema.org/%s/schema#", "https://json-schema.org/%s/schema"]
 
 # Schemas of drafts 4, 6 and 7, without their `$schema`; most are of the official suite. Places are in the words of 2020-12.
@@ -771,6 +771,44 @@ DRAFT_4 = [
      '"allOf":[{"$ref":"foo.json","id":"http://localhost:1234/sibling_id/"}]}', ["1"], [('"a"', "", "/allOf/0/$ref/type")]),
     ('{"definitions":{"a":{"id":"b","definitions":{"c":{"type":"null"}},"items":{"$ref":"#/definitions/c"}}},"$ref":"b"}', ["[null]"], [("[1]", "/0", "/$ref/items/$ref/type")]),
     ('{"properties":{"id":{"type":"null"},"a":{"enum":[{"id":"b"},{"id":"b"}]}}}', ['{"id":null,"a":{"id":"b"}}'], [('{"id":1}', "/id", "/properties/id/type")]),
+]
+
+# The same of 2019-09.
+DRAFT_2019 = [
+    # Core, 9.3.1: `items` and `additionalItems` as in draft 7.
+    ('{"items":[{"type":"integer"},{"type":"string"}]}', ['[1,"foo"]', "[1]", '[1,"foo",true]', "[]"], [('["foo",1]', "/0", "/prefixItems/0/type")]),
+    ('{"items":[{}],"additionalItems":{"type":"integer"}}', ["[null,2,3,4]"], [('[null,2,3,"foo"]', "/3", "/items/type")]),
+    ('{"items":{},"additionalItems":false}', ["[1,2,3,4,5]"], []),
+    # 8.2.4.1: what is beside `$ref` applies, too.
+    ('{"$defs":{"reffed":{"type":"array"}},"properties":{"foo":{"$ref":"#/$defs/reffed","maxItems":2}}}', ['{"foo":[]}', '{"foo":[1,2]}'],
+     [('{"foo":"string"}', "/foo", "/properties/foo/$ref/type"), ('{"foo":[1,2,3]}', "/foo", "/properties/foo/maxItems")]),
+    ('{"$id":"http://localhost/a","$ref":"b","$defs":{"b":{"$id":"b","$ref":"#/$defs/c","$defs":{"c":{"type":"null"}}}}}', ["null"], [("1", "", "/$ref/$ref/type")]),
+    # What came with it.
+    ('{"$ref":"#foo","$defs":{"A":{"$anchor":"foo","type":"integer"}}}', ["1"], [('"a"', "", "/$ref/type")]),
+    ('{"dependentRequired":{"bar":["foo"]}}', ['{"foo":1,"bar":2}'], [('{"bar":2}', "", "/dependentRequired")]),
+    ('{"dependentSchemas":{"bar":{"properties":{"foo":{"type":"integer"}}}}}', ['{"foo":1,"bar":2}'], [('{"foo":"a","bar":2}', "/foo", "/dependentSchemas/bar/properties/foo/type")]),
+    ('{"contains":{"const":1},"minContains":2,"maxContains":3}', ["[1,1]", "[1,1,1,2]"], [("[1]", "", "/minContains"), ("[1,1,1,1]", "", "/maxContains")]),
+    ('{"properties":{"foo":{"type":"string"}},"unevaluatedProperties":false}', ['{"foo":"foo"}'], [('{"foo":"foo","bar":"bar"}', "/bar", "/unevaluatedProperties")]),
+    # `dependencies` of draft 7.
+    ('{"dependencies":{"bar":["foo"],"a":{"required":["b"]}}}', ['{"foo":1,"bar":2}', '{"a":1,"b":1}'], [('{"bar":2}', "", "/dependentRequired"), ('{"a":1}', "", "/dependentSchemas/a/required")]),
+    # 8.2.4.2: a recursive reference leads to its resource, and if that has `$recursiveAnchor`, to the outermost one that has it.
+    ('{"properties":{"foo":{"$recursiveRef":"#"}},"additionalProperties":false}', ['{"foo":false}', '{"foo":{"foo":false}}'],
+     [('{"bar":false}', "/bar", "/additionalProperties"), ('{"foo":{"bar":false}}', "/foo/bar", "/properties/foo/$dynamicRef/additionalProperties")]),
+    ('{"$id":"http://localhost:4242/recursiveRef2/schema.json","$defs":{"myobject":{"$id":"myobject.json","$recursiveAnchor":false,"anyOf":[{"type":"string"},{"type":"object","additionalProperties":{"$recursiveRef":"#"}}]}},'
+     '"anyOf":[{"type":"integer"},{"$ref":"#/$defs/myobject"}]}', ["1", '{"foo":"hi"}', '{"foo":{"bar":"hi"}}'], [('{"foo":1}', "", "/anyOf"), ('{"foo":{"bar":1}}', "", "/anyOf")]),
+    ('{"$id":"http://localhost:4242/recursiveRef3/schema.json","$recursiveAnchor":true,"$defs":{"myobject":{"$id":"myobject.json","$recursiveAnchor":true,"anyOf":[{"type":"string"},{"type":"object",'
+     '"additionalProperties":{"$recursiveRef":"#"}}]}},"anyOf":[{"type":"integer"},{"$ref":"#/$defs/myobject"}]}', ["1", '{"foo":"hi"}', '{"foo":1}', '{"foo":{"bar":1}}'], [('{"foo":true}', "", "/anyOf")]),
+    ('{"$id":"http://localhost:4242/recursiveRef7/schema.json","$recursiveAnchor":true,"$defs":{"myobject":{"$id":"myobject.json","anyOf":[{"type":"string"},{"type":"object",'
+     '"additionalProperties":{"$recursiveRef":"#"}}]}},"anyOf":[{"type":"integer"},{"$ref":"#/$defs/myobject"}]}', ["1", '{"foo":"hi"}'], [('{"foo":1}', "", "/anyOf")]),
+]
+
+# What is rejected in 2019-09 alone: keywords of 2020-12, names and marks of other places, and what would be two keywords of one name.
+REFUSED_2019 = [
+    ('{"prefixItems":[{}]}', "/prefixItems"), ('{"$dynamicRef":"#"}', "/$dynamicRef"), ('{"$dynamicAnchor":"a"}', "/$dynamicAnchor"), ('{"unevaluatedItems":false}', "/unevaluatedItems"),
+    ('{"dependencies":{},"dependentRequired":{}}', "/dependentRequired"), ('{"dependencies":{},"dependentSchemas":{}}', "/dependentSchemas"), ('{"items":[{}],"not":{"$ref":"#/items"}}', "/not/$ref"),
+    ('{"$recursiveRef":"a"}', "/$dynamicRef"), ('{"$recursiveRef":5}', "/$dynamicRef"), ('{"$recursiveAnchor":5}', "/$dynamicAnchor"), ('{"not":{"$recursiveAnchor":true}}', "/not/$dynamicAnchor"),
+    ('{"$recursiveAnchor":true,"not":{"$recursiveAnchor":true}}', "/$dynamicAnchor"), ('{"$recursiveAnchor":true,"not":{"$ref":"#_recursiveAnchor"}}', "/not/$ref"),
+    ('{"$recursiveAnchor":true,"not":{"$ref":"#%5FrecursiveAnchor"}}', "/not/$ref"), ('{"not":{"$schema":"http://json-schema.org/draft-07/schema#"}}', "/not/$schema"),
 ]
 
 # What is rejected in draft 4 alone: keywords of draft 6, booleans in place of schemas, and a boolean beside no limit.
@@ -856,7 +894,7 @@ def unit_of(instance, keyword, **line):
 
 def of_draft(number, schema):
     """The schema with a `$schema` of the draft; how that is spelled depends on the schema."""
-    spelled = SPELLED[len(schema) % len(SPELLED)] % f"draft-0{number}"
+    spelled = SPELLED[len(schema) % len(SPELLED)] % ("draft/2019-09" if number == 2019 else f"draft-0{number}")
     return json.dumps({"$schema": spelled, **json.loads(schema)})
 
 
@@ -1063,13 +1101,13 @@ def answers():
         for row in rows:
             schema, place = row
             yield row, schema, "1", reported(2, "json_schema", words % place)
-    for rows, drafts in ((OLD_DRAFTS, (4, 6, 7)), (BOTH_DRAFTS, (6, 7)), (DRAFT_7, (7,)), (DRAFT_4, (4,))):
+    for rows, drafts in ((OLD_DRAFTS, (4, 6, 7)), (BOTH_DRAFTS, (6, 7)), (DRAFT_7, (7,)), (DRAFT_4, (4,)), (DRAFT_2019, (2019,))):
         for row, number in itertools.product(rows, drafts):
             schema, valid, others = row
             whole = of_draft(number, schema)
             yield from ((row, whole, value, judged(None)) for value in valid)
             yield from ((row, whole, value, judged(places)) for value, *places in others)
-    for rows, drafts in ((REFUSED_DRAFTS, (4, 6, 7)), (REFUSED_DRAFT_4, (4,))):
+    for rows, drafts in ((REFUSED_DRAFTS, (4, 6, 7)), (REFUSED_DRAFT_4, (4,)), (REFUSED_2019, (2019,))):
         for row, number in itertools.product(rows, drafts):
             schema, place = row
             yield row, of_draft(number, schema), "1", reported(2, "json_schema", NOT_APPLIED % place)
@@ -1113,11 +1151,13 @@ def check_drafts(checks):
     row([], '{"minimum":1,"exclusiveMinimum":true}', refused("/exclusiveMinimum"))
     row(["-d4"], of_draft(7, '{"exclusiveMinimum":1,"items":false}'), (1, unit_of("/0", "/items"), b""))
     row(["-d", "4"], "true", refused(""))
+    row(["-d", "2019"], '{"items":[true],"additionalItems":false,"$defs":{"a":{"$anchor":"b"}}}', invalid)
+    row(["-d", "7"], '{"$defs":{"a":{"$anchor":"b"}}}', refused("/$defs/a/$anchor"))
     other = '"http://example.com/\\u001b"'
     line = b'json_schema: the schema: "http://example.com/U+001B" is an unknown $schema\n'
     row([], '{"$schema":%s,"items":false}' % other, (1, unit_of("/0", "/items"), line))
     row(["-d", "7"], '{"$schema":%s,%s' % (other, listed[1:]), (1, unit_of("/1", "/items"), line))
-    row(["-d", "5"], "true", reported(2, "json_schema", "no draft 5: the drafts are 4, 6, 7 and 2020"))
+    row(["-d", "5"], "true", reported(2, "json_schema", "no draft 5: the drafts are 4, 6, 7, 2019 and 2020"))
     row(["-d", "x"], "true", misused("json_schema", "no number of 1 to 9 digits after -d"))
 
 

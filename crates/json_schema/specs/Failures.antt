@@ -22,7 +22,7 @@ schema_message (is.Text e) = codes "the schema: " ++ error_message e
 schema_message (is.Refused place) = codes "the schema: can't be applied at \"" ++ (shown (text place) ++ codes "\"")
 schema_message (is.PatternLimit place) =
     codes "the schema: the pattern at \"" ++ (shown (text place) ++ codes "\" is too deep or too large")
-schema_message (is.NoDraft n) = codes "no draft " ++ (decimal n ++ codes ": the drafts are 4, 6, 7 and 2020")
+schema_message (is.NoDraft n) = codes "no draft " ++ (decimal n ++ codes ": the drafts are 4, 6, 7, 2019 and 2020")
 
 -- a failure with this status and this message
 abbrev pub Is : Status → List ℕ → Failure → Type 0

@@ -33,21 +33,21 @@ const PROGRAM: Program<'static> = Program {
     help: "\
 Usage: json_schema [-l] [-m N] [-d DRAFT] SCHEMA [FILE..]
 
-Checks JSON texts against a JSON Schema of draft 4, 6, 7 or 2020-12. SCHEMA is
-the name of the schema's file. Of a value that is not valid one line of JSON is
-printed: the place in the schema, and the place in the value that does not meet
-it.
+Checks JSON texts against a JSON Schema of draft 4, 6, 7, 2019-09 or 2020-12.
+SCHEMA is the name of the schema's file. Of a value that is not valid one line
+of JSON is printed: the place in the schema, and the place in the value that
+does not meet it.
 
 The texts are those of the files, or standard input where none is named; '-' is
 standard input, too. Options may come anywhere; after '--' all are operands.
 A message names each key of the schema that is no keyword, and a $schema that
 is not known: the schema is read in the draft that $schema names, or else in
-that of --draft, which is 2020 for 2020-12 by default.
+that of --draft: 4, 6, 7, 2019 for 2019-09, or 2020 for 2020-12, the default.
 
 Options:
   -l, --lines       check each line; reports and messages have its number
   -m, --max-line N  with -l: do not check or keep a line of more than N bytes
-  -d, --draft N     read a schema that names no draft in draft N: 4, 6, 7 or 2020
+  -d, --draft N     read a schema that names no draft in draft N
   -h, --help        print this page
   -V, --version     print the version
 
@@ -101,6 +101,7 @@ fn check_inputs(rt: &HostRuntime, request: &Request<'_, '_>) -> Result<Status, F
 fn asked_draft(alloc: Global, number: Option<usize>) -> Result<Draft, Failure> {
     match number {
         None | Some(2020) => Ok(Draft::Draft202012),
+        Some(2019) => Ok(Draft::Draft201909),
         Some(7) => Ok(Draft::Draft7),
         Some(6) => Ok(Draft::Draft6),
         Some(4) => Ok(Draft::Draft4),

@@ -1,13 +1,14 @@
 -- A schema in the words of 2020-12, one item or member after the other.
 use Rattle.std.proofs.Common.{◌≡◌, ◌∷◌, [], ◌++◌, ℕ, suc, ◌<◌, ◌≤◌, ◌+◌, ◌-◌, List, Option, length}
-use Rattle.std.proofs.Common.{Bool, true, false, ◌&&◌, cond, is_some, Some, None, String, Global, option_map, get_or, drop, chars, encode_utf8_all, string_bytes, refl, sym, ap, ◌∙◌, arith}
+use Rattle.std.proofs.Common.{Bool, true, false, cond, is_some, Some, None, String, Global, option_map, get_or, drop, chars}
+use Rattle.std.proofs.Common.{encode_utf8_all, string_bytes, refl, sym, ap, ◌∙◌, arith}
 use Rattle.std.proofs.lemmas.Str.{is_utf8-from_IsUtf8, IsUtf8-from_is_utf8}
 use Rattle.std.specs.HashMap.{get_by_text}
 use Rattle.std.specs.Option.{option_map_or}
 use Rattle.std.specs.Str.{IsUtf8, is_utf8}
 use Rattle.tinyjson.proofs.Callers.{view_String, find_get}
-use Rattle.tinyjson.specs.Access.{JsonMap, is_array}
-use Rattle.tinyjson.specs.Tree.{Tree, string, Items, no_items, item, Members, put, find}
+use Rattle.tinyjson.specs.Access.{JsonMap}
+use Rattle.tinyjson.specs.Tree.{Tree, string, Items, no_items, item, Members, find}
 use Rattle.tinyjson.specs.View.{view, text, items_view, members_view, members_listed}
 use Rattle.tinyjson.specs.declared.value.JsonValue.{JsonValue}
 use Rattle.tinyjson.specs.declared.value.JsonValue.TheVariants as made
@@ -15,10 +16,9 @@ use Rattle.tinyjson_schema_keywords.proofs.Callers.{Listed, name_chars, text_byt
 use Rattle.tinyjson_schema_keywords.specs.Names.{name as keyword_name}
 use Rattle.tinyjson_schema_keywords.specs.References.{percent_decoded}
 use Rattle.tinyjson_schema_keywords.specs.declared.keyword.Keyword.{Keyword}
-use Rattle.tinyjson_schema_drafts.specs.Pointers.{is_lost_pointer, is_lost_text, is_lost_by}
+use Rattle.tinyjson_schema_drafts.specs.Pointers.{is_lost_word, is_lost_text, is_lost_by}
 use Rattle.tinyjson_schema_drafts.specs.Rules.{rule_of}
-use Rattle.tinyjson_schema_drafts.specs.Translated.{in_words, words_among, items_in_words, members_in_words, value_of, put_by, put_lists}
-use Rattle.tinyjson_schema_drafts.specs.Translated.{lists_among}
+use Rattle.tinyjson_schema_drafts.specs.Translated.{in_words, words_among, items_in_words, value_of, put_by, put_lists}
 use Rattle.tinyjson_schema_drafts.specs.declared.draft.Draft.{Draft}
 use Rattle.tinyjson_schema_drafts.specs.declared.rule.Rule.{Rule}
 use Rattle.tinyjson_schema_drafts.specs.declared.rule.Traits.{Traits}
@@ -111,13 +111,13 @@ had_name m k bs e u = ap (λ x. is_some (find x (members_view m.entries))) (sym 
 -- ---- pointers
 
 module _ (r : Tree) (u f ds : List ℕ) (read : Some ds ≡ percent_decoded f) where
-  pub text_lost : IsUtf8 ds → is_lost_pointer r u (chars ds) ≡ is_lost_by r u f
-  text_lost h = ap (λ b. cond b (is_lost_pointer r u (chars ds)) false) (sym (is_utf8-from_IsUtf8 ds h))
+  pub text_lost : IsUtf8 ds → is_lost_word r u ds ≡ is_lost_by r u f
+  text_lost h = ap (λ b. cond b (is_lost_word r u ds) false) (sym (is_utf8-from_IsUtf8 ds h))
       ∙ ap (λ o. option_map_or (is_lost_text r u) o false) read
 
   pub no_text_lost : ¬ IsUtf8 ds → false ≡ is_lost_by r u f
   no_text_lost h = by (is_utf8 ds) refl ∙ ap (λ o. option_map_or (is_lost_text r u) o false) read
     where
-      by : (b : Bool) → is_utf8 ds ≡ b → false ≡ cond b (is_lost_pointer r u (chars ds)) false
+      by : (b : Bool) → is_utf8 ds ≡ b → false ≡ cond b (is_lost_word r u ds) false
       by true e = absurd (h (IsUtf8-from_is_utf8 ds e))
       by false e = refl

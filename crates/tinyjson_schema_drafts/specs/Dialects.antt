@@ -1,4 +1,4 @@
--- The drafts that schemas name by `$schema` (draft 4, 6, 7 and 2020-12: Core, section 6, 7 or 8.1.1).
+-- The drafts that schemas name by `$schema` (draft 4, 6, 7, 2019-09 and 2020-12: Core, section 6, 7 or 8.1.1).
 use Rattle.std.specs.Prelude.{ℕ, Bool, ◌||◌, List, Option, Some, None, cond, codes, encode_utf8_all, option_and_then}
 use Rattle.std.specs.Option.{option_map_or}
 use Rattle.std.specs.Str.{bytes_eq}
@@ -8,14 +8,19 @@ use Rattle.tinyjson_schema_keywords.specs.Names.{name}
 use Rattle.tinyjson_schema_keywords.specs.declared.keyword.Keyword.TheVariants as kw
 use Rattle.tinyjson_schema_drafts.specs.declared.draft.Dialect.{Dialect}
 use Rattle.tinyjson_schema_drafts.specs.declared.draft.Dialect.TheVariants.{Missing, Known, Unknown}
-use Rattle.tinyjson_schema_drafts.specs.declared.draft.Draft.{Draft}
-use Rattle.tinyjson_schema_drafts.specs.declared.draft.Draft.TheVariants.{Draft4, Draft6, Draft7, Draft202012}
+use Rattle.tinyjson_schema_drafts.specs.declared.draft.Draft.TheVariants.{Draft4, Draft6, Draft7, Draft201909, Draft202012}
 
 abbrev pub is_2020_12 : List ℕ → Bool
 is_2020_12 bs = bytes_eq bs (codes "https://json-schema.org/draft/2020-12/schema")
     || (bytes_eq bs (codes "https://json-schema.org/draft/2020-12/schema#")
     || (bytes_eq bs (codes "http://json-schema.org/draft/2020-12/schema")
     || bytes_eq bs (codes "http://json-schema.org/draft/2020-12/schema#")))
+
+abbrev pub is_2019_09 : List ℕ → Bool
+is_2019_09 bs = bytes_eq bs (codes "https://json-schema.org/draft/2019-09/schema")
+    || (bytes_eq bs (codes "https://json-schema.org/draft/2019-09/schema#")
+    || (bytes_eq bs (codes "http://json-schema.org/draft/2019-09/schema")
+    || bytes_eq bs (codes "http://json-schema.org/draft/2019-09/schema#")))
 
 abbrev pub is_draft_7 : List ℕ → Bool
 is_draft_7 bs = bytes_eq bs (codes "http://json-schema.org/draft-07/schema#")
@@ -37,8 +42,8 @@ is_draft_4 bs = bytes_eq bs (codes "http://json-schema.org/draft-04/schema#")
 
 -- what the URI names
 abbrev pub draft_named : List ℕ → Dialect
-draft_named bs = cond (is_2020_12 bs) (Known Draft202012)
-    (cond (is_draft_7 bs) (Known Draft7) (cond (is_draft_6 bs) (Known Draft6) (cond (is_draft_4 bs) (Known Draft4) Unknown)))
+draft_named bs = cond (is_2020_12 bs) (Known Draft202012) (cond (is_2019_09 bs) (Known Draft201909)
+    (cond (is_draft_7 bs) (Known Draft7) (cond (is_draft_6 bs) (Known Draft6) (cond (is_draft_4 bs) (Known Draft4) Unknown))))
 
 abbrev pub dialect_named : Tree → Dialect
 dialect_named (string cs) = draft_named (encode_utf8_all cs)

@@ -1,5 +1,6 @@
 pub mod Dialects
 pub mod Pointers
 pub mod Reading
+pub mod Recursion
 pub mod Rules
 pub mod Translated

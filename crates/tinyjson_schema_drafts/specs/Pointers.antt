@@ -26,8 +26,12 @@ is_lost_from r u ks = cond (is_empty u) (is_lost_part (part_at r ks)) (goes_thro
 abbrev pub is_lost_pointer : Tree → List ℕ → List ℕ → Bool
 is_lost_pointer r u cs = option_map_or (is_lost_from r u) (pointer_tokens cs) false
 
+-- The name that marks a resource (Recursion) is none of the schema's own.
+abbrev pub is_lost_word : Tree → List ℕ → List ℕ → Bool
+is_lost_word r u ds = cond (bytes_eq ds (codes "_recursiveAnchor")) true (is_lost_pointer r u (chars ds))
+
 abbrev pub is_lost_text : Tree → List ℕ → List ℕ → Bool
-is_lost_text r u ds = cond (is_utf8 ds) (is_lost_pointer r u (chars ds)) false
+is_lost_text r u ds = cond (is_utf8 ds) (is_lost_word r u ds) false
 
 abbrev pub is_lost_by : Tree → List ℕ → List ℕ → Bool
 is_lost_by r u f = option_map_or (is_lost_text r u) (percent_decoded f) false

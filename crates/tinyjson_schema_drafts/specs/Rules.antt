@@ -1,12 +1,13 @@
--- What becomes of the members of a schema of draft 4, 6 or 7 in the words of 2020-12. Sections are of draft 7: Core
--- (draft-handrews-json-schema-01) and Validation (draft-handrews-json-schema-validation-01); of draft 4 where it is named: Core
--- (draft-zyp-json-schema-04) and Validation (draft-fge-json-schema-validation-00).
+-- What becomes of the members of a schema of draft 4, 6, 7 or 2019-09 in the words of 2020-12. Sections are of
+-- draft 7: Core (draft-handrews-json-schema-01) and Validation (draft-handrews-json-schema-validation-01); where they are named, of
+-- draft 4 (draft-zyp-json-schema-04 and draft-fge-json-schema-validation-00) and of 2019-09 (draft-handrews-json-schema-02).
 use Rattle.std.specs.Prelude.{ℕ, Bool, true, false, not, ◌&&◌, ◌==◌, List, [], ◌∷◌, Option, Some, None, cond, codes, is_some}
 use Rattle.std.specs.Prelude.{encode_utf8_all}
 use Rattle.std.specs.Option.{option_map_or}
 use Rattle.std.specs.Str.{bytes_eq}
 use Rattle.tinyjson.specs.Access.{is_array, is_boolean}
 use Rattle.tinyjson.specs.Characters.{solidus}
+use Rattle.tinyjson.specs.Index.{tree_at_key}
 use Rattle.tinyjson.specs.Tree.{Tree, boolean, string}
 use Rattle.uri_reference.specs.Resolving.{is_empty, without_fragment, fragment_of}
 use Rattle.tinyjson_schema_keywords.specs.Applied.{schema_at}
@@ -17,7 +18,7 @@ use Rattle.tinyjson_schema_drafts.specs.Dialects.{dialect_named}
 use Rattle.tinyjson_schema_drafts.specs.declared.draft.Dialect.{Dialect}
 use Rattle.tinyjson_schema_drafts.specs.declared.draft.Dialect.TheVariants.{Known}
 use Rattle.tinyjson_schema_drafts.specs.declared.draft.Draft.{Draft}
-use Rattle.tinyjson_schema_drafts.specs.declared.draft.Draft.TheVariants.{Draft4, Draft6, Draft7}
+use Rattle.tinyjson_schema_drafts.specs.declared.draft.Draft.TheVariants.{Draft4, Draft6, Draft7, Draft201909, Draft202012}
 use Rattle.tinyjson_schema_drafts.specs.declared.rule.Limit.{Limit}
 use Rattle.tinyjson_schema_drafts.specs.declared.rule.Limit.TheVariants.{Missing, Inclusive, Exclusive}
 use Rattle.tinyjson_schema_drafts.specs.declared.rule.Rule.{Rule}
@@ -39,11 +40,24 @@ has_true s k = option_map_or is_true (schema_at s k) false
 abbrev pub limit_of : Tree → Keyword → Keyword → Limit
 limit_of s k e = cond (is_some (schema_at s k)) (cond (has_true s e) Exclusive Inclusive) Missing
 
+-- from 2019-09 on what is beside `$ref` applies, too (2019-09: Core, 8.2.4.1)
+abbrev pub hides : Draft → Bool
+hides Draft201909 = false
+hides Draft202012 = false
+hides _ = true
+
+abbrev pub is_hidden : Draft → Tree → Bool
+is_hidden d s = hides d && is_some (schema_at s kw.Ref)
+
+abbrev pub has_dependencies : Tree → Bool
+has_dependencies s = is_some (tree_at_key s (codes "dependencies"))
+
 abbrev pub traits_of : Draft → Tree → Traits
 traits_of d s = record {
   draft = d;
-  has_reference = is_some (schema_at s kw.Ref);
+  is_hidden = is_hidden d s;
   has_list = has_list s;
+  has_dependencies = has_dependencies s;
   maximum = limit_of s kw.Maximum kw.ExclusiveMaximum;
   minimum = limit_of s kw.Minimum kw.ExclusiveMinimum;
 }
@@ -53,6 +67,7 @@ abbrev pub dialect_rule_by : Draft → Dialect → Rule
 dialect_rule_by Draft4 (Known Draft4) = rule.Drop
 dialect_rule_by Draft6 (Known Draft6) = rule.Drop
 dialect_rule_by Draft7 (Known Draft7) = rule.Drop
+dialect_rule_by Draft201909 (Known Draft201909) = rule.Drop
 dialect_rule_by _ _ = rule.Reject
 
 abbrev pub dialect_rule : Draft → Tree → Rule
@@ -70,6 +85,12 @@ abbrev pub id_rule : Tree → Rule
 id_rule (string cs) = id_rule_by (encode_utf8_all cs)
 id_rule _ = rule.Id
 
+-- In 2019-09 `$id` is a URI (Core, 8.2.2), and in draft 4 no keyword.
+abbrev pub named_id_rule : Draft → Tree → Rule
+named_id_rule Draft4 w = rule.Reject
+named_id_rule Draft201909 w = rule.Id
+named_id_rule _ w = id_rule w
+
 -- `if`, `then` and `else` came with draft 7 (Validation, 6.6).
 abbrev pub if_rule : Draft → Rule
 if_rule Draft4 = rule.Reject
@@ -80,7 +101,7 @@ if_rule _ = rule.Schema
 abbrev pub items_rule : Bool → Rule
 items_rule list = cond list rule.Prefix rule.Schema
 
--- `$id`, `contains` and `propertyNames` came with draft 6.
+-- `contains` and `propertyNames` came with draft 6.
 abbrev pub later_rule : Draft → Rule → Rule
 later_rule Draft4 x = rule.Reject
 later_rule _ x = x
@@ -103,10 +124,19 @@ abbrev pub flag_rule : Draft → Limit → Tree → Rule
 flag_rule Draft4 l w = cond (is_boolean w && is_limit l) rule.Drop rule.Reject
 flag_rule _ l w = rule.Keep
 
--- A keyword that came later and would apply is rejected.
+-- what came with 2019-09
+abbrev pub newer_rule : Draft → Rule → Rule
+newer_rule Draft201909 x = x
+newer_rule _ x = rule.Reject
+
+-- `dependencies` beside them becomes both.
+abbrev pub dependent_rule : Traits → Rule → Rule
+dependent_rule x u = cond x.has_dependencies rule.Reject (newer_rule x.draft u)
+
+-- A keyword that came later and would apply is rejected. So is `unevaluatedItems` of 2019-09, which does not look at `contains`.
 abbrev pub rule_by : Traits → Keyword → Tree → Rule
 rule_by x kw.Schema w = dialect_rule x.draft w
-rule_by x kw.Id w = later_rule x.draft (id_rule w)
+rule_by x kw.Id w = named_id_rule x.draft w
 rule_by x kw.Ref w = rule.Reference
 rule_by x kw.Defs w = rule.Map
 rule_by x kw.Definitions w = rule.Map
@@ -127,17 +157,17 @@ rule_by x kw.If w = if_rule x.draft
 rule_by x kw.Then w = if_rule x.draft
 rule_by x kw.Else w = if_rule x.draft
 rule_by x kw.Items w = items_rule x.has_list
-rule_by x kw.Anchor w = rule.Reject
+rule_by x kw.Anchor w = newer_rule x.draft rule.Keep
 rule_by x kw.DynamicRef w = rule.Reject
 rule_by x kw.DynamicAnchor w = rule.Reject
-rule_by x kw.DependentSchemas w = rule.Reject
-rule_by x kw.DependentRequired w = rule.Reject
+rule_by x kw.DependentSchemas w = dependent_rule x rule.Map
+rule_by x kw.DependentRequired w = dependent_rule x rule.Keep
 rule_by x kw.PrefixItems w = rule.Reject
 rule_by x kw.UnevaluatedItems w = rule.Reject
-rule_by x kw.UnevaluatedProperties w = rule.Reject
-rule_by x kw.MaxContains w = rule.Reject
-rule_by x kw.MinContains w = rule.Reject
-rule_by x kw.ContentSchema w = rule.Reject
+rule_by x kw.UnevaluatedProperties w = newer_rule x.draft rule.Schema
+rule_by x kw.MaxContains w = newer_rule x.draft rule.Keep
+rule_by x kw.MinContains w = newer_rule x.draft rule.Keep
+rule_by x kw.ContentSchema w = newer_rule x.draft rule.Schema
 rule_by x _ w = rule.Keep
 
 -- A boolean is a schema there in draft 4, too (Validation, 5.3.1).
@@ -149,11 +179,30 @@ abbrev pub own_id_rule : Draft → Tree → Rule
 own_id_rule Draft4 w = id_rule w
 own_id_rule _ w = rule.Keep
 
+-- 2019-09: Core, 8.2.4.2.1
+abbrev pub recursive_rule : Draft → Rule
+recursive_rule Draft201909 = rule.Recursive
+recursive_rule _ = rule.Keep
+
+abbrev pub is_false : Tree → Bool
+is_false (boolean b) = not b
+is_false _ = false
+
+-- One that is false marks nothing (2019-09: Core, 8.2.4.2.2).
+abbrev pub mark_rule : Tree → Rule
+mark_rule w = cond (is_false w) rule.Drop rule.RecursiveAnchor
+
+abbrev pub anchor_rule : Draft → Tree → Rule
+anchor_rule Draft201909 w = mark_rule w
+anchor_rule _ w = rule.Keep
+
 -- `additionalItems` is for the items that an array at `items` leaves (Validation, 6.4.2), and is left out without one; of
 -- `dependencies` see Validation, 6.5.7.
 abbrev pub other_rule : Traits → List ℕ → Tree → Rule
 other_rule x key w = cond (bytes_eq key (codes "additionalItems")) (cond x.has_list (rest_rule w) rule.Drop)
-    (cond (bytes_eq key (codes "dependencies")) rule.Dependencies (cond (bytes_eq key (codes "id")) (own_id_rule x.draft w) rule.Keep))
+    (cond (bytes_eq key (codes "dependencies")) rule.Dependencies (cond (bytes_eq key (codes "id")) (own_id_rule x.draft w)
+    (cond (bytes_eq key (codes "$recursiveRef")) (recursive_rule x.draft)
+    (cond (bytes_eq key (codes "$recursiveAnchor")) (anchor_rule x.draft w) rule.Keep))))
 
 abbrev pub rule_at : Traits → List ℕ → Tree → Option Keyword → Rule
 rule_at x key w None = other_rule x key w
@@ -167,7 +216,7 @@ is_kept_beside (Some kw.Definitions) = true
 is_kept_beside _ = false
 
 abbrev pub rule_for : Traits → List ℕ → Tree → Option Keyword → Rule
-rule_for x key w k = cond (x.has_reference && not (is_kept_beside k)) rule.Drop (rule_at x key w k)
+rule_for x key w k = cond (x.is_hidden && not (is_kept_beside k)) rule.Drop (rule_at x key w k)
 
 abbrev pub rule_of : Traits → List ℕ → Tree → Rule
 rule_of x key w = rule_for x key w (keyword_among keywords key)

@@ -1,5 +1,5 @@
--- A schema of draft 4, 6 or 7 in the words of 2020-12.
-use Rattle.std.specs.Prelude.{ℕ, Bool, true, false, not, ◌&&◌, List, [], ◌∷◌, Option, Some, None, cond, codes, is_some, encode_utf8_all}
+-- A schema of draft 4, 6, 7 or 2019-09 in the words of 2020-12.
+use Rattle.std.specs.Prelude.{ℕ, Bool, true, false, not, ◌&&◌, List, Option, Some, None, cond, codes, is_some, encode_utf8_all}
 use Rattle.std.specs.Option.{option_map_or}
 use Rattle.std.specs.Str.{chars}
 use Rattle.tinyjson.specs.Access.{is_array}
@@ -11,7 +11,8 @@ use Rattle.tinyjson_schema_keywords.specs.Names.{name}
 use Rattle.tinyjson_schema_keywords.specs.declared.keyword.Keyword.{Keyword}
 use Rattle.tinyjson_schema_keywords.specs.declared.keyword.Keyword.TheVariants as kw
 use Rattle.tinyjson_schema_drafts.specs.Pointers.{reference_in_words}
-use Rattle.tinyjson_schema_drafts.specs.Rules.{traits_of, rule_of}
+use Rattle.tinyjson_schema_drafts.specs.Recursion.{recursive_in_words, anchor_in_words}
+use Rattle.tinyjson_schema_drafts.specs.Rules.{is_hidden, traits_of, rule_of}
 use Rattle.tinyjson_schema_drafts.specs.declared.draft.Draft.{Draft}
 use Rattle.tinyjson_schema_drafts.specs.declared.draft.Draft.TheVariants.{Draft4}
 use Rattle.tinyjson_schema_drafts.specs.declared.rule.Rule.{Rule}
@@ -34,7 +35,7 @@ id_of _ s = schema_at s kw.Id
 
 -- a schema with a URI, which `$ref` does not hide
 abbrev pub is_resource : Draft → Tree → Bool
-is_resource d s = cond (is_some (schema_at s kw.Ref)) false (option_map_or has_uri (id_of d s) false)
+is_resource d s = cond (is_hidden d s) false (option_map_or has_uri (id_of d s) false)
 
 abbrev pub resource_in : Draft → Tree → Tree → Tree
 resource_in d r s = cond (is_resource d s) s r
@@ -74,6 +75,8 @@ word_of rule.Id = Some kw.Id
 word_of rule.Prefix = Some kw.PrefixItems
 word_of rule.Dependencies = Some kw.DependentSchemas
 word_of rule.Name = Some kw.Anchor
+word_of rule.Recursive = Some kw.DynamicRef
+word_of rule.RecursiveAnchor = Some kw.DynamicAnchor
 word_of _ = None
 
 abbrev pub put_at_word : Option Keyword → List ℕ → Tree → Members → Members
@@ -107,6 +110,8 @@ value_alone rule.Reject r w = Some null
 value_alone rule.Id r w = Some (id_in_words w)
 value_alone rule.Name r w = Some (name_in_words w)
 value_alone rule.Reference r w = Some (reference_in_words r w)
+value_alone rule.Recursive r w = Some (recursive_in_words r w)
+value_alone rule.RecursiveAnchor r w = Some (anchor_in_words r w)
 value_alone _ r w = Some w
 
 -- where it is known what it is as a schema, as an array and as an object of schemas, and as an object of schemas and arrays

@@ -2,7 +2,8 @@
 ghost use Rattle.std.specs.Prelude.{◌≡◌, option_map};
 ghost use Rattle.tinyjson.specs.View.{view};
 ghost use Rattle.tinyjson_schema_drafts.specs.Dialects.{dialect_of, dialect_named, draft_named};
-ghost use Rattle.tinyjson_schema_drafts.specs.Dialects.{is_draft_4, is_draft_6, is_draft_7, is_2020_12};
+ghost use Rattle.tinyjson_schema_drafts.specs.Dialects.{is_draft_4, is_draft_6, is_draft_7};
+ghost use Rattle.tinyjson_schema_drafts.specs.Dialects.{is_2019_09, is_2020_12};
 ghost use Rattle.tinyjson_schema_drafts.specs.Dialects.{without_dialect, unknown_dialect};
 ghost use Rattle.tinyjson_schema_drafts.specs.Dialects.{unknown_in, unknown_uri};
 
@@ -18,6 +19,8 @@ pub enum Draft {
     Draft6,
     /// Draft 7 (draft-handrews-json-schema-01).
     Draft7,
+    /// 2019-09 (draft-handrews-json-schema-02).
+    Draft201909,
     /// 2020-12.
     Draft202012,
 }
@@ -65,6 +68,9 @@ fn draft_named(uri: &str) -> Dialect
     if is_2020_12(uri) {
         return Dialect::Known(Draft::Draft202012);
     }
+    if is_2019_09(uri) {
+        return Dialect::Known(Draft::Draft201909);
+    }
     if is_draft_7(uri) {
         return Dialect::Known(Draft::Draft7);
     }
@@ -86,6 +92,18 @@ fn is_2020_12(uri: &str) -> bool
             | "https://json-schema.org/draft/2020-12/schema#"
             | "http://json-schema.org/draft/2020-12/schema"
             | "http://json-schema.org/draft/2020-12/schema#"
+    )
+}
+
+fn is_2019_09(uri: &str) -> bool
+    ensures { result ≡ is_2019_09 uri.now }
+{
+    matches!(
+        uri,
+        "https://json-schema.org/draft/2019-09/schema"
+            | "https://json-schema.org/draft/2019-09/schema#"
+            | "http://json-schema.org/draft/2019-09/schema"
+            | "http://json-schema.org/draft/2019-09/schema#"
     )
 }
 

@@ -4,7 +4,8 @@ ghost use Rattle.std.specs.Str.{chars};
 ghost use Rattle.tinyjson.specs.View.{view, text};
 ghost use Rattle.tinyjson_pointer.specs.Tokens.{tokens_of};
 ghost use Rattle.tinyjson_schema_drafts.specs.Pointers.{reference_in_words, is_lost, is_lost_by};
-ghost use Rattle.tinyjson_schema_drafts.specs.Pointers.{is_lost_pointer, is_lost_from, is_lost_part};
+ghost use Rattle.tinyjson_schema_drafts.specs.Pointers.{is_lost_word, is_lost_pointer, is_lost_from};
+ghost use Rattle.tinyjson_schema_drafts.specs.Pointers.{is_lost_part};
 ghost use Rattle.tinyjson_schema_drafts.specs.Pointers.{goes_through_items};
 
 use crate::rule::is_array;
@@ -55,9 +56,24 @@ fn is_lost_by(
         return Ok(false);
     };
     match str::from_utf8(decoded.as_slice()) {
-        Ok(pointer) => is_lost_pointer(pointer, uri, resource, alloc),
+        Ok(word) => is_lost_word(word, uri, resource, alloc),
         Err(_) => Ok(false),
     }
+}
+
+/// A word is a pointer, or a name; that of a marked resource is none of the schema's own.
+fn is_lost_word(
+    word: &str,
+    uri: &str,
+    resource: &JsonValue,
+    alloc: Global,
+) -> Result<bool, AllocError>
+    ensures { IfOk result (λ is. is ≡ is_lost_word (view resource.now) uri.now word.now) }
+{
+    if word == "_recursiveAnchor" {
+        return Ok(true);
+    }
+    is_lost_pointer(word, uri, resource, alloc)
 }
 
 fn is_lost_pointer(

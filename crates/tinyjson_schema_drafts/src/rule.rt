@@ -8,10 +8,14 @@ ghost use Rattle.tinyjson_schema_drafts.specs.Rules.{rule_of, rule_by};
 ghost use Rattle.tinyjson_schema_drafts.specs.Rules.{other_rule, rest_rule, own_id_rule, dialect_rule, id_rule, id_rule_by};
 ghost use Rattle.tinyjson_schema_drafts.specs.Rules.{fragment_rule, items_rule, if_rule, later_rule};
 ghost use Rattle.tinyjson_schema_drafts.specs.Rules.{additional_rule, limit_rule, flag_rule, is_limit};
+ghost use Rattle.tinyjson_schema_drafts.specs.Rules.{hides, is_hidden, has_dependencies};
+ghost use Rattle.tinyjson_schema_drafts.specs.Rules.{newer_rule, dependent_rule};
+ghost use Rattle.tinyjson_schema_drafts.specs.Rules.{named_id_rule, recursive_rule, anchor_rule};
+ghost use Rattle.tinyjson_schema_drafts.specs.Rules.{mark_rule, is_false};
 
 use crate::draft::{Dialect, Draft, dialect_named};
 use tinyjson::JsonValue;
-use tinyjson_schema_keywords::{Keyword, keyword_of, schema_at};
+use tinyjson_schema_keywords::{Keyword, has_key, keyword_of, schema_at};
 use uri_reference::{fragment, without_fragment};
 
 /// What becomes of a member of a schema.
@@ -47,6 +51,10 @@ pub enum Rule {
     Name,
     /// A reference.
     Reference,
+    /// A reference that the scope decides: `$dynamicRef`.
+    Recursive,
+    /// The mark that it leads to: `$dynamicAnchor`.
+    RecursiveAnchor,
 }
 
 /// The limit that `maximum` or `minimum` sets.
@@ -64,10 +72,12 @@ pub enum Limit {
 #[derive(Clone, Copy)]
 pub struct Traits {
     pub draft: Draft,
-    /// Whether the schema has a `$ref`, which hides what is beside it.
-    pub has_reference: bool,
+    /// Whether the schema has a `$ref` that hides what is beside it.
+    pub is_hidden: bool,
     /// Whether its `items` is an array.
     pub has_list: bool,
+    /// Whether it has `dependencies`.
+    pub has_dependencies: bool,
     pub maximum: Limit,
     pub minimum: Limit,
 }
@@ -77,10 +87,34 @@ pub fn traits_of(draft: Draft, schema: &JsonValue) -> Traits
 {
     Traits {
         draft,
-        has_reference: schema_at(schema, Keyword::Ref).is_some(),
+        is_hidden: is_hidden(schema, draft),
         has_list: has_list(schema),
+        has_dependencies: has_dependencies(schema),
         maximum: limit_of(schema, Keyword::Maximum, Keyword::ExclusiveMaximum),
         minimum: limit_of(schema, Keyword::Minimum, Keyword::ExclusiveMinimum),
+    }
+}
+
+/// Whether the schema has a `$ref` that hides what is beside it.
+pub fn is_hidden(schema: &JsonValue, draft: Draft) -> bool
+    ensures { result ≡ is_hidden draft (view schema.now) }
+{
+    hides(draft) && schema_at(schema, Keyword::Ref).is_some()
+}
+
+fn has_dependencies(schema: &JsonValue) -> bool
+    ensures { result ≡ has_dependencies (view schema.now) }
+{
+    has_key(schema, "dependencies")
+}
+
+/// Whether `$ref` hides what is beside it.
+fn hides(draft: Draft) -> bool
+    ensures { result ≡ hides draft }
+{
+    match draft {
+        Draft::Draft201909 | Draft::Draft202012 => false,
+        _ => true,
     }
 }
 
@@ -106,7 +140,7 @@ fn has_true(schema: &JsonValue, keyword: Keyword) -> bool
     }
 }
 
-fn is_true(value: &JsonValue) -> bool
+pub fn is_true(value: &JsonValue) -> bool
     ensures { result ≡ is_true (view value.now) }
 {
     match value {
@@ -141,7 +175,7 @@ pub fn rule_of(traits: Traits, name: &str, value: &JsonValue) -> Rule
     ensures { result ≡ rule_of traits name.now (view value.now) }
 {
     let keyword = keyword_of(name);
-    if traits.has_reference && !is_kept_beside(keyword) {
+    if traits.is_hidden && !is_kept_beside(keyword) {
         return Rule::Drop;
     }
     match keyword {
@@ -165,7 +199,7 @@ fn rule_by(traits: Traits, keyword: Keyword, value: &JsonValue) -> Rule
 {
     match keyword {
         Keyword::Schema => dialect_rule(traits.draft, value),
-        Keyword::Id => later_rule(traits.draft, id_rule(value)),
+        Keyword::Id => named_id_rule(traits.draft, value),
         Keyword::Ref => Rule::Reference,
         Keyword::Defs | Keyword::Definitions | Keyword::Properties | Keyword::PatternProperties =>
             Rule::Map,
@@ -179,18 +213,53 @@ fn rule_by(traits: Traits, keyword: Keyword, value: &JsonValue) -> Rule
         Keyword::ExclusiveMinimum => flag_rule(traits.draft, traits.minimum, value),
         Keyword::If | Keyword::Then | Keyword::Else => if_rule(traits.draft),
         Keyword::Items => items_rule(traits.has_list),
-        Keyword::Anchor
-        | Keyword::DynamicRef
+        Keyword::DynamicRef
         | Keyword::DynamicAnchor
-        | Keyword::DependentSchemas
-        | Keyword::DependentRequired
         | Keyword::PrefixItems
-        | Keyword::UnevaluatedItems
-        | Keyword::UnevaluatedProperties
-        | Keyword::MaxContains
-        | Keyword::MinContains
-        | Keyword::ContentSchema => Rule::Reject,
+        | Keyword::UnevaluatedItems => Rule::Reject,
+        Keyword::Anchor | Keyword::MaxContains | Keyword::MinContains => newer_rule(
+            traits.draft,
+            Rule::Keep,
+        ),
+        Keyword::DependentSchemas => dependent_rule(traits, Rule::Map),
+        Keyword::DependentRequired => dependent_rule(traits, Rule::Keep),
+        Keyword::UnevaluatedProperties | Keyword::ContentSchema => newer_rule(
+            traits.draft,
+            Rule::Schema,
+        ),
         _ => Rule::Keep,
+    }
+}
+
+/// What becomes of a keyword that came with 2019-09.
+fn newer_rule(draft: Draft, rule: Rule) -> Rule
+    ensures { result ≡ newer_rule draft rule }
+{
+    match draft {
+        Draft::Draft201909 => rule,
+        _ => Rule::Reject,
+    }
+}
+
+/// What becomes of `dependentSchemas` and `dependentRequired`, which `dependencies` beside them becomes, too.
+fn dependent_rule(traits: Traits, rule: Rule) -> Rule
+    ensures { result ≡ dependent_rule traits rule }
+{
+    if traits.has_dependencies {
+        Rule::Reject
+    } else {
+        newer_rule(traits.draft, rule)
+    }
+}
+
+/// What becomes of `$id`, which is no name in 2019-09.
+fn named_id_rule(draft: Draft, value: &JsonValue) -> Rule
+    ensures { result ≡ named_id_rule draft (view value.now) }
+{
+    match draft {
+        Draft::Draft4 => Rule::Reject,
+        Draft::Draft201909 => Rule::Id,
+        _ => id_rule(value),
     }
 }
 
@@ -202,6 +271,7 @@ fn dialect_rule(draft: Draft, value: &JsonValue) -> Rule
         (Draft::Draft4, Dialect::Known(Draft::Draft4)) => Rule::Drop,
         (Draft::Draft6, Dialect::Known(Draft::Draft6)) => Rule::Drop,
         (Draft::Draft7, Dialect::Known(Draft::Draft7)) => Rule::Drop,
+        (Draft::Draft201909, Dialect::Known(Draft::Draft201909)) => Rule::Drop,
         _ => Rule::Reject,
     }
 }
@@ -323,7 +393,47 @@ fn other_rule(traits: Traits, name: &str, value: &JsonValue) -> Rule
         }
         "dependencies" => Rule::Dependencies,
         "id" => own_id_rule(traits.draft, value),
+        "$recursiveRef" => recursive_rule(traits.draft),
+        "$recursiveAnchor" => anchor_rule(traits.draft, value),
         _ => Rule::Keep,
+    }
+}
+
+fn recursive_rule(draft: Draft) -> Rule
+    ensures { result ≡ recursive_rule draft }
+{
+    match draft {
+        Draft::Draft201909 => Rule::Recursive,
+        _ => Rule::Keep,
+    }
+}
+
+/// A `$recursiveAnchor` that is false marks nothing.
+fn anchor_rule(draft: Draft, value: &JsonValue) -> Rule
+    ensures { result ≡ anchor_rule draft (view value.now) }
+{
+    match draft {
+        Draft::Draft201909 => mark_rule(value),
+        _ => Rule::Keep,
+    }
+}
+
+fn mark_rule(value: &JsonValue) -> Rule
+    ensures { result ≡ mark_rule (view value.now) }
+{
+    if is_false(value) {
+        Rule::Drop
+    } else {
+        Rule::RecursiveAnchor
+    }
+}
+
+fn is_false(value: &JsonValue) -> bool
+    ensures { result ≡ is_false (view value.now) }
+{
+    match value {
+        JsonValue::Boolean(value) => !*value,
+        _ => false,
     }
 }
 

@@ -14,8 +14,9 @@ ghost use Rattle.tinyjson_schema_drafts.specs.Translated.{lists_among, value_alo
 ghost use Rattle.tinyjson_schema_drafts.specs.Translated.{put_by, put_new, word_of, put_lists};
 
 use crate::draft::Draft;
+use crate::recursive::{anchor_in_words, recursive_in_words};
 use crate::reference::reference_in_words;
-use crate::rule::{Rule, Traits, is_array, rule_of, traits_of};
+use crate::rule::{Rule, Traits, is_array, is_hidden, rule_of, traits_of};
 use std::alloc::{AllocError, Global};
 use std::collections::HashMap;
 use tinyjson::{JsonValue, insert_member, sorted_members};
@@ -30,7 +31,7 @@ pub struct Reading<'a> {
     pub alloc: Global,
 }
 
-/// A schema of draft 4, 6 or 7 in the words of 2020-12; the only error is out of memory.
+/// A schema of draft 4, 6, 7 or 2019-09 in the words of 2020-12; the only error is out of memory.
 ///
 /// A keyword that the draft has not, and that would apply in 2020-12, becomes null, and so does a reference that
 /// would lead elsewhere: `Schema::read` of `tinyjson_schema` then rejects the schema at that place.
@@ -111,7 +112,7 @@ fn resource_in<'a>(resource: &'a JsonValue, schema: &'a JsonValue, draft: Draft)
 fn is_resource(schema: &JsonValue, draft: Draft) -> bool
     ensures { result ≡ is_resource draft (view schema.now) }
 {
-    if schema_at(schema, Keyword::Ref).is_some() {
+    if is_hidden(schema, draft) {
         return false;
     }
     match id_of(schema, draft) {
@@ -266,6 +267,12 @@ fn value_alone(
         Rule::Id => Ok(Some(id_in_words(operand, reading.alloc)?)),
         Rule::Name => Ok(Some(name_in_words(operand, reading.alloc)?)),
         Rule::Reference => Ok(Some(reference_in_words(operand, reading.resource, reading.alloc)?)),
+        Rule::Recursive => Ok(Some(recursive_in_words(operand, reading.resource, reading.alloc)?)),
+        Rule::RecursiveAnchor => Ok(Some(anchor_in_words(
+            operand,
+            reading.resource,
+            reading.alloc,
+        )?)),
         _ => Ok(Some(operand.try_clone(reading.alloc)?)),
     }
 }
@@ -356,6 +363,8 @@ fn word_of(rule: Rule) -> Option<Keyword>
         Rule::Prefix => Some(Keyword::PrefixItems),
         Rule::Dependencies => Some(Keyword::DependentSchemas),
         Rule::Name => Some(Keyword::Anchor),
+        Rule::Recursive => Some(Keyword::DynamicRef),
+        Rule::RecursiveAnchor => Some(Keyword::DynamicAnchor),
         _ => None,
     }
 }

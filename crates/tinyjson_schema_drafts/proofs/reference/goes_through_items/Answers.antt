@@ -1,4 +1,5 @@
-use Rattle.std.proofs.Common.{◌≡◌, ◌∙◌, ◌||◌, ◌+◌, Bool, true, false, List, String, Global, ℕ, bytes_eq, codes, drop, encode_utf8_all, map, sym, ap}
+use Rattle.std.proofs.Common.{◌≡◌, ◌∙◌, ◌||◌, ◌+◌, Bool, true, false, List, String, Global, bytes_eq, codes, drop}
+use Rattle.std.proofs.Common.{encode_utf8_all, map, sym, ap}
 use Rattle.tinyjson.specs.View.{text}
 use Rattle.tinyjson_schema_keywords.proofs.Callers.{text_bytes, turn_next, turn_stop}
 use Rattle.tinyjson_schema_drafts.specs.Pointers.{goes_through_items}

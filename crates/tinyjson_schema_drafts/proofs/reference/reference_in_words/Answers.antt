@@ -24,4 +24,5 @@ returns c =
     let kept : is_lost r bs ≡ false = sym c.in_ok-is_lost.ensures ∙ c.if-branch.false in
     subst (λ w. IfOk c.try_clone-2.result (λ x. view x ≡ w))
     (ap (λ b. cond b null (view v)) (sym kept)
-    ∙ said_of v c.in-String.text bs c.in-String.is c.as_str.ensures.value (reference_by r) (reference_in_words r) refl) c.try_clone-2.ensures
+    ∙ said_of v c.in-String.text bs c.in-String.is c.as_str.ensures.value (reference_by r) (reference_in_words r) refl)
+    c.try_clone-2.ensures

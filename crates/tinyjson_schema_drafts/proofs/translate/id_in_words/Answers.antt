@@ -15,7 +15,8 @@ returns-then-not-has_empty_fragment c =
     let other : has_empty_fragment bs ≡ false = sym c.has_empty_fragment.ensures ∙ c.if-not-has_empty_fragment.true in
     subst (λ w. IfOk c.try_clone-then-not-has_empty_fragment.result (λ x. view x ≡ w))
     (ap (λ b. cond b (string (chars (without_fragment bs))) (view v)) (sym other)
-    ∙ said_of v c.in-String.text bs c.in-String.is c.as_str-text.ensures.value id_by id_in_words refl) c.try_clone-then-not-has_empty_fragment.ensures
+    ∙ said_of v c.in-String.text bs c.in-String.is c.as_str-text.ensures.value id_by id_in_words refl)
+    c.try_clone-then-not-has_empty_fragment.ensures
 
 pub returns : goal.returns
 returns c =

@@ -1,4 +1,4 @@
-use Rattle.std.proofs.Common.{◌≡◌, ◌∙◌, refl, sym, ap, subst, chars}
+use Rattle.std.proofs.Common.{◌≡◌, ◌∙◌, refl, ap, subst, chars}
 use Rattle.std.specs.Option.{option_map_or}
 use Rattle.std.specs.Prelude.{IfOk}
 use Rattle.tinyjson.proofs.Callers.{view_String}
