@@ -1,9 +1,12 @@
 //! Checks JSON texts against a JSON Schema (2020-12). Its help page lists the arguments and the statuses.
 #![tactic(auto)]
 
+ghost use Rattle.std.specs.Prelude.{◌≡◌, option_map, map};
+ghost use Rattle.tinyjson_cli.specs.Arguments.{given_of};
+ghost use Rattle.json_schema.specs.Options.{asks};
+
 mod failure;
 mod lines;
-mod options;
 mod refusal;
 mod report;
 mod unknown;
@@ -11,21 +14,35 @@ mod verdict;
 
 use failure::{SchemaFailure, schema_failure, schema_text_failure, text_failure};
 use lines::{Check, check_lines};
-use options::{DRAFT, LINES, Request, requested};
 use report::write_report;
 use std::alloc::Global;
 use std::io::{self, BufRead, Write};
 use std::process::ExitCode;
 use tinyjson::JsonValue;
 use tinyjson_cli::{
-    Answer, AnswerLines, Failure, HELP, MAX_LINE, Misuse, Program, Status, VERSION, answer_files,
-    answer_lines, argument_words, arguments_of, misused, read_named, report, writing_error,
+    Answer, AnswerLines, Arguments, Failure, HELP, Known, MAX_LINE, Misuse, Program, Status,
+    VERSION, answer_files, answer_lines, argument_words, arguments_of, misused, read_named, report,
+    writing_error,
 };
 use tinyjson_schema::{Schema, SchemaError, unknown_words};
 use tinyjson_schema_bundle::bundled;
 use tinyjson_schema_drafts::{Draft, read_as, unknown_dialect};
 use unknown::{tell_dialect, tell_words};
 use verdict::{DEPTH_LIMIT, Verdict, check_text};
+
+/// `-l` and `--lines`.
+const LINES: Known<'static> = Known {
+    letter: b'l',
+    name: "lines",
+    takes_number: false,
+};
+
+/// `-d` and `--draft`.
+const DRAFT: Known<'static> = Known {
+    letter: b'd',
+    name: "draft",
+    takes_number: true,
+};
 
 const PROGRAM: Program<'static> = Program {
     name: "json_schema",
@@ -81,6 +98,39 @@ fn run(rt: &HostRuntime) -> Result<Status, Status> {
         Ok(status) => Ok(status),
         Err(failure) => Err(report(rt, PROGRAM, None, &failure)),
     }
+}
+
+/// A check against the schema of a file.
+#[derive(Drop)]
+struct Request<'w, 'a> {
+    /// Whether each line of an input is a text of its own.
+    by_lines: bool,
+    /// How many bytes a line may have before its line feed, if there is a limit.
+    max_line: Option<usize>,
+    /// The draft that a schema is read in which names none.
+    draft: Option<usize>,
+    /// The name of the schema's file.
+    schema: &'w str,
+    /// The files that are checked.
+    files: &'a [&'w str],
+}
+
+/// Parses the arguments: `[-l] [-m N] [-d DRAFT] SCHEMA [FILE..]`.
+fn requested<'w, 'a>(arguments: &'a Arguments<'w>) -> Option<Request<'w, 'a>>
+    ensures { option_map (λ r. ((r.by_lines, (r.max_line, r.draft)), (r.schema.now, map (λ f. f.now) r.files.now))) result
+        ≡ asks (given_of arguments.now) }
+{
+    let by_lines = arguments.has(b'l');
+    let max_line = arguments.number(b'm');
+    let draft = arguments.number(b'd');
+    let (schema, files) = arguments.first()?;
+    Some(Request {
+        by_lines,
+        max_line,
+        draft,
+        schema,
+        files,
+    })
 }
 
 /// Reads the schema, and checks the inputs.

@@ -16,8 +16,8 @@ use Rattle.tinyjson_pointer.specs.Tokens.{tokens_of}
 use Rattle.tinyjson_pointer.specs.Walk.{item_of, step}
 use Rattle.tinyjson_schema_keywords.specs.Forms.{form_at}
 use Rattle.tinyjson_schema_keywords.specs.References.{form_in}
-use Rattle.tinyjson_schema_keywords.specs.declared.form.Form.{Form}
-use Rattle.tinyjson_schema_keywords.specs.declared.form.Form.TheVariants as form
+use Rattle.tinyjson_schema_keywords.specs.declared.keyword.Form.{Form}
+use Rattle.tinyjson_schema_keywords.specs.declared.keyword.Form.TheVariants as form
 use Rattle.tinyjson_schema_keywords.proofs.Callers.{Listed, listed_found}
 use Rattle.tinyjson_schema.specs.Operands.{is_pattern_text, are_patterns, has_patterns}
 use Rattle.tinyjson_schema.specs.Refused.{IsRefusedAt, IsAboveAt, IsReason, IsTextReason, IsWhole, Refuses, RefusesWhole, has_own_form}

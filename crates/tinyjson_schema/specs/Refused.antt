@@ -11,8 +11,8 @@ use Rattle.tinyjson_schema_keywords.specs.Forms.{is_some_item}
 use Rattle.tinyjson_schema_keywords.specs.Patterns.{IsAboveLimits}
 use Rattle.tinyjson_schema_keywords.specs.References.{form_in}
 use Rattle.tinyjson_schema_keywords.specs.declared.document.Document.{Document}
-use Rattle.tinyjson_schema_keywords.specs.declared.form.Form.{Form}
-use Rattle.tinyjson_schema_keywords.specs.declared.form.Form.TheVariants as form
+use Rattle.tinyjson_schema_keywords.specs.declared.keyword.Form.{Form}
+use Rattle.tinyjson_schema_keywords.specs.declared.keyword.Form.TheVariants as form
 use Rattle.tinyjson_schema.specs.Schemas.{fits}
 use Rattle.tinyjson_schema.specs.declared.refused.Reason.{Reason}
 use Rattle.tinyjson_schema.specs.declared.refused.Reason.TheVariants.{Misfit, PatternLimit}

@@ -4,8 +4,8 @@ use Rattle.tinyjson.specs.Access.{is_boolean, is_number, is_string, is_array}
 use Rattle.tinyjson.specs.Tree.{Tree, boolean, array, object, Items, no_items, item, Members, no_members, member}
 use Rattle.tinyjson_schema_keywords.specs.Forms.{form_at, is_some_item}
 use Rattle.tinyjson_schema_keywords.specs.Anchors.{is_own_name}
-use Rattle.tinyjson_schema_keywords.specs.declared.form.Form.{Form}
-use Rattle.tinyjson_schema_keywords.specs.declared.form.Form.TheVariants as form
+use Rattle.tinyjson_schema_keywords.specs.declared.keyword.Form.{Form}
+use Rattle.tinyjson_schema_keywords.specs.declared.keyword.Form.TheVariants as form
 use Rattle.tinyjson_schema.specs.Operands.{is_count, is_divisor_number, are_types, is_key_list, is_key_map, is_dialect, is_pattern_text}
 use Rattle.tinyjson_schema.specs.Operands.{has_patterns}
 use Rattle.tinyjson_schema.specs.Circles.{leads}

@@ -4,7 +4,7 @@ ghost use Rattle.std.specs.Str.{chars};
 ghost use Rattle.tinyjson.specs.Soundness.{IsSorted};
 ghost use Rattle.tinyjson.specs.Tree.{Tree, array, object};
 ghost use Rattle.tinyjson.specs.View.{view, items_view, members_listed};
-ghost use Rattle.tinyjson_schema_keywords.specs.declared.form.Form.TheVariants as form;
+ghost use Rattle.tinyjson_schema_keywords.specs.declared.keyword.Form.TheVariants as form;
 ghost use Rattle.tinyjson_schema.specs.Operands.{is_pattern_text, are_patterns, has_patterns};
 ghost use Rattle.tinyjson_schema.specs.Refused.{Refuses, RefusesWhole, IsWhole, IsTextReason};
 ghost use Rattle.tinyjson_schema.specs.Refused.{whole_for, whole_of};

@@ -18,8 +18,8 @@ use Rattle.tinyjson_schema_keywords.specs.Applied.{schema_at}
 use Rattle.tinyjson_schema_keywords.specs.Forms.{form_at}
 use Rattle.tinyjson_schema_keywords.specs.Names.{name}
 use Rattle.tinyjson_schema_keywords.specs.References.{percent, number_sign, percent_decoded}
-use Rattle.tinyjson_schema_keywords.specs.declared.form.Form.{Form}
-use Rattle.tinyjson_schema_keywords.specs.declared.form.Form.TheVariants as form
+use Rattle.tinyjson_schema_keywords.specs.declared.keyword.Form.{Form}
+use Rattle.tinyjson_schema_keywords.specs.declared.keyword.Form.TheVariants as form
 use Rattle.tinyjson_schema_keywords.specs.declared.keyword.Keyword.TheVariants as kw
 use Rattle.tinyjson_schema_bundle.specs.declared.mark.Kind.{Kind}
 use Rattle.tinyjson_schema_bundle.specs.declared.mark.Kind.TheVariants as kind

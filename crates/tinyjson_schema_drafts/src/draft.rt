@@ -1,14 +1,12 @@
-//! The drafts, and the names that schemas give them.
+//! The drafts, and the URIs that name them.
 ghost use Rattle.std.specs.Prelude.{◌≡◌, option_map};
 ghost use Rattle.tinyjson.specs.View.{view};
-ghost use Rattle.tinyjson_schema_drafts.specs.Dialects.{dialect_of, dialect_named, draft_named};
+ghost use Rattle.tinyjson_schema_drafts.specs.Dialects.{dialect_named, draft_named};
 ghost use Rattle.tinyjson_schema_drafts.specs.Dialects.{is_draft_4, is_draft_6, is_draft_7};
 ghost use Rattle.tinyjson_schema_drafts.specs.Dialects.{is_2019_09, is_2020_12};
-ghost use Rattle.tinyjson_schema_drafts.specs.Dialects.{without_dialect, unknown_dialect};
 ghost use Rattle.tinyjson_schema_drafts.specs.Dialects.{unknown_in, unknown_uri};
 
-use tinyjson::{JsonValue, discard_member};
-use tinyjson_schema_keywords::{Keyword, schema_at};
+use tinyjson::JsonValue;
 
 /// A version of JSON Schema.
 #[derive(Clone, Copy)]
@@ -34,22 +32,6 @@ pub enum Dialect {
     Known(Draft),
     /// Something else.
     Unknown,
-}
-
-/// What the `$schema` of a schema names: a draft by the URI of its meta-schema, also with `https` in place of `http`,
-/// with or without an empty fragment.
-///
-/// ```
-/// // Of {"$schema": "http://json-schema.org/draft-07/schema#"}:
-/// let dialect = dialect_of(&schema); // Dialect::Known(Draft::Draft7)
-/// ```
-pub fn dialect_of(schema: &JsonValue) -> Dialect
-    ensures { result ≡ dialect_of (view schema.now) }
-{
-    match schema_at(schema, Keyword::Schema) {
-        Some(uri) => dialect_named(uri),
-        None => Dialect::Missing,
-    }
 }
 
 /// What a value of `$schema` names.
@@ -143,17 +125,8 @@ fn is_draft_4(uri: &str) -> bool
     )
 }
 
-/// The `$schema` of a schema, if it is a string and names none of the drafts.
-pub fn unknown_dialect(schema: &JsonValue) -> Option<&str>
-    ensures { option_map (λ x. x.now) result ≡ unknown_dialect (view schema.now) }
-{
-    match schema_at(schema, Keyword::Schema) {
-        Some(uri) => unknown_in(uri),
-        None => None,
-    }
-}
-
-fn unknown_in(uri: &JsonValue) -> Option<&str>
+/// A value of `$schema` that is a string and names none of the drafts.
+pub fn unknown_in(uri: &JsonValue) -> Option<&str>
     ensures { option_map (λ x. x.now) result ≡ unknown_in (view uri.now) }
 {
     match uri {
@@ -168,18 +141,5 @@ fn unknown_uri(uri: &str) -> Option<&str>
     match draft_named(uri) {
         Dialect::Unknown => Some(uri),
         _ => None,
-    }
-}
-
-/// The schema without its `$schema`; those of schemas inside it stay.
-pub fn without_dialect(schema: JsonValue) -> JsonValue
-    ensures { view result ≡ without_dialect (view schema) }
-{
-    match schema {
-        JsonValue::Object(mut members) => {
-            discard_member(&mut members, Keyword::Schema.name());
-            JsonValue::Object(members)
-        }
-        other => other,
     }
 }

@@ -12,6 +12,6 @@ mod reference;
 mod rule;
 mod translate;
 
-pub use draft::{Dialect, Draft, dialect_of, unknown_dialect};
-pub use read::read_as;
+pub use draft::{Dialect, Draft};
+pub use read::{dialect_of, read_as, unknown_dialect};
 pub use translate::translated;

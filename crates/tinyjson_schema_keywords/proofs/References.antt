@@ -23,8 +23,8 @@ use Rattle.tinyjson_schema_keywords.specs.Anchors.{anchors_in, anchored, is_plai
 use Rattle.tinyjson_schema_keywords.specs.References.{percent_decoded, after_percent, hex_byte, escape_front, byte_front, reference_bytes}
 use Rattle.tinyjson_schema_keywords.specs.References.{form_in, form_after, is_schema_form, schema_from, at_pointer, at_text, at_fragment}
 use Rattle.tinyjson_schema_keywords.specs.References.{target}
-use Rattle.tinyjson_schema_keywords.specs.declared.form.Form.{Form}
-use Rattle.tinyjson_schema_keywords.specs.declared.form.Form.TheVariants as form
+use Rattle.tinyjson_schema_keywords.specs.declared.keyword.Form.{Form}
+use Rattle.tinyjson_schema_keywords.specs.declared.keyword.Form.TheVariants as form
 use Rattle.tinyjson_schema_keywords.proofs.Lookups.{text_bytes}
 use Rattle.tinyjson_schema_keywords.proofs.Turns.{drop_item, drop_end}
 

@@ -12,8 +12,8 @@ use Rattle.tinyjson.specs.View.{view}
 use Rattle.tinyjson_schema_keywords.specs.Forms.{form_by}
 use Rattle.tinyjson_schema_keywords.specs.Subschemas.{InSchema, schema_members}
 use Rattle.tinyjson_schema_keywords.specs.declared.anchor.Anchor.{Anchor}
-use Rattle.tinyjson_schema_keywords.specs.declared.form.Form.{Form}
-use Rattle.tinyjson_schema_keywords.specs.declared.form.Form.TheVariants as form
+use Rattle.tinyjson_schema_keywords.specs.declared.keyword.Form.{Form}
+use Rattle.tinyjson_schema_keywords.specs.declared.keyword.Form.TheVariants as form
 
 -- a letter or `_`, and after it letters, digits, `-`, `.` and `_`
 abbrev pub is_name_start : ℕ → Bool

@@ -3,8 +3,8 @@ use Rattle.std.specs.Prelude.{ℕ, Bool, true, false, List, Option}
 use Rattle.std.specs.Option.{option_map_or}
 use Rattle.tinyjson.specs.Tree.{Items, no_items, item}
 use Rattle.tinyjson_schema_keywords.specs.Names.{keywords, keyword_among}
-use Rattle.tinyjson_schema_keywords.specs.declared.form.Form.{Form}
-use Rattle.tinyjson_schema_keywords.specs.declared.form.Form.TheVariants as form
+use Rattle.tinyjson_schema_keywords.specs.declared.keyword.Form.{Form}
+use Rattle.tinyjson_schema_keywords.specs.declared.keyword.Form.TheVariants as form
 use Rattle.tinyjson_schema_keywords.specs.declared.keyword.Keyword.{Keyword}
 use Rattle.tinyjson_schema_keywords.specs.declared.keyword.Keyword.TheVariants as kw
 

@@ -8,7 +8,7 @@ ghost use Rattle.tinyjson_schema_keywords.specs.Anchors.{anchors_of, anchors_amo
 ghost use Rattle.tinyjson_schema_keywords.specs.Anchors.{anchored, repeated, all_named, Gathers};
 ghost use Rattle.tinyjson_schema_keywords.specs.Subschemas.{seen, all_seen};
 
-use crate::form::{Form, form_by};
+use crate::keyword::{Form, form_by};
 use crate::subschemas::{SchemaMember, schema_members};
 use std::alloc::{AllocError, Global};
 use std::collections::BTreeSet;

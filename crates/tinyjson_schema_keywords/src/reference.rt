@@ -9,12 +9,11 @@ ghost use Rattle.tinyjson_schema_keywords.specs.References.{escape_front, byte_f
 ghost use Rattle.tinyjson_schema_keywords.specs.References.{reference_bytes, at_fragment};
 ghost use Rattle.tinyjson_schema_keywords.specs.References.{at_pointer, form_in, form_after};
 ghost use Rattle.tinyjson_schema_keywords.specs.References.{is_schema_form, target, referenced};
-ghost use Rattle.tinyjson_schema_keywords.specs.declared.form.Form.TheVariants as form;
+ghost use Rattle.tinyjson_schema_keywords.specs.declared.keyword.Form.TheVariants as form;
 
 use crate::anchor::{anchored, is_plain_name};
-use crate::applied::schema_at;
-use crate::form::{Form, form_at};
-use crate::keyword::Keyword;
+use crate::keyword::{Form, Keyword, form_at};
+use crate::subschemas::schema_at;
 use crate::walk::Walk;
 use std::alloc::{AllocError, Global};
 use std::str;

@@ -7,8 +7,8 @@ use Rattle.tinyjson_pointer.specs.Walk.{step}
 use Rattle.tinyjson_schema_keywords.specs.Forms.{form_by}
 use Rattle.tinyjson_schema_keywords.specs.Names.{keywords, keyword_among}
 use Rattle.tinyjson_schema_keywords.specs.References.{referenced}
-use Rattle.tinyjson_schema_keywords.specs.declared.form.Form.{Form}
-use Rattle.tinyjson_schema_keywords.specs.declared.form.Form.TheVariants as form
+use Rattle.tinyjson_schema_keywords.specs.declared.keyword.Form.{Form}
+use Rattle.tinyjson_schema_keywords.specs.declared.keyword.Form.TheVariants as form
 use Rattle.tinyjson_schema_keywords.specs.declared.keyword.Keyword.{Keyword}
 use Rattle.tinyjson_schema_keywords.specs.declared.keyword.Keyword.TheVariants as kw
 use Rattle.tinyjson_schema_words.specs.declared.ending.End.{End}

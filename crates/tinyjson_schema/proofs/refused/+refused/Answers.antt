@@ -7,8 +7,8 @@ use Rattle.tinyjson.specs.Tree.{tree_depth, items_depth, members_depth, array, o
 use Rattle.tinyjson.specs.View.{view, text, items_view, members_listed}
 use Rattle.tinyjson_pointer.specs.Tokens.{tokens_of}
 use Rattle.tinyjson_schema_keywords.specs.Forms.{form_at, is_some_item}
-use Rattle.tinyjson_schema_keywords.specs.declared.form.Form.{Form}
-use Rattle.tinyjson_schema_keywords.specs.declared.form.Form.TheVariants as form
+use Rattle.tinyjson_schema_keywords.specs.declared.keyword.Form.{Form}
+use Rattle.tinyjson_schema_keywords.specs.declared.keyword.Form.TheVariants as form
 use Rattle.tinyjson_schema_keywords.proofs.Callers.{listed_depth, items_depth_at, listed_sorted, text_bytes, nth_item, turn_stop}
 use Rattle.tinyjson_schema.specs.Operands.{has_patterns}
 use Rattle.tinyjson_schema.specs.Refused.{Refuses, is_some_list, whole_for, whole_of}

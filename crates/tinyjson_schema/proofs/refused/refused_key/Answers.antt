@@ -4,7 +4,7 @@ use Rattle.i_regexp.specs.PatternDeciding.{is_pattern}
 use Rattle.tinyjson.specs.Tree.{object}
 use Rattle.tinyjson.specs.View.{text, members_listed}
 use Rattle.tinyjson_pointer.specs.Tokens.{tokens_of}
-use Rattle.tinyjson_schema_keywords.specs.declared.form.Form.TheVariants as form
+use Rattle.tinyjson_schema_keywords.specs.declared.keyword.Form.TheVariants as form
 use Rattle.tinyjson_schema_keywords.proofs.Callers.{turn_stop}
 use Rattle.tinyjson_schema.specs.Operands.{are_patterns}
 use Rattle.tinyjson_schema.specs.Refused.{IsReason, IsTextReason}

@@ -3,7 +3,7 @@ use Rattle.tinyjson.proofs.Callers.{view_Object}
 use Rattle.tinyjson.specs.Soundness.{IsSorted}
 use Rattle.tinyjson.specs.Tree.{object}
 use Rattle.tinyjson.specs.View.{view, members_listed}
-use Rattle.tinyjson_schema_keywords.specs.declared.form.Form.TheVariants as form
+use Rattle.tinyjson_schema_keywords.specs.declared.keyword.Form.TheVariants as form
 use Rattle.tinyjson_schema_keywords.proofs.Callers.{listed_sorted}
 use Rattle.tinyjson_schema.specs.Operands.{has_patterns}
 use Rattle.tinyjson_schema.specs.Refused.{Refuses}

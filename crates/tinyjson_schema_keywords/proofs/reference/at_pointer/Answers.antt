@@ -3,7 +3,7 @@ use Rattle.std.specs.Str.{chars}
 use Rattle.tinyjson.specs.View.{view}
 use Rattle.tinyjson_pointer.specs.Tokens.{tokens_of}
 use Rattle.tinyjson_schema_keywords.specs.References.{form_after, is_schema_form}
-use Rattle.tinyjson_schema_keywords.specs.declared.form.Form.TheVariants as form
+use Rattle.tinyjson_schema_keywords.specs.declared.keyword.Form.TheVariants as form
 use Rattle.tinyjson_schema_keywords.proofs.References.{no_tokens_there, no_schema_there, schema_there}
 use Rattle.tinyjson_schema_keywords.proofs.reference.at_pointer.Goals as goal
 

@@ -1,7 +1,7 @@
 use Rattle.std.proofs.Common.{◌≡◌, ◌∙◌, ◌+◌, drop, map, sym, ap, subst}
 use Rattle.tinyjson.specs.View.{text}
 use Rattle.tinyjson_schema_keywords.specs.References.{form_after, is_schema_form}
-use Rattle.tinyjson_schema_keywords.specs.declared.form.Form.TheVariants as form
+use Rattle.tinyjson_schema_keywords.specs.declared.keyword.Form.TheVariants as form
 use Rattle.tinyjson_schema_keywords.proofs.References.{form_turn, form_end}
 use Rattle.tinyjson_schema_keywords.proofs.reference.leads_to_schema.Goals as goal
 

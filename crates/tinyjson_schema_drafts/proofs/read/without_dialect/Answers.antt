@@ -5,7 +5,7 @@ use Rattle.tinyjson.specs.View.{view, members_view}
 use Rattle.tinyjson_schema_keywords.specs.declared.keyword.Keyword.TheVariants as kw
 use Rattle.tinyjson_schema_keywords.proofs.Callers.{name_chars}
 use Rattle.tinyjson_schema_drafts.specs.Dialects.{without_dialect}
-use Rattle.tinyjson_schema_drafts.proofs.draft.without_dialect.Goals as goal
+use Rattle.tinyjson_schema_drafts.proofs.read.without_dialect.Goals as goal
 
 pub returns-in-Object : goal.returns-in-Object
 returns-in-Object c =

@@ -2,7 +2,7 @@ use Rattle.std.proofs.Common.{◌∙◌, ap}
 use Rattle.std.specs.Str.{chars}
 use Rattle.tinyjson.proofs.Callers.{view_String}
 use Rattle.tinyjson.specs.Tree.{string}
-use Rattle.tinyjson_schema_keywords.proofs.applied.name_of.Goals as goal
+use Rattle.tinyjson_schema_keywords.proofs.subschemas.name_of.Goals as goal
 
 pub returns : goal.returns
 returns c = view_String c.in_ok-text.text
