@@ -1,30 +1,32 @@
 -- Places of what can't be applied.
-use Rattle.std.proofs.Common.{◌≡◌, ◌∷◌, [], ℕ, ◌<◌, Bool, false, List, Option, Some, None, Result, Ok, Err, String, Global}
+use Rattle.std.proofs.Common.{◌≡◌, ◌∷◌, [], ℕ, suc, ◌<◌, Bool, true, false, ◌&&◌, List, Option, Some, None, Result, Ok, Err, String, Global}
 use Rattle.std.proofs.Common.{Vec, length, get_or, encode_utf8_all, refl, sym, ap, ◌∙◌, subst, ◌||◌}
 use Rattle.std.specs.declared.alloc.AllocError.{AllocError}
 use Rattle.i_regexp.specs.PatternDeciding.{is_pattern}
-use Rattle.tinyjson.proofs.Callers.{boolean_from_tree, string_from_tree, no_array, no_object}
-use Rattle.tinyjson.specs.Access.{JsonMap, is_boolean, is_object}
-use Rattle.tinyjson.specs.Access.Laws.{put_of_boolean, put_of_string}
+use Rattle.tinyjson.proofs.Callers.{string_from_tree, no_object}
+use Rattle.tinyjson.specs.Access.{JsonMap, is_object}
+use Rattle.tinyjson.specs.Access.Laws.{put_of_string}
 use Rattle.tinyjson.specs.Soundness.{IsSorted}
-use Rattle.tinyjson.specs.Tree.{Tree, boolean, string, array, object, Items, Members}
+use Rattle.tinyjson.specs.Tree.{Tree, boolean, string, array, object, Items, no_items, item, Members, no_members, member}
 use Rattle.tinyjson.specs.View.{view, text, members_listed}
 use Rattle.tinyjson.specs.declared.value.JsonValue.{JsonValue}
 use Rattle.tinyjson.specs.declared.value.JsonValue.TheVariants as is
-use Rattle.tinyjson_pointer.specs.Index.{HasIndexBefore}
 use Rattle.tinyjson_pointer.specs.Tokens.{tokens_of}
-use Rattle.tinyjson_pointer.specs.Walk.{item_of, step}
-use Rattle.tinyjson_schema_keywords.specs.Forms.{form_at}
+use Rattle.tinyjson_pointer.specs.Walk.{step}
+use Rattle.tinyjson_schema_keywords.specs.Forms.{form_at, is_some_item}
 use Rattle.tinyjson_schema_keywords.specs.References.{form_in}
 use Rattle.tinyjson_schema_keywords.specs.declared.keyword.Form.{Form}
 use Rattle.tinyjson_schema_keywords.specs.declared.keyword.Form.TheVariants as form
-use Rattle.tinyjson_schema_keywords.proofs.Callers.{Listed, listed_found}
+use Rattle.tinyjson_schema_keywords.specs.Subschemas.{Way, by_key, by_index, InForm, way_of, all_parts, parts_of, keyword_parts}
+use Rattle.tinyjson_schema_keywords.specs.Subschemas.{item_parts, entry_parts}
+use Rattle.tinyjson_schema_keywords.specs.declared.subschemas.Part.{Part}
+use Rattle.tinyjson_schema_keywords.proofs.Callers.{Listed, listed_found, IsWay, part_step}
 use Rattle.tinyjson_schema.specs.Operands.{is_pattern_text, are_patterns, has_patterns}
 use Rattle.tinyjson_schema.specs.Refused.{IsRefusedAt, IsAboveAt, IsReason, IsTextReason, IsWhole, Refuses, RefusesWhole, has_own_form}
-use Rattle.tinyjson_schema.specs.Refused.{is_some_list, whole_for}
+use Rattle.tinyjson_schema.specs.Refused.{has_shape, is_applied, IsBefore, whole_for}
 use Rattle.tinyjson_schema.specs.Refused.IsRefusedAt.{itself, no_pattern, inside}
 use Rattle.tinyjson_schema.specs.Refused.IsAboveAt.{value, key, within}
-use Rattle.tinyjson_schema.specs.Schemas.{fits, is_schema, is_schema_list, is_schema_map}
+use Rattle.tinyjson_schema.specs.Schemas.{fits, is_schema, keywords_fit, are_schemas, have_schemas}
 use Rattle.tinyjson_schema.specs.declared.refused.Reason.{Reason}
 use Rattle.tinyjson_schema.specs.declared.refused.Reason.TheVariants.{Misfit, PatternLimit}
 use Rattle.tinyjson_schema.specs.declared.refused.RefusedPlace.{RefusedPlace}
@@ -41,60 +43,22 @@ at_itself root whole f w is (Ok None) e h = h
 at_itself root whole f w is (Ok (Some p)) e h = own_place root whole f w is p h.1 h.0 (sym e ∙ h.0)
 at_itself root whole f w is (Err x) e h = tt
 
--- the same of a keyword's value in which no schemas are looked at
+-- the same of a value of which only its own form is looked at
 pub own_misfit : (root : Tree) (whole : Bool) (f g : Form) (w : Tree) (b : Bool) (r : Result (Option RefusedPlace) AllocError) → f ≡ g
-    → fits root whole g w ≡ b → has_own_form root (whole_for whole g) g w ≡ b → RefusesWhole b r
-    → Refuses (fits root whole f w) root (whole_for whole f) f w r
+    → has_shape root whole g w ≡ b → has_own_form root whole g w ≡ b → RefusesWhole b r
+    → Refuses (has_shape root whole f w) root whole f w r
 own_misfit root whole f g w b r e h o refuses =
-    subst (λ x. Refuses (fits root whole x w) root (whole_for whole x) x w r) (sym e)
-    (at_itself root (whole_for whole g) g w (fits root whole g w) r (h ∙ sym o) (subst (λ x. RefusesWhole x r) (sym h) refuses))
-
-no_boolean : (v : JsonValue) → ((b : Bool) → v ≡ is.Boolean b → ⊥) → (b : Bool) → view v ≡ boolean b → ⊥
-no_boolean v other b h = other b (sym (put_of_boolean v b (boolean_from_tree v b h)))
-
-pub no_schema : (root : Tree) (whole : Bool) (v : JsonValue) (p : RefusedPlace) → ((b : Bool) → v ≡ is.Boolean b → ⊥)
-    → ((m : JsonMap) → v ≡ is.Object m → ⊥) → IsWhole Misfit p
-    → Refuses (is_schema root whole (view v)) root whole form.Schema (view v) (Ok (Some p))
-no_schema root whole v p other another h =
-    let parts = by (view v) (no_boolean v other) (no_object v another) in
-    own_place root whole form.Schema (view v) _ p h parts.0 parts.1
-  where
-    by : (t : Tree) → ((b : Bool) → t ≡ boolean b → ⊥) → ((ms : Members) → t ≡ object ms → ⊥)
-        → (is_schema root whole t ≡ false) × ((is_boolean t || is_object t) ≡ false)
-    by (boolean b) m n = absurd (m b refl)
-    by (object ms) m n = absurd (n ms refl)
-    by _ m n = (refl, refl)
-
-pub no_list : (root : Tree) (v : JsonValue) (p : RefusedPlace) → ((l : Vec JsonValue Global) → v ≡ is.Array l → ⊥) → IsWhole Misfit p
-    → Refuses (is_schema_list root (view v)) root false form.Schemas (view v) (Ok (Some p))
-no_list root v p other h =
-    own_place root false form.Schemas (view v) _ p h (by (view v) (no_array v other)) (own (view v) (no_array v other))
-  where
-    by : (t : Tree) → ((ts : Items) → t ≡ array ts → ⊥) → is_schema_list root t ≡ false
-    by (array ts) n = absurd (n ts refl)
-    by _ n = refl
-
-    own : (t : Tree) → ((ts : Items) → t ≡ array ts → ⊥) → is_some_list t ≡ false
-    own (array ts) n = absurd (n ts refl)
-    own _ n = refl
+    subst (λ x. Refuses (has_shape root whole x w) root whole x w r) (sym e)
+    (at_itself root whole g w (has_shape root whole g w) r (h ∙ sym o) (subst (λ x. RefusesWhole x r) (sym h) refuses))
 
 no_object_tree : (t : Tree) → ((ms : Members) → t ≡ object ms → ⊥) → is_object t ≡ false
 no_object_tree (object ms) n = absurd (n ms refl)
 no_object_tree _ n = refl
 
-pub no_map : (root : Tree) (v : JsonValue) (p : RefusedPlace) → ((m : JsonMap) → v ≡ is.Object m → ⊥) → IsWhole Misfit p
-    → Refuses (is_schema_map root (view v)) root false form.SchemaMap (view v) (Ok (Some p))
-no_map root v p other h =
-    own_place root false form.SchemaMap (view v) _ p h (by (view v) (no_object v other)) (no_object_tree (view v) (no_object v other))
-  where
-    by : (t : Tree) → ((ms : Members) → t ≡ object ms → ⊥) → is_schema_map root t ≡ false
-    by (object ms) n = absurd (n ms refl)
-    by _ n = refl
-
-pub no_patterns : (root : Tree) (v : JsonValue) (p : RefusedPlace) → ((m : JsonMap) → v ≡ is.Object m → ⊥) → IsWhole Misfit p
-    → Refuses (has_patterns (view v)) root false form.PatternMap (view v) (Ok (Some p))
-no_patterns root v p other h =
-    own_place root false form.PatternMap (view v) _ p h (by (view v) (no_object v other)) (no_object_tree (view v) (no_object v other))
+pub no_patterns : (root : Tree) (whole : Bool) (v : JsonValue) (p : RefusedPlace) → ((m : JsonMap) → v ≡ is.Object m → ⊥) → IsWhole Misfit p
+    → Refuses (has_patterns (view v)) root whole form.PatternMap (view v) (Ok (Some p))
+no_patterns root whole v p other h =
+    own_place root whole form.PatternMap (view v) _ p h (by (view v) (no_object v other)) (no_object_tree (view v) (no_object v other))
   where
     by : (t : Tree) → ((ms : Members) → t ≡ object ms → ⊥) → has_patterns t ≡ false
     by (object ms) n = absurd (n ms refl)
@@ -103,38 +67,38 @@ no_patterns root v p other h =
 no_string : (v : JsonValue) → ((s : String Global) → v ≡ is.String s → ⊥) → (cs : List ℕ) → view v ≡ string cs → ⊥
 no_string v other cs h = let f = string_from_tree v cs h in other f.0 (sym (put_of_string v f.0 f.1))
 
-pub no_text : (root : Tree) (v : JsonValue) (p : RefusedPlace) → ((s : String Global) → v ≡ is.String s → ⊥) → IsWhole Misfit p
-    → Refuses (is_pattern_text (view v)) root false form.Pattern (view v) (Ok (Some p))
-no_text root v p other h =
+pub no_text : (root : Tree) (whole : Bool) (v : JsonValue) (p : RefusedPlace) → ((s : String Global) → v ≡ is.String s → ⊥)
+    → IsWhole Misfit p → Refuses (is_pattern_text (view v)) root whole form.Pattern (view v) (Ok (Some p))
+no_text root whole v p other h =
     let none = by (view v) (no_string v other) in
-    own_place root false form.Pattern (view v) _ p h none none
+    own_place root whole form.Pattern (view v) _ p h none none
   where
     by : (t : Tree) → ((cs : List ℕ) → t ≡ string cs → ⊥) → is_pattern_text t ≡ false
     by (string cs) n = absurd (n cs refl)
     by _ n = refl
 
 -- why a text is not applied as a pattern is why its value is not
-text_place : (root : Tree) (cs : List ℕ) (x : Reason) → IsTextReason cs (Some x)
-    → IsReason (is_pattern cs) root false form.Pattern (string cs) x []
-text_place root cs Misfit h = (h, itself h)
-text_place root cs PatternLimit h = value h
+text_place : (root : Tree) (whole : Bool) (cs : List ℕ) (x : Reason) → IsTextReason cs (Some x)
+    → IsReason (is_pattern cs) root whole form.Pattern (string cs) x []
+text_place root whole cs Misfit h = (h, itself h)
+text_place root whole cs PatternLimit h = value h
 
-pub at_text : (root : Tree) (v : JsonValue) (cs : List ℕ) (x : Reason) (p : RefusedPlace) → string cs ≡ view v
-    → IsTextReason cs (Some x) → IsWhole x p → Refuses (is_pattern_text (view v)) root false form.Pattern (view v) (Ok (Some p))
-at_text root v cs x p e h at = subst (λ t. IsReason (is_pattern_text t) root false form.Pattern t p.reason (tokens_of p.pointer)) e
-    (subst (λ y. IsReason (is_pattern cs) root false form.Pattern (string cs) y (tokens_of p.pointer)) (sym at.0)
-    (subst (IsReason (is_pattern cs) root false form.Pattern (string cs) x) (sym at.1) (text_place root cs x h)))
+pub at_text : (root : Tree) (whole : Bool) (v : JsonValue) (cs : List ℕ) (x : Reason) (p : RefusedPlace) → string cs ≡ view v
+    → IsTextReason cs (Some x) → IsWhole x p → Refuses (is_pattern_text (view v)) root whole form.Pattern (view v) (Ok (Some p))
+at_text root whole v cs x p e h at = subst (λ t. IsReason (is_pattern_text t) root whole form.Pattern t p.reason (tokens_of p.pointer)) e
+    (subst (λ y. IsReason (is_pattern cs) root whole form.Pattern (string cs) y (tokens_of p.pointer)) (sym at.0)
+    (subst (IsReason (is_pattern cs) root whole form.Pattern (string cs) x) (sym at.1) (text_place root whole cs x h)))
 
 -- a key that is no pattern, or is one above the limits
-pub at_key : (root : Tree) (ps : List Listed) (i : ℕ) (p : Listed) (x : Reason) (js : List (List ℕ)) → IsSorted (members_listed ps)
-    → i < length ps → p ≡ get_or ps i p → IsTextReason (text p.0.now) (Some x)
+pub at_key : (root : Tree) (whole : Bool) (ps : List Listed) (i : ℕ) (p : Listed) (x : Reason) (js : List (List ℕ))
+    → IsSorted (members_listed ps) → i < length ps → p ≡ get_or ps i p → IsTextReason (text p.0.now) (Some x)
     → (is_pattern (text p.0.now) ≡ false → are_patterns (members_listed ps) ≡ false) → js ≡ text p.0.now ∷ []
-    → IsReason (are_patterns (members_listed ps)) root false form.PatternMap (object (members_listed ps)) x js
-at_key root ps i p x js s h g why none joined =
-    subst (IsReason (are_patterns (members_listed ps)) root false form.PatternMap (object (members_listed ps)) x) (sym joined) (by x why)
+    → IsReason (are_patterns (members_listed ps)) root whole form.PatternMap (object (members_listed ps)) x js
+at_key root whole ps i p x js s h g why none joined =
+    subst (IsReason (are_patterns (members_listed ps)) root whole form.PatternMap (object (members_listed ps)) x) (sym joined) (by x why)
   where
     by : (y : Reason) → IsTextReason (text p.0.now) (Some y)
-        → IsReason (are_patterns (members_listed ps)) root false form.PatternMap (object (members_listed ps)) y (text p.0.now ∷ [])
+        → IsReason (are_patterns (members_listed ps)) root whole form.PatternMap (object (members_listed ps)) y (text p.0.now ∷ [])
     by Misfit e = (none e, no_pattern (listed_found ps i p s h g) e)
     by PatternLimit e = key (listed_found ps i p s h g) e
 
@@ -145,56 +109,86 @@ enter : (root w v : Tree) (is all whole : Bool) (f : Form) (k : List ℕ) (x : R
 enter root w v is all whole f k Misfit ks e none at = (none at.0, inside e at.1)
 enter root w v is all whole f k PatternLimit ks e none at = within e at
 
--- a place in a keyword's value
-pub in_keyword : (root : Tree) (whole is all : Bool) (ps : List Listed) (i : ℕ) (p : Listed) (f : Form) (x : Reason)
-    (ks js : List (List ℕ)) → IsSorted (members_listed ps) → i < length ps → p ≡ get_or ps i p
-    → f ≡ form_at (encode_utf8_all (text p.0.now)) → (is ≡ false → all ≡ false)
-    → IsReason is root (whole_for whole f) f (view p.1.now) x ks → js ≡ text p.0.now ∷ ks
-    → IsReason all root whole form.Schema (object (members_listed ps)) x js
-in_keyword root whole is all ps i p f x ks js s h g named none at joined =
-    subst (IsReason all root whole form.Schema (object (members_listed ps)) x) (sym joined)
-    (enter root _ _ is all whole form.Schema _ x ks (listed_found ps i p s h g) none
-    (subst (λ y. IsReason is root (whole_for whole y) y (view p.1.now) x ks) named at))
+-- a place in a part
+pub in_part : (root : Tree) (is all whole : Bool) (f : Form) (v : JsonValue) (ps : List Part) (i : ℕ) (p : Part) (x : Reason)
+    (ks js : List (List ℕ)) → all_parts ps ≡ parts_of f (view v) → i < length ps → p ≡ get_or ps i p
+    → IsBefore (way_of p.token) ks js → (is ≡ false → all ≡ false)
+    → IsReason is root (whole_for whole p.form) p.form (view p.value.now) x ks → IsReason all root whole f (view v) x js
+in_part root is all whole f v ps i p x ks js h l e before none at = by (way_of p.token) (part_step f v ps i p h l e) before
+  where
+    entered : (k : List ℕ) → (step (view v) k ≡ Some (view p.value.now)) × (form_in f k ≡ p.form)
+        → IsReason all root whole f (view v) x (k ∷ ks)
+    entered k s = enter root (view v) (view p.value.now) is all whole f k x ks s.0 none
+        (subst (λ g. IsReason is root (whole_for whole g) g (view p.value.now) x ks) (sym s.1) at)
 
--- a place in a schema of an object of them
-pub in_member : (root : Tree) (is all : Bool) (ps : List Listed) (i : ℕ) (p : Listed) (x : Reason) (ks js : List (List ℕ))
-    → IsSorted (members_listed ps) → i < length ps → p ≡ get_or ps i p → (is ≡ false → all ≡ false)
-    → IsReason is root false form.Schema (view p.1.now) x ks → js ≡ text p.0.now ∷ ks
-    → IsReason all root false form.SchemaMap (object (members_listed ps)) x js
-in_member root is all ps i p x ks js s h g none at joined =
-    subst (IsReason all root false form.SchemaMap (object (members_listed ps)) x) (sym joined)
-    (enter root _ _ is all false form.SchemaMap _ x ks (listed_found ps i p s h g) none at)
+    by : (y : Way) → ((k : List ℕ) → IsWay y k → (step (view v) k ≡ Some (view p.value.now)) × (form_in f k ≡ p.form))
+        → IsBefore y ks js → IsReason all root whole f (view v) x js
+    by (by_key k) s joined = subst (IsReason all root whole f (view v) x) (sym joined) (entered k (s k refl))
+    by (by_index n) s b = subst (IsReason all root whole f (view v) x) (sym b.joined) (entered b.token (s b.token b.named))
 
--- a place in a schema of a list
-pub in_item : (root t : Tree) (is all : Bool) (ts : Items) (i : ℕ) (x : Reason) (ks js : List (List ℕ)) → HasIndexBefore i ks js
-    → item_of ts (Some i) ≡ Some t → (is ≡ false → all ≡ false) → IsReason is root false form.Schema t x ks
-    → IsReason all root false form.Schemas (array ts) x js
-in_item root t is all ts i x ks js h e none at = subst (IsReason all root false form.Schemas (array ts) x) (sym h.joined)
-    (enter root _ _ is all false form.Schemas h.token x ks (ap (item_of ts) h.named ∙ e) none at)
+-- what is refused of the value alone is refused of it with its parts
+pub refuses_more : (root w : Tree) (is all whole : Bool) (f : Form) (x : Reason) (ks : List (List ℕ)) → (is ≡ false → all ≡ false)
+    → IsReason is root whole f w x ks → IsReason all root whole f w x ks
+refuses_more root w is all whole f Misfit ks none h = (none h.0, h.1)
+refuses_more root w is all whole f PatternLimit ks none h = h
 
--- what has schemas at its keys has them where the keys are patterns, too
-in_patterns : (root w : Tree) (ks : List (List ℕ)) → IsRefusedAt root false form.SchemaMap w ks
-    → IsRefusedAt root false form.PatternMap w ks
-in_patterns root w [] (itself h) = itself h
-in_patterns root w (k ∷ ks) (inside e at) = inside e at
+-- ---- a value and its parts
 
-above_in_patterns : (w : Tree) (ks : List (List ℕ)) → IsAboveAt form.SchemaMap w ks → IsAboveAt form.PatternMap w ks
-above_in_patterns w [] h = elim h [ ]
-above_in_patterns w (k ∷ ks) (within e at) = within e at
+abbrev pub parts_applied : Tree → Bool → List InForm → Bool
+parts_applied root whole [] = true
+parts_applied root whole (x ∷ xs) = is_applied root (whole_for whole x.2) x.2 x.3 && parts_applied root whole xs
 
-reason_in_patterns : (root w : Tree) (is : Bool) (x : Reason) (ks : List (List ℕ)) → IsReason is root false form.SchemaMap w x ks
-    → IsReason is root false form.PatternMap w x ks
-reason_in_patterns root w is Misfit ks h = (h.0, in_patterns root w ks h.1)
-reason_in_patterns root w is PatternLimit ks h = above_in_patterns w ks h
+of_keyword : (root : Tree) (whole : Bool) (f : Form) (w : Tree) → fits root whole f w ≡ is_applied root (whole_for whole f) f w
+of_keyword root whole form.Schema w = refl
+of_keyword root whole form.Base w = refl
+of_keyword root whole _ w = refl
 
-pub refuses_in_patterns : (root w : Tree) (is : Bool) (r : Result (Option RefusedPlace) AllocError)
-    → Refuses is root false form.SchemaMap w r → Refuses is root false form.PatternMap w r
-refuses_in_patterns root w is (Ok None) h = h
-refuses_in_patterns root w is (Ok (Some p)) h = reason_in_patterns root w is p.reason (tokens_of p.pointer) h
-refuses_in_patterns root w is (Err e) h = tt
+keywords_applied : (root : Tree) (whole : Bool) (ms : Members) → keywords_fit root whole ms ≡ parts_applied root whole (keyword_parts ms)
+keywords_applied root whole no_members = refl
+keywords_applied root whole (member k w ms) =
+    let f = form_at (encode_utf8_all k) in
+    ap (λ b. b && keywords_fit root whole ms) (of_keyword root whole f w)
+    ∙ ap (λ b. is_applied root (whole_for whole f) f w && b) (keywords_applied root whole ms)
 
--- what is refused of keys is refused of them and their schemas
-pub refuses_more : (root w : Tree) (is all : Bool) (x : Reason) (ks : List (List ℕ)) → (is ≡ false → all ≡ false)
-    → IsReason is root false form.PatternMap w x ks → IsReason all root false form.PatternMap w x ks
-refuses_more root w is all Misfit ks none h = (none h.0, h.1)
-refuses_more root w is all PatternLimit ks none h = h
+items_applied : (root : Tree) (whole : Bool) (i : ℕ) (ts : Items) → are_schemas root ts ≡ parts_applied root whole (item_parts i ts)
+items_applied root whole i no_items = refl
+items_applied root whole i (item t ts) = ap (λ b. is_schema root false t && b) (items_applied root whole (suc i) ts)
+
+entries_applied : (root : Tree) (whole : Bool) (ms : Members) → have_schemas root ms ≡ parts_applied root whole (entry_parts ms)
+entries_applied root whole no_members = refl
+entries_applied root whole (member k t ms) = ap (λ b. is_schema root false t && b) (entries_applied root whole ms)
+
+and_true : (b : Bool) → b ≡ (b && true)
+and_true true = refl
+and_true false = refl
+
+and_false : (b : Bool) → (b && false) ≡ false
+and_false true = refl
+and_false false = refl
+
+splits : (root : Tree) (whole : Bool) (f : Form) (w : Tree)
+    → is_applied root whole f w ≡ (has_shape root whole f w && parts_applied root whole (parts_of f w))
+splits root whole form.Schema (boolean b) = refl
+splits root whole form.Schema (object ms) = keywords_applied root whole ms
+splits root whole form.Schema _ = refl
+splits root whole form.Schemas (array ts) = ap (λ b. is_some_item ts && b) (items_applied root whole 0 ts)
+splits root whole form.Schemas _ = refl
+splits root whole form.SchemaMap (object ms) = entries_applied root whole ms
+splits root whole form.SchemaMap _ = refl
+splits root whole form.PatternMap (object ms) = ap (λ b. has_patterns (object ms) && b) (entries_applied root whole ms)
+splits root whole form.PatternMap _ = refl
+splits root whole _ w = and_true _
+
+pub not_shaped : (root : Tree) (whole : Bool) (f : Form) (w : Tree) → has_shape root whole f w ≡ false → is_applied root whole f w ≡ false
+not_shaped root whole f w e = splits root whole f w ∙ ap (λ b. b && parts_applied root whole (parts_of f w)) e
+
+pub not_in_parts : (root : Tree) (whole : Bool) (f : Form) (w : Tree) (ps : List Part) → all_parts ps ≡ parts_of f w
+    → parts_applied root whole (all_parts ps) ≡ false → is_applied root whole f w ≡ false
+not_in_parts root whole f w ps h e = splits root whole f w
+    ∙ (ap (λ xs. has_shape root whole f w && parts_applied root whole xs) (sym h) ∙ (ap (λ b. has_shape root whole f w && b) e
+    ∙ and_false (has_shape root whole f w)))
+
+pub all_applied : (root : Tree) (whole : Bool) (f : Form) (w : Tree) (ps : List Part) → all_parts ps ≡ parts_of f w
+    → has_shape root whole f w ≡ true → parts_applied root whole (all_parts ps) ≡ true → is_applied root whole f w ≡ true
+all_applied root whole f w ps h shape e = splits root whole f w
+    ∙ (ap (λ b. b && parts_applied root whole (parts_of f w)) shape ∙ (ap (parts_applied root whole) (sym h) ∙ e))

@@ -3,29 +3,31 @@ use Rattle.std.specs.Prelude.{◌≡◌, ℕ, Bool, true, false, ◌||◌, List,
 use Rattle.std.specs.declared.alloc.AllocError.{AllocError}
 use Rattle.i_regexp.specs.PatternDeciding.{is_pattern}
 use Rattle.tinyjson.specs.Access.{is_boolean, is_object}
-use Rattle.tinyjson.specs.Tree.{Tree, string, array}
+use Rattle.tinyjson.specs.Tree.{Tree, string}
 use Rattle.tinyjson.specs.View.{view}
+use Rattle.tinyjson_pointer.specs.Index.{HasIndexBefore}
 use Rattle.tinyjson_pointer.specs.Tokens.{tokens_of}
 use Rattle.tinyjson_pointer.specs.Walk.{step}
+use Rattle.tinyjson_schema_keywords.specs.Anchors.{is_own_name}
+use Rattle.tinyjson_schema_keywords.specs.Applied.{items_in}
 use Rattle.tinyjson_schema_keywords.specs.Forms.{is_some_item}
 use Rattle.tinyjson_schema_keywords.specs.Patterns.{IsAboveLimits}
 use Rattle.tinyjson_schema_keywords.specs.References.{form_in}
+use Rattle.tinyjson_schema_keywords.specs.Subschemas.{Way, by_key, by_index}
 use Rattle.tinyjson_schema_keywords.specs.declared.document.Document.{Document}
 use Rattle.tinyjson_schema_keywords.specs.declared.keyword.Form.{Form}
 use Rattle.tinyjson_schema_keywords.specs.declared.keyword.Form.TheVariants as form
-use Rattle.tinyjson_schema.specs.Schemas.{fits}
+use Rattle.tinyjson_schema.specs.Circles.{leads}
+use Rattle.tinyjson_schema.specs.Operands.{has_patterns}
+use Rattle.tinyjson_schema.specs.Schemas.{has_form, fits, is_schema, is_schema_list, is_schema_map}
 use Rattle.tinyjson_schema.specs.declared.refused.Reason.{Reason}
 use Rattle.tinyjson_schema.specs.declared.refused.Reason.TheVariants.{Misfit, PatternLimit}
 use Rattle.tinyjson_schema.specs.declared.refused.RefusedPlace.{RefusedPlace}
 
-abbrev pub is_some_list : Tree → Bool
-is_some_list (array ts) = is_some_item ts
-is_some_list _ = false
-
 -- The value w of a keyword, or a schema, has the form that it needs, whatever its subschemas are.
 abbrev pub has_own_form : Tree → Bool → Form → Tree → Bool
 has_own_form root whole form.Schema w = is_boolean w || is_object w
-has_own_form root whole form.Schemas w = is_some_list w
+has_own_form root whole form.Schemas w = is_some_item (items_in w)
 has_own_form root whole form.SchemaMap w = is_object w
 has_own_form root whole form.PatternMap w = is_object w
 has_own_form root whole f w = fits root whole f w
@@ -53,6 +55,21 @@ pub data IsAboveAt : Form → Tree → List (List ℕ) → Type 0 where
       → IsAboveAt f w (k ∷ ks)
 
 -- ---- for private contracts
+
+-- The value has its own form, and the keys in it are patterns where they have to be.
+abbrev pub has_shape : Tree → Bool → Form → Tree → Bool
+has_shape root whole form.PatternMap w = has_patterns w
+has_shape root whole f w = has_own_form root whole f w
+
+-- The value has the form that it needs, and so have its parts; or it is a schema, the root schema or another one.
+abbrev pub is_applied : Tree → Bool → Form → Tree → Bool
+is_applied root whole f w =
+    has_form f w (is_schema root whole w) (is_schema_list root w) (is_schema_map root w) (leads root w) (is_own_name root w) whole
+
+-- The tokens are the old ones, after the token of this way.
+abbrev pub IsBefore : Way → List (List ℕ) → List (List ℕ) → Type 0
+IsBefore (by_key k) old new = new ≡ k ∷ old
+IsBefore (by_index i) old new = HasIndexBefore i old new
 
 -- What was asked of w is false, and something in it can't be applied; or a pattern in it is too deep or too large.
 abbrev pub IsReason : Bool → Tree → Bool → Form → Tree → Reason → List (List ℕ) → Type 0

@@ -1,7 +1,7 @@
 //! Whether the values of keywords have the form that the standard asks for, except for subschemas.
-ghost use Rattle.std.specs.Prelude.{◌≡◌, ◌&&◌, IfOk, option_map};
+ghost use Rattle.std.specs.Prelude.{◌≡◌, ◌&&◌, ◌||◌, IfOk, option_map};
 ghost use Rattle.std.specs.String.{string_bytes};
-ghost use Rattle.tinyjson.specs.Access.{is_string, is_boolean, is_array, is_number};
+ghost use Rattle.tinyjson.specs.Access.{is_string, is_boolean, is_array, is_number, is_object};
 ghost use Rattle.tinyjson.specs.View.{view, items_view, members_listed};
 ghost use Rattle.tinyjson_schema_keywords.specs.Anchors.{is_own_name, is_name};
 ghost use Rattle.tinyjson_schema.specs.Operands.{is_count, is_type_name, are_type_names, are_types};
@@ -53,6 +53,19 @@ pub fn is_boolean(value: &JsonValue) -> bool
     ensures { result ≡ is_boolean (view value.now) }
 {
     matches!(value, JsonValue::Boolean(_))
+}
+
+pub fn is_object(value: &JsonValue) -> bool
+    ensures { result ≡ is_object (view value.now) }
+{
+    matches!(value, JsonValue::Object(_))
+}
+
+/// Whether the value has the form of a schema, whatever is in it.
+pub fn is_boolean_or_object(value: &JsonValue) -> bool
+    ensures { result ≡ (is_boolean (view value.now) || is_object (view value.now)) }
+{
+    is_boolean(value) || is_object(value)
 }
 
 pub fn is_array(value: &JsonValue) -> bool

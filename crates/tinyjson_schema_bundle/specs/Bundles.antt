@@ -18,6 +18,8 @@ use Rattle.tinyjson_schema_keywords.specs.Applied.{schema_at}
 use Rattle.tinyjson_schema_keywords.specs.Forms.{form_at}
 use Rattle.tinyjson_schema_keywords.specs.Names.{name}
 use Rattle.tinyjson_schema_keywords.specs.References.{percent, number_sign, percent_decoded}
+use Rattle.tinyjson_schema_keywords.specs.Subschemas.{InForm, Way}
+use Rattle.tinyjson_schema_keywords.specs.Subschemas.Way.{by_key, by_index}
 use Rattle.tinyjson_schema_keywords.specs.declared.keyword.Form.{Form}
 use Rattle.tinyjson_schema_keywords.specs.declared.keyword.Form.TheVariants as form
 use Rattle.tinyjson_schema_keywords.specs.declared.keyword.Keyword.TheVariants as kw
@@ -309,9 +311,23 @@ abbrev mutual
 
 -- ---- for private contracts
 
-abbrev pub marks_of_keyword : List ℕ → List ℕ → List ℕ → List ℕ → Tree → List Marked
-marks_of_keyword key b p q w = marks_by (form_at key) (name_marks (name_kind key) b p w) (reference_marks p w) (marks_in b q w)
-    (marks_in_list b q w) (marks_in_map b q w)
+abbrev pub at_way : List ℕ → Way → List ℕ
+at_way p (by_key k) = at_key p k
+at_way p (by_index i) = at_index p i
+
+-- the marks of a schema at p, or of the schemas in a value of another form there
+abbrev pub marks_within : Form → List ℕ → List ℕ → Tree → List Marked
+marks_within f b p w = marks_by f [] [] (marks_in b p w) (marks_in_list b p w) (marks_in_map b p w)
+
+-- the mark that a keyword gives its schema at p
+abbrev pub own_marks : List ℕ → List ℕ → InForm → List Marked
+own_marks b p (by_key k, keyword, f, w) = marks_by f (name_marks (name_kind (encode_utf8_all k)) b p w) (reference_marks p w) [] [] []
+own_marks b p x = []
+
+-- the marks of the parts of a value at p
+abbrev pub marks_of_parts : List ℕ → List ℕ → List InForm → List Marked
+marks_of_parts b p [] = []
+marks_of_parts b p (x ∷ xs) = own_marks b p x ++ (marks_within x.2 b (at_way p x.0) x.3 ++ marks_of_parts b p xs)
 
 abbrev pub kept_of : Leads → List ℕ → List ℕ → List ℕ → List ℕ → Tree → Option Tree
 kept_of to key b p q w = kept_by (form_at key) w (kept_id to.0 b p w) (kept_anchor to.0 b p w) (pointing to (is_dynamic key) b w)

@@ -2,20 +2,19 @@
 ghost use Rattle.std.specs.Prelude.{◌≡◌, Some, IfOk, OnOk};
 ghost use Rattle.std.specs.String.{string_bytes};
 ghost use Rattle.tinyjson.specs.Access.{is_string};
-ghost use Rattle.tinyjson.specs.View.{view, items_view, members_listed};
+ghost use Rattle.tinyjson.specs.View.{view};
+ghost use Rattle.tinyjson_schema_keywords.specs.Subschemas.{part_seen, parts_of};
 ghost use Rattle.tinyjson_schema_bundle.specs.Bundles.{base_by, base_in, is_resource, is_fragment};
-ghost use Rattle.tinyjson_schema_bundle.specs.Bundles.{marks_of, marks_in, marks_among};
-ghost use Rattle.tinyjson_schema_bundle.specs.Bundles.{marks_of_keyword, marks_in_list};
-ghost use Rattle.tinyjson_schema_bundle.specs.Bundles.{marks_in_map, marks_of_items};
-ghost use Rattle.tinyjson_schema_bundle.specs.Bundles.{marks_of_members, resource_marks, name_kind};
-ghost use Rattle.tinyjson_schema_bundle.specs.Bundles.{name_marks, reference_kind, reference_marks};
+ghost use Rattle.tinyjson_schema_bundle.specs.Bundles.{marks_of, marks_in, marks_within};
+ghost use Rattle.tinyjson_schema_bundle.specs.Bundles.{marks_of_parts, own_marks, resource_marks};
+ghost use Rattle.tinyjson_schema_bundle.specs.Bundles.{name_kind, name_marks, reference_kind, reference_marks};
 ghost use Rattle.tinyjson_schema_bundle.specs.Bundles.{is_bundled_by, is_bundle, marked};
 ghost use Rattle.tinyjson_schema_bundle.specs.Bundles.{all_marked, Gathers, with_name};
 
-use crate::place::{at_index, at_key};
+use crate::place::at_token;
 use std::alloc::{AllocError, Global};
-use tinyjson::{JsonValue, sorted_members};
-use tinyjson_schema_keywords::{Form, Keyword, form_at, schema_at};
+use tinyjson::JsonValue;
+use tinyjson_schema_keywords::{Form, Keyword, Part, Token, parts_of, schema_at};
 use uri_reference::{resolve, without_fragment};
 
 /// The kind of a mark.
@@ -112,12 +111,31 @@ pub fn marks_of(document: &JsonValue, alloc: Global) -> Result<Vec<Mark>, AllocE
         base: "",
         place: "",
     };
-    gather(document, spot, alloc, &mut marks)?;
+    gather(Form::Schema, document, spot, alloc, &mut marks)?;
     Ok(marks)
 }
 
+/// Appends the marks of a schema, or of the schemas in a value of another form.
 #[cycle(marks)]
 fn gather(
+    form: Form,
+    value: &JsonValue,
+    spot: Spot<'_>,
+    alloc: Global,
+    marks: &mut Vec<Mark>,
+) -> Result<(), AllocError>
+    ensures { OnOk result (Gathers
+        (marks_within form spot.entry.base.now spot.entry.place.now (view value.now))
+        marks.old.items marks.new.items) }
+{
+    match form {
+        Form::Schema => gather_schema(value, spot, alloc, marks),
+        _ => gather_parts(form, value, spot, alloc, marks),
+    }
+}
+
+#[cycle(marks)]
+fn gather_schema(
     schema: &JsonValue,
     spot: Spot<'_>,
     alloc: Global,
@@ -128,15 +146,14 @@ fn gather(
         marks.old.items marks.new.items) }
 {
     match schema {
-        JsonValue::Object(keywords) => {
+        JsonValue::Object(_) => {
             let base = base_in(spot.base, schema, alloc)?;
             let spot = Spot {
                 base: base.as_str(),
                 place: spot.place,
             };
             gather_resource(schema, spot, alloc, marks)?;
-            let sorted = sorted_members(alloc, keywords)?;
-            gather_named(sorted.as_slice(), spot, alloc, marks)
+            gather_parts(Form::Schema, schema, spot, alloc, marks)
         }
         _ => Ok(()),
     }
@@ -166,51 +183,49 @@ fn gather_resource(
     Ok(())
 }
 
-/// Appends the marks of the schema's members.
+/// Appends the marks of the parts of a value that needs the form. The base URI is that in it.
 #[cycle(marks)]
-fn gather_named(
-    keywords: &[(&String, &JsonValue)],
+fn gather_parts(
+    form: Form,
+    value: &JsonValue,
     spot: Spot<'_>,
     alloc: Global,
     marks: &mut Vec<Mark>,
 ) -> Result<(), AllocError>
     ensures { OnOk result (Gathers
-        (marks_among spot.entry.base.now spot.entry.place.now (members_listed keywords.now))
+        (marks_of_parts spot.entry.base.now spot.entry.place.now (parts_of form (view value.now)))
         marks.old.items marks.new.items) }
 {
-    for &(name, operand) in keywords {
-        let name = name.as_str();
-        let place = at_key(spot.place, name, alloc)?;
-        gather_within(name, operand, spot, place.as_str(), alloc, marks)?;
+    let parts = parts_of(form, value, alloc)?;
+    for part in parts.as_slice() {
+        gather_own(*part, spot, alloc, marks)?;
+        let place = at_token(spot.place, part.token, alloc)?;
+        let inner = Spot {
+            base: spot.base,
+            place: place.as_str(),
+        };
+        gather(part.form, part.value, inner, alloc, marks)?;
     }
     Ok(())
 }
 
-/// Appends the mark of a keyword of the schema, or those of the schemas in its value, which is at the place.
-#[cycle(marks)]
-fn gather_within(
-    keyword: &str,
-    operand: &JsonValue,
+/// Appends the mark that a keyword gives its schema, which is at the spot.
+fn gather_own(
+    part: Part<'_>,
     spot: Spot<'_>,
-    place: &str,
     alloc: Global,
     marks: &mut Vec<Mark>,
 ) -> Result<(), AllocError>
     ensures { OnOk result (Gathers
-        (marks_of_keyword keyword.now spot.entry.base.now spot.entry.place.now place.now
-        (view operand.now))
+        (own_marks spot.entry.base.now spot.entry.place.now (part_seen part.entry))
         marks.old.items marks.new.items) }
 {
-    let inner = Spot {
-        base: spot.base,
-        place,
+    let Token::Key(name) = part.token else {
+        return Ok(());
     };
-    match form_at(keyword) {
-        Form::Anchor => gather_name(name_kind(keyword), operand, spot, alloc, marks),
-        Form::Reference => gather_reference(operand, spot.place, alloc, marks),
-        Form::Schema => gather(operand, inner, alloc, marks),
-        Form::Schemas => gather_in_list(operand, inner, alloc, marks),
-        Form::SchemaMap | Form::PatternMap => gather_in_map(operand, inner, alloc, marks),
+    match part.form {
+        Form::Anchor => gather_name(name_kind(name.as_str()), part.value, spot, alloc, marks),
+        Form::Reference => gather_reference(part.value, spot.place, alloc, marks),
         _ => Ok(()),
     }
 }
@@ -297,87 +312,6 @@ fn is_fragment(reference: &str) -> bool
         Some((first, _)) => *first == b'#',
         None => false,
     }
-}
-
-#[cycle(marks)]
-fn gather_in_list(
-    schemas: &JsonValue,
-    spot: Spot<'_>,
-    alloc: Global,
-    marks: &mut Vec<Mark>,
-) -> Result<(), AllocError>
-    ensures { OnOk result (Gathers
-        (marks_in_list spot.entry.base.now spot.entry.place.now (view schemas.now))
-        marks.old.items marks.new.items) }
-{
-    match schemas {
-        JsonValue::Array(schemas) => gather_items(schemas.as_slice(), spot, alloc, marks),
-        _ => Ok(()),
-    }
-}
-
-#[cycle(marks)]
-fn gather_items(
-    schemas: &[JsonValue],
-    spot: Spot<'_>,
-    alloc: Global,
-    marks: &mut Vec<Mark>,
-) -> Result<(), AllocError>
-    ensures { OnOk result (Gathers
-        (marks_of_items spot.entry.base.now spot.entry.place.now 0 (items_view schemas.now))
-        marks.old.items marks.new.items) }
-{
-    for (index, schema) in schemas.iter().enumerate() {
-        let place = at_index(spot.place, index, alloc)?;
-        let inner = Spot {
-            base: spot.base,
-            place: place.as_str(),
-        };
-        gather(schema, inner, alloc, marks)?;
-    }
-    Ok(())
-}
-
-#[cycle(marks)]
-fn gather_in_map(
-    schemas: &JsonValue,
-    spot: Spot<'_>,
-    alloc: Global,
-    marks: &mut Vec<Mark>,
-) -> Result<(), AllocError>
-    ensures { OnOk result (Gathers
-        (marks_in_map spot.entry.base.now spot.entry.place.now (view schemas.now))
-        marks.old.items marks.new.items) }
-{
-    match schemas {
-        JsonValue::Object(schemas) => {
-            let sorted = sorted_members(alloc, schemas)?;
-            gather_members(sorted.as_slice(), spot, alloc, marks)
-        }
-        _ => Ok(()),
-    }
-}
-
-#[cycle(marks)]
-fn gather_members(
-    schemas: &[(&String, &JsonValue)],
-    spot: Spot<'_>,
-    alloc: Global,
-    marks: &mut Vec<Mark>,
-) -> Result<(), AllocError>
-    ensures { OnOk result (Gathers
-        (marks_of_members spot.entry.base.now spot.entry.place.now (members_listed schemas.now))
-        marks.old.items marks.new.items) }
-{
-    for &(key, schema) in schemas {
-        let place = at_key(spot.place, key.as_str(), alloc)?;
-        let inner = Spot {
-            base: spot.base,
-            place: place.as_str(),
-        };
-        gather(schema, inner, alloc, marks)?;
-    }
-    Ok(())
 }
 
 /// Whether the document has to be bundled: a subschema is a resource, or a reference is more than a fragment.

@@ -3,16 +3,19 @@ ghost use Rattle.std.specs.Fmt.{WritesOnOk};
 ghost use Rattle.std.specs.Prelude.{◌≡◌, Some, IfOk};
 ghost use Rattle.std.specs.Str.{chars};
 ghost use Rattle.std.specs.String.{string_bytes};
+ghost use Rattle.tinyjson_schema_keywords.specs.Subschemas.{way_of};
 ghost use Rattle.tinyjson_schema_bundle.specs.Bundles.{token_char, token_text, at_key, at_index};
+ghost use Rattle.tinyjson_schema_bundle.specs.Bundles.{at_way};
 
 use std::alloc::{AllocError, Global};
 use std::fmt::{self, Write};
+use tinyjson_schema_keywords::Token;
 
-/// A token of a pointer; it escapes the characters that a fragment or a pointer does not allow.
+/// A key as a token of a pointer; it escapes the characters that a fragment or a pointer does not allow.
 #[derive(Drop)]
-struct Token<'a>(&'a str);
+struct Escaped<'a>(&'a str);
 
-impl fmt::Display for Token<'_> {
+impl fmt::Display for Escaped<'_> {
     ghost output = { λ t. Some (token_text (chars t.0.now)) };
 
     fn fmt<W: fmt::Write>(&self, f: &mut fmt::Formatter<W>) -> fmt::Result {
@@ -48,7 +51,7 @@ fn write_token_char<W: fmt::Write>(f: &mut fmt::Formatter<W>, c: char) -> fmt::R
 pub fn at_key(place: &str, key: &str, alloc: Global) -> Result<String, AllocError>
     ensures { IfOk result (λ s. string_bytes s ≡ at_key place.now (chars key.now)) }
 {
-    format!(in alloc; "{place}/{}", Token(key))
+    format!(in alloc; "{place}/{}", Escaped(key))
 }
 
 /// The place of the value at the index.
@@ -57,4 +60,14 @@ pub fn at_index(place: &str, index: usize, alloc: Global) -> Result<String, Allo
     ensures { IfOk result (λ s. string_bytes s ≡ at_index place.now index) }
 {
     format!(in alloc; "{place}/{index}")
+}
+
+/// The place of a part.
+pub fn at_token(place: &str, token: Token<'_>, alloc: Global) -> Result<String, AllocError>
+    ensures { IfOk result (λ s. string_bytes s ≡ at_way place.now (way_of token.entry)) }
+{
+    match token {
+        Token::Key(key) => at_key(place, key.as_str(), alloc),
+        Token::Index(index) => at_index(place, index, alloc),
+    }
 }

@@ -7,6 +7,8 @@ pub use Rattle.tinyjson_schema_keywords.proofs.Naming.{anchors_had, no_plain_nam
 -- ---- the members of a map in the order of their keys, and how deep they and items are
 pub use Rattle.tinyjson_schema_keywords.proofs.Listed.{Listed, listed_found, listed_sorted}
 pub use Rattle.tinyjson_schema_keywords.proofs.Depths.{items_depth_at, items_in_depth, listed_depth, members_in_depth}
+-- ---- the parts of a value, by the form that it needs
+pub use Rattle.tinyjson_schema_keywords.proofs.Stepping.{IsWay, part_depth, part_step}
 -- ---- one turn of a loop over a list, and its end
 pub use Rattle.tinyjson_schema_keywords.proofs.Turns.{drop_suc, drop_item, drop_end, turn_next, turn_stop, turn_end, count_next, count_end}
 pub use Rattle.tinyjson_schema_keywords.proofs.Turns.{nth_item}

@@ -1,12 +1,12 @@
 pub mod Callers
 pub mod Depths
 pub mod Forms
-pub mod Gathering
 pub mod Listed
 pub mod Lookups
 pub mod Naming
 pub mod Patterns
 pub mod References
 pub mod Search
+pub mod Stepping
 pub mod Turns
 pub mod Words

@@ -1,14 +1,63 @@
--- All members of a schema and of its subschemas.
-use Rattle.std.specs.Prelude.{◌≡◌, ℕ, List, [], ◌∷◌, ◌++◌, Option, encode_utf8_all, map}
+-- The parts of a schema, and all members of a schema and of its subschemas.
+use Rattle.std.specs.Prelude.{◌≡◌, ℕ, suc, List, [], ◌∷◌, ◌++◌, Option, None, encode_utf8_all, map}
 use Rattle.std.specs.String.{string_bytes}
 use Rattle.tinyjson.specs.Tree.{Tree, array, object, Items, no_items, item, Members, no_members, member}
-use Rattle.tinyjson.specs.View.{view}
+use Rattle.tinyjson.specs.View.{view, text}
+use Rattle.tinyjson_schema_keywords.specs.Applied.{items_in, members_in}
 use Rattle.tinyjson_schema_keywords.specs.Forms.{form_at}
 use Rattle.tinyjson_schema_keywords.specs.Names.{keywords, keyword_among}
 use Rattle.tinyjson_schema_keywords.specs.declared.keyword.Form.{Form}
 use Rattle.tinyjson_schema_keywords.specs.declared.keyword.Form.TheVariants as form
 use Rattle.tinyjson_schema_keywords.specs.declared.keyword.Keyword.{Keyword}
+use Rattle.tinyjson_schema_keywords.specs.declared.subschemas.Part.{Part}
 use Rattle.tinyjson_schema_keywords.specs.declared.subschemas.SchemaMember.{SchemaMember}
+use Rattle.tinyjson_schema_keywords.specs.declared.subschemas.Token.{Token}
+use Rattle.tinyjson_schema_keywords.specs.declared.subschemas.Token.TheVariants as token
+
+-- ---- the parts of a value, by the form that it needs
+
+-- what leads to a part: a key, or an index
+pub data Way : Type 0 where
+  by_key : List ℕ → Way
+  by_index : ℕ → Way
+
+-- a part: the way to it, its keyword, the form that it needs, and its tree
+abbrev pub InForm : Type 0
+InForm = Way × Option Keyword × Form × Tree
+
+-- the members of a schema
+abbrev pub keyword_parts : Members → List InForm
+keyword_parts no_members = []
+keyword_parts (member k w ms) = (by_key k, keyword_among keywords (encode_utf8_all k), form_at (encode_utf8_all k), w) ∷ keyword_parts ms
+
+-- the schemas in a list, the first with the index i
+abbrev pub item_parts : ℕ → Items → List InForm
+item_parts i no_items = []
+item_parts i (item t ts) = (by_index i, None, form.Schema, t) ∷ item_parts (suc i) ts
+
+-- the schemas in an object of them
+abbrev pub entry_parts : Members → List InForm
+entry_parts no_members = []
+entry_parts (member k t ms) = (by_key k, None, form.Schema, t) ∷ entry_parts ms
+
+abbrev pub parts_of : Form → Tree → List InForm
+parts_of form.Schema w = keyword_parts (members_in w)
+parts_of form.Schemas w = item_parts 0 (items_in w)
+parts_of form.SchemaMap w = entry_parts (members_in w)
+parts_of form.PatternMap w = entry_parts (members_in w)
+parts_of _ w = []
+
+abbrev pub way_of : Token → Way
+way_of (token.Key k) = by_key (text k.now)
+way_of (token.Index i) = by_index i
+
+abbrev pub part_seen : Part → InForm
+part_seen p = (way_of p.token, p.keyword, p.form, view p.value.now)
+
+abbrev pub all_parts : List Part → List InForm
+all_parts ps = map part_seen ps
+
+-- ---- all members of a schema and of its subschemas
 
 -- a member of a schema: that schema, the name in UTF-8, its keyword, and the value
 abbrev pub InSchema : Type 0
@@ -57,6 +106,11 @@ abbrev mutual
 
 abbrev pub members_by_form : Form → Tree → List InSchema
 members_by_form f w = members_by f (schema_members w) (members_in_list w) (members_in_map w)
+
+-- the part of a value of the form f as a member of a schema, if it is one
+abbrev pub own_member : Form → Tree → InForm → List InSchema
+own_member form.Schema s (by_key k, keyword, f, w) = (s, encode_utf8_all k, keyword, w) ∷ []
+own_member _ s p = []
 
 abbrev pub seen : SchemaMember → InSchema
 seen m = (view m.schema.now, string_bytes m.name.now, m.keyword, view m.value.now)

@@ -22,8 +22,8 @@ pub use keyword::{Form, Keyword, form_at, form_by, keyword_of};
 pub use pattern::{KeptPatterns, PatternError, is_pattern};
 pub use reference::{at_pointer, percent_decoded, read_pointer, referenced, target};
 pub use subschemas::{
-    SchemaMember, branch, has_key, is_some_item, items_in, listed_members, name_of, operand,
-    schema_at, schema_map_at, schema_members, schemas_at,
+    Part, SchemaMember, Token, branch, has_key, is_some_item, items_in, listed_members, name_of,
+    operand, parts_of, schema_at, schema_map_at, schema_members, schemas_at,
 };
 pub use unknown::unknown_words;
 pub use walk::{CheckError, Walk};

@@ -9,9 +9,10 @@ ghost use Rattle.tinyjson.specs.Soundness.{IsSorted};
 ghost use Rattle.tinyjson_schema_keywords.specs.Applied.{schema_at, schemas_at, schema_map_at};
 ghost use Rattle.tinyjson_schema_keywords.specs.Applied.{items_in, members_in, branch};
 ghost use Rattle.tinyjson_schema_keywords.specs.Forms.{is_some_item};
-ghost use Rattle.tinyjson_schema_keywords.specs.Subschemas.{schema_members, members_among};
-ghost use Rattle.tinyjson_schema_keywords.specs.Subschemas.{members_of_items, members_of_entries};
-ghost use Rattle.tinyjson_schema_keywords.specs.Subschemas.{members_by_form, all_seen, Gathers};
+ghost use Rattle.tinyjson_schema_keywords.specs.Subschemas.{parts_of, keyword_parts, item_parts};
+ghost use Rattle.tinyjson_schema_keywords.specs.Subschemas.{entry_parts, part_seen, all_parts};
+ghost use Rattle.tinyjson_schema_keywords.specs.Subschemas.{schema_members, members_by_form};
+ghost use Rattle.tinyjson_schema_keywords.specs.Subschemas.{own_member, all_seen, Gathers};
 
 use crate::keyword::{Form, Keyword, form_by, keyword_of};
 use std::alloc::{AllocError, Global};
@@ -141,6 +142,97 @@ pub fn branch(is_accepted: bool) -> Keyword
     }
 }
 
+/// What leads from a value to a part of it.
+#[derive(Clone, Copy)]
+pub enum Token<'s> {
+    Key(&'s String),
+    Index(usize),
+}
+
+/// A part of a schema: the value of a member, or a schema in such a value; with the form that it needs.
+#[derive(Clone, Copy)]
+pub struct Part<'s> {
+    pub token: Token<'s>,
+    /// The keyword of the member's name, if it is one.
+    pub keyword: Option<Keyword>,
+    pub form: Form,
+    pub value: &'s JsonValue,
+}
+
+/// The parts of a value that needs the form: the members of a schema, or the schemas in a list or in an object of
+/// them. Members come in the order of their keys. Another value has none.
+pub fn parts_of(form: Form, value: &JsonValue, alloc: Global) -> Result<Vec<Part<'_>>, AllocError>
+    ensures { IfOk result (λ parts. all_parts parts.items ≡ parts_of form (view value.now)) }
+{
+    match form {
+        Form::Schema => {
+            let members = listed_members(value, alloc)?;
+            keyword_parts(members.as_slice(), alloc)
+        }
+        Form::Schemas => item_parts(items_in(value), alloc),
+        Form::SchemaMap | Form::PatternMap => {
+            let schemas = listed_members(value, alloc)?;
+            entry_parts(schemas.as_slice(), alloc)
+        }
+        _ => Ok(Vec::new(alloc)),
+    }
+}
+
+fn keyword_parts<'s>(
+    members: &[(&'s String, &'s JsonValue)],
+    alloc: Global,
+) -> Result<Vec<Part<'s>>, AllocError>
+    ensures { IfOk result
+        (λ parts. all_parts parts.items ≡ keyword_parts (members_listed members.now)) }
+{
+    let mut parts = Vec::new(alloc);
+    for &(name, value) in members {
+        let keyword = keyword_of(name.as_str());
+        parts.push(Part {
+            token: Token::Key(name),
+            keyword,
+            form: form_by(keyword),
+            value,
+        })?;
+    }
+    Ok(parts)
+}
+
+fn item_parts(schemas: &[JsonValue], alloc: Global) -> Result<Vec<Part<'_>>, AllocError>
+    ensures { IfOk result
+        (λ parts. all_parts parts.items ≡ item_parts 0 (items_view schemas.now)) }
+{
+    let mut parts = Vec::new(alloc);
+    for (index, value) in schemas.iter().enumerate() {
+        parts.push(Part {
+            token: Token::Index(index),
+            keyword: None,
+            form: Form::Schema,
+            value,
+        })?;
+    }
+    Ok(parts)
+}
+
+fn entry_parts<'s>(
+    schemas: &[(&'s String, &'s JsonValue)],
+    alloc: Global,
+) -> Result<Vec<Part<'s>>, AllocError>
+    ensures { IfOk result
+        (λ parts. all_parts parts.items ≡ entry_parts (members_listed schemas.now)) }
+{
+    let mut parts = Vec::new(alloc);
+    for &(key, value) in schemas {
+        parts.push(Part {
+            token: Token::Key(key),
+            keyword: None,
+            form: Form::Schema,
+            value,
+        })?;
+    }
+    Ok(parts)
+}
+
 /// A member of a schema or of a subschema.
 #[derive(Clone, Copy)]
 pub struct SchemaMember<'s> {
@@ -162,55 +254,12 @@ pub fn schema_members(
     ensures { IfOk result (λ found. all_seen found.items ≡ schema_members (view schema.now)) }
 {
     let mut found = Vec::new(alloc);
-    gather(schema, alloc, &mut found)?;
+    gather(Form::Schema, schema, alloc, &mut found)?;
     Ok(found)
 }
 
-#[cycle(subschemas)]
+/// Appends the members of a schema, or of the schemas in a value of another form.
 fn gather<'s>(
-    schema: &'s JsonValue,
-    alloc: Global,
-    found: &mut Vec<SchemaMember<'s>>,
-) -> Result<(), AllocError>
-    ensures { OnOk result
-        (Gathers (schema_members (view schema.now)) found.old.items found.new.items) }
-{
-    match schema {
-        JsonValue::Object(members) => {
-            let sorted = sorted_members(alloc, members)?;
-            gather_named(sorted.as_slice(), schema, alloc, found)
-        }
-        _ => Ok(()),
-    }
-}
-
-/// Appends members of the schema, each with those in its value.
-#[cycle(subschemas)]
-fn gather_named<'s>(
-    members: &[(&'s String, &'s JsonValue)],
-    schema: &'s JsonValue,
-    alloc: Global,
-    found: &mut Vec<SchemaMember<'s>>,
-) -> Result<(), AllocError>
-    ensures { OnOk result (Gathers (members_among (view schema.now) (members_listed members.now))
-        found.old.items found.new.items) }
-{
-    for &(name, value) in members {
-        let keyword = keyword_of(name.as_str());
-        found.push(SchemaMember {
-            schema,
-            name,
-            keyword,
-            value,
-        })?;
-        gather_within(form_by(keyword), value, alloc, found)?;
-    }
-    Ok(())
-}
-
-/// Appends the members of the schemas in a member's value.
-#[cycle(subschemas)]
-fn gather_within<'s>(
     form: Form,
     value: &'s JsonValue,
     alloc: Global,
@@ -219,43 +268,32 @@ fn gather_within<'s>(
     ensures { OnOk result
         (Gathers (members_by_form form (view value.now)) found.old.items found.new.items) }
 {
-    match form {
-        Form::Schema => gather(value, alloc, found),
-        Form::Schemas => gather_items(items_in(value), alloc, found),
-        Form::SchemaMap | Form::PatternMap => {
-            let sorted = listed_members(value, alloc)?;
-            gather_entries(sorted.as_slice(), alloc, found)
-        }
-        _ => Ok(()),
-    }
-}
-
-#[cycle(subschemas)]
-fn gather_items<'s>(
-    schemas: &'s [JsonValue],
-    alloc: Global,
-    found: &mut Vec<SchemaMember<'s>>,
-) -> Result<(), AllocError>
-    ensures { OnOk result
-        (Gathers (members_of_items (items_view schemas.now)) found.old.items found.new.items) }
-{
-    for schema in schemas {
-        gather(schema, alloc, found)?;
+    let parts = parts_of(form, value, alloc)?;
+    for part in parts.as_slice() {
+        gather_own(form, value, *part, found)?;
+        gather(part.form, part.value, alloc, found)?;
     }
     Ok(())
 }
 
-#[cycle(subschemas)]
-fn gather_entries<'s>(
-    schemas: &[(&'s String, &'s JsonValue)],
-    alloc: Global,
+/// Appends the part, if it is a member of a schema.
+fn gather_own<'s>(
+    form: Form,
+    value: &'s JsonValue,
+    part: Part<'s>,
     found: &mut Vec<SchemaMember<'s>>,
 ) -> Result<(), AllocError>
-    ensures { OnOk result (Gathers (members_of_entries (members_listed schemas.now))
+    ensures { OnOk result (Gathers (own_member form (view value.now) (part_seen part.entry))
         found.old.items found.new.items) }
 {
-    for &(_, schema) in schemas {
-        gather(schema, alloc, found)?;
-    }
+    let (Form::Schema, Token::Key(name)) = (form, part.token) else {
+        return Ok(());
+    };
+    found.push(SchemaMember {
+        schema: value,
+        name,
+        keyword: part.keyword,
+        value: part.value,
+    })?;
     Ok(())
 }

@@ -12,7 +12,7 @@ use Rattle.tinyjson_schema.proofs.Refusals.{at_key}
 use Rattle.tinyjson_schema.proofs.refused.refused_key.Goals as goal
 
 pub returns-in-Some : goal.returns-in-Some
-returns-in-Some c = λ root.
+returns-in-Some c = λ root whole.
     let ps = c.args.schemas.now in
     let i = c.loop-key.key-index in
     let p = c.loop-key-item.result in
@@ -24,9 +24,9 @@ returns-in-Some c = λ root.
     let none : is_pattern (text p.0.now) ≡ false → all ≡ false
     = λ e. sym (turn_stop (λ xs. are_patterns (members_listed xs)) ps i false p c.loop-key-test.true c.loop-key-item.is
     (ap (λ b. b && others) e) c.loop-key.invariant) in
-    subst (λ x. IsReason all root false form.PatternMap (object (members_listed ps)) x (tokens_of c.prepend.new.self))
+    subst (λ x. IsReason all root whole form.PatternMap (object (members_listed ps)) x (tokens_of c.prepend.new.self))
     (sym c.whole_place-place.ensures.0)
-    (at_key root ps i p c.in-Some.reason _ c.requires c.loop-key-test.true c.loop-key-item.is why none
+    (at_key root whole ps i p c.in-Some.reason _ c.requires c.loop-key-test.true c.loop-key-item.is why none
     (c.in_ok-prepend.ensures.ok ∙ (ap (λ k. k ∷ tokens_of c.whole_place-place.result.pointer)
     (ap chars (c.in_ok-from_str.ensures.ok ∙ c.as_str-in-Some.ensures.value))
     ∙ ap (λ ks. text p.0.now ∷ ks) c.whole_place-place.ensures.1)))
