@@ -3,6 +3,7 @@
 import itertools
 import json
 import os
+import re
 
 from checks import shared
 from faults import BROKEN, FOLDER, FULL, NO_TEXT, Faults
@@ -873,9 +874,77 @@ BY_LINES = [
 ]
 
 # What is printed of a value that is not valid, and told of a schema that can't be applied.
-UNMET = "the value does not meet the schema at this place"
+# The words of a report are compared in the rows of WORDS; elsewhere these stand for them.
+UNMET = "unmet"
+ERROR = re.compile(rb'"error":"(?:[^"\\]|\\.)*"')
 NOT_APPLIED = "the schema: can't be applied at \"%s\""
 ABOVE_LIMITS = "the schema: the pattern at \"%s\" is too deep or too large"
+
+# The schema, a value that is not valid, the places in it and of the keyword, and the words.
+WORDS = [
+    # The names of types, each with its article; an integer is a number.
+    ('{"type":"string"}', "1", "", "/type", "must be a string, is a number"),
+    ('{"type":"integer"}', "1.5", "", "/type", "must be an integer, is a number"),
+    ('{"type":"array"}', '"x"', "", "/type", "must be an array, is a string"),
+    ('{"type":"null"}', "false", "", "/type", "must be null, is a boolean"),
+    ('{"type":"boolean"}', "null", "", "/type", "must be a boolean, is null"),
+    ('{"type":"number"}', "{}", "", "/type", "must be a number, is an object"),
+    ('{"type":["object"]}', "[]", "", "/type", "must be an object, is an array"),
+    ('{"type":["null","integer","string"]}', "[]", "", "/type", "must be null or an integer or a string, is an array"),
+    # Values by their compact text.
+    ('{"enum":["a","b"]}', '"c"', "", "/enum", 'must be one of "a", "b"'),
+    ('{"enum":[1.0,[true,null],{"b":1,"a":2}]}', "2", "", "/enum", 'must be one of 1, [true,null], {"a":2,"b":1}'),
+    ('{"const":[1]}', "[1.5]", "", "/const", "must be [1], is [1.5]"),
+    ('{"const":"a\\u0007\\"b"}', '"é"', "", "/const", 'must be "a\\u0007\\"b", is "é"'),
+    # Up to 60 characters of a text.
+    ('{"const":"%s"}' % ("é" * 58), '"%s"' % ("x" * 59), "", "/const", 'must be "%s", is "%s...' % ("é" * 58, "x" * 59)),
+    ('{"enum":[%s]}' % ",".join(["12345678"] * 9), "1", "", "/enum", "must be one of %s..." % ("12345678, " * 6)),
+    ('{"enum":[%s,1234567890]}' % ",".join(["12345678"] * 5), "1", "", "/enum", "must be one of %s1234567890" % ("12345678, " * 5)),
+    # Bounds of numbers.
+    ('{"multipleOf":2}', "7", "", "/multipleOf", "must be a multiple of 2, is 7"),
+    ('{"maximum":10}', "12", "", "/maximum", "must be at most 10, is 12"),
+    ('{"exclusiveMaximum":10}', "10.0", "", "/exclusiveMaximum", "must be less than 10, is 10"),
+    ('{"minimum":-1.5}', "-2", "", "/minimum", "must be at least -1.5, is -2"),
+    ('{"exclusiveMinimum":1e3}', "0", "", "/exclusiveMinimum", "must be greater than 1000, is 0"),
+    # Counts, of one and of more; of characters, not of bytes.
+    ('{"maxLength":1}', '"é𝄞"', "", "/maxLength", "must have at most 1 character, has 2"),
+    ('{"minLength":2}', '"é"', "", "/minLength", "must have at least 2 characters, has 1"),
+    ('{"maxItems":0}', "[[1,2,3]]", "", "/maxItems", "must have at most 0 items, has 1"),
+    ('{"minItems":2}', "[0]", "", "/minItems", "must have at least 2 items, has 1"),
+    ('{"maxProperties":1.0}', '{"a":1,"b":2,"c":3}', "", "/maxProperties", "must have at most 1 member, has 3"),
+    ('{"minProperties":11}', "{}", "", "/minProperties", "must have at least 11 members, has 0"),
+    ('{"contains":true,"maxContains":1}', "[1,2]", "", "/maxContains", "must have at most 1 item that the schema accepts"),
+    ('{"contains":{"type":"null"},"minContains":2}', "[null]", "", "/minContains", "must have at least 2 items that the schema accepts"),
+    # The first name that is not there.
+    ('{"required":["a","b","c"]}', '{"a":1}', "", "/required", '"b" is required'),
+    ('{"required":["a/\\n"]}', "{}", "", "/required", '"a/\\n" is required'),
+    ('{"dependentRequired":{"a":["b"]}}', '{"a":1}', "", "/dependentRequired", "must have the names that its names require"),
+    ('{"pattern":"^a"}', '"ba"', "", "/pattern", 'must match the pattern "^a", is "ba"'),
+    ('{"uniqueItems":true}', "[1,1.0]", "", "/uniqueItems", "must have no two equal items"),
+    # What combines schemas.
+    ('{"anyOf":[{"type":"null"},false]}', "1", "", "/anyOf", "must be accepted by a schema of the list"),
+    ('{"oneOf":[true,true]}', "1", "", "/oneOf", "must be accepted by exactly one schema of the list"),
+    ('{"not":{}}', "1", "", "/not", "must not be accepted by the schema"),
+    ('{"propertyNames":{"maxLength":1}}', '{"ab":1}', "", "/propertyNames", "must have names that the schema accepts"),
+    ('{"contains":{"maximum":1}}', "[2]", "", "/contains", "must have an item that the schema accepts"),
+    # The schema `false`: the whole one, in a list, in an object, and as the value of a keyword.
+    ("false", "1", "", "", "is not allowed"),
+    ('{"prefixItems":[true,false]}', "[1,2]", "/1", "/prefixItems/1", "is not allowed"),
+    ('{"properties":{"a":false}}', '{"a":1}', "/a", "/properties/a", "is not allowed"),
+    ('{"additionalProperties":false}', '{"a":1}', "/a", "/additionalProperties", "is not allowed"),
+    ('{"$ref":"#/$defs/a","$defs":{"a":false}}', "1", "", "/$ref", "is not allowed"),
+    # The keyword at the end of the place, in lists, objects and schemas of keywords, with names that are keywords.
+    ('{"allOf":[{"maximum":9},{"maximum":1},{"maximum":0}]}', "2", "", "/allOf/1/maximum", "must be at most 1, is 2"),
+    ('{"properties":{"maximum":{"minimum":3,"maximum":9}},"maximum":5}', '{"maximum":2}', "/maximum", "/properties/maximum/minimum", "must be at least 3, is 2"),
+    ('{"properties":{"$ref":{"type":"null"}}}', '{"$ref":1}', "/$ref", "/properties/$ref/type", "must be null, is a number"),
+    ('{"patternProperties":{"^b":{"const":1}}}', '{"a":2,"b/":3}', "/b~1", "/patternProperties/^b/const", "must be 1, is 3"),
+    ('{"dependentSchemas":{"a":{"maxProperties":1}}}', '{"a":1,"b":2}', "", "/dependentSchemas/a/maxProperties", "must have at most 1 member, has 2"),
+    ('{"if":{"minimum":5},"then":{"maximum":6},"else":{"maximum":3}}', "4", "", "/else/maximum", "must be at most 3, is 4"),
+    ('{"items":{"unevaluatedProperties":{"type":"null"}}}', '[{"a":"b"}]', "/0/a", "/items/unevaluatedProperties/type", "must be null, is a string"),
+    # After a reference the place goes on in the schema to which it leads.
+    ('{"$ref":"#/$defs/a","maximum":8,"$defs":{"a":{"maximum":7}}}', "9", "", "/maximum", "must be at most 8, is 9"),
+    ('{"items":{"$ref":"#x"},"$defs":{"a":{"$anchor":"x","items":{"$dynamicRef":"#/$defs/b"}},"b":{"maximum":1}}}', "[[2]]", "/0/0", "/items/$ref/items/$dynamicRef/maximum", "must be at most 1, is 2"),
+]
 
 # How many containers of a schema and of a value may be open.
 LEVELS = 100
@@ -886,9 +955,9 @@ def judged(places):
     return (0, b"", b"") if places is None else (1, unit_of(*places), b"")
 
 
-def unit_of(instance, keyword, **line):
+def unit_of(instance, keyword, error=UNMET, **line):
     """The line that is printed of a value that is not valid."""
-    unit = {"error": UNMET, "instanceLocation": instance, "keywordLocation": keyword, **line, "valid": False}
+    unit = {"error": error, "instanceLocation": instance, "keywordLocation": keyword, **line, "valid": False}
     return normal(unit) + b"\n"
 
 
@@ -1047,6 +1116,9 @@ DEEP_FAILURES = [
     ('{"pattern":"%s"}' % grouped(100_000), [], b"1", reported(2, "json_schema", ABOVE_LIMITS % "/pattern")),
 ]
 
+# What the schema of SCHEMA asks of the whole, where that is a number.
+NO_OBJECT = "must be an object, is a number"
+
 # By lines: a value that is not valid, a line that can't be checked, and one that is valid, so many times in turn.
 TURNS = 300
 
@@ -1055,7 +1127,7 @@ ROWS = [
     *((words, b"1", misused("json_schema", "SCHEMA is missing")) for words in ([], ["-l"])),
     ([NOT_UTF8], b"1", misused("json_schema", "an argument is not UTF-8")),
     (["-L", SCHEMA], b"1", misused("json_schema", 'unknown option "-L"')),
-    *((words, b"1\n", (1, unit_of("", "/type", line=1), b"")) for words in ([SCHEMA, "-l"], ["--lines", SCHEMA, "-"])),
+    *((words, b"1\n", (1, unit_of("", "/type", NO_OBJECT, line=1), b"")) for words in ([SCHEMA, "-l"], ["--lines", SCHEMA, "-"])),
     (["/none"], b"1", reported(2, "json_schema", "/none: No such file or directory (os error 2)")),
     (["/"], b"1", reported(2, "json_schema", "/: Is a directory (os error 21)")),
     ([SCHEMA], b"[1,]", reported(3, "json_schema", "Parse error at line:1, col:3: Invalid character: ]")),
@@ -1070,9 +1142,9 @@ STREAMS = [
 ]
 
 # The arguments, an input, what is printed of it, and the statuses and words where a read and where a write fails.
-LINES, REPORTS = b"1\n" * 5_000, b"".join(unit_of("", "/type", line=i + 1) for i in range(5_000))
+LINES, REPORTS = b"1\n" * 5_000, b"".join(unit_of("", "/type", NO_OBJECT, line=i + 1) for i in range(5_000))
 FAILING = [
-    ([SCHEMA], b"[" + LONG + b"]", unit_of("", "/type"), (4, BROKEN), (4, BROKEN)),
+    ([SCHEMA], b"[" + LONG + b"]", unit_of("", "/type", "must be an object, is an array"), (4, BROKEN), (4, BROKEN)),
     (["-l", SCHEMA], LINES, REPORTS, (4, BROKEN), (4, BROKEN)),
 ]
 
@@ -1125,10 +1197,23 @@ def checked(folder, schema, words, given):
     return run_small(program("json_schema"), [*words, "schema"], given, cwd=folder)
 
 
+def placed(*checked_by):
+    """The same answer without the words of its reports."""
+    status, output, errors = checked(*checked_by)
+    return status, ERROR.sub(b'"error":"%s"' % UNMET.encode(), output), errors
+
+
+def check_words(checks):
+    for row in WORDS:
+        schema, value, instance, keyword, words = row
+        expected = (1, unit_of(instance, keyword, words), b"")
+        checks.row(f"json_schema: words of {schema[:60]} {value[:60]}", expected, checked, checks.folder, schema, [], value.encode(), at=row)
+
+
 def check_rows(checks):
     for row, schema, value, expected in answers():
         name = f"json_schema: {schema[:60]} {value[:60]}"
-        checks.row(name, expected, checked, checks.folder, schema, [], value.encode(), at=row)
+        checks.row(name, expected, placed, checks.folder, schema, [], value.encode(), at=row)
     for row in ROWS:
         words, given, expected = row
         checks.row(f"json_schema: {words} {given}", expected, run_of, program("json_schema"), words, given, at=row)
@@ -1136,7 +1221,7 @@ def check_rows(checks):
 
 def check_drafts(checks):
     """The draft that is asked for is that of a schema which names none, or one that is not known."""
-    row = lambda words, schema, answer: checks.row(f"json_schema: {words} {schema[:60]}", answer, checked, checks.folder, schema, words, b"[1,2]")
+    row = lambda words, schema, answer: checks.row(f"json_schema: {words} {schema[:60]}", answer, placed, checks.folder, schema, words, b"[1,2]")
     listed, invalid = '{"items":[true],"additionalItems":false}', (1, unit_of("/1", "/items"), b"")
     refused = lambda place: reported(2, "json_schema", NOT_APPLIED % place)
     for words in (["-d", "7"], ["-d6"], ["--draft", "7"], ["--draft=6"], ["-d", "2020", "-d", "7"]):
@@ -1166,12 +1251,12 @@ def check_lines(checks):
         schema, given, reports, lines, status = row
         output = b"".join(unit_of(instance, keyword, line=line) for line, instance, keyword in reports)
         name, expected = f"json_schema: -l {schema[:60]} {given[:60]}", (status, output, told(lines))
-        checks.row(name, expected, checked, checks.folder, schema, ["-l"], given, at=row)
+        checks.row(name, expected, placed, checks.folder, schema, ["-l"], given, at=row)
 
 
 def limited(lines):
     """The answer for lines by a schema that no value meets; some are longer than a limit."""
-    output = b"".join(unit_of("", "", line=at) for at, line in enumerate(lines, 1) if not isinstance(line, int))
+    output = b"".join(unit_of("", "", "is not allowed", line=at) for at, line in enumerate(lines, 1) if not isinstance(line, int))
     errors = told([f"line {at}: longer than {line} bytes" for at, line in enumerate(lines, 1) if isinstance(line, int)])
     return 1, output, errors
 
@@ -1182,7 +1267,7 @@ def check_long_lines(checks):
     with open(schema, "wb") as file:
         file.write(b"false")
     LongLines("json_schema", ["-l", schema], limited, is_going=True).check(checks)
-    checks.row("json_schema: --max-line without -l", (1, unit_of("", ""), b""), run_of, program("json_schema"), ["-m2", schema], b"[1,2]")
+    checks.row("json_schema: --max-line without -l", (1, unit_of("", "", "is not allowed"), b""), run_of, program("json_schema"), ["-m2", schema], b"[1,2]")
 
 
 def check_files(checks):
@@ -1193,13 +1278,13 @@ def check_files(checks):
         with open(os.path.join(checks.folder, name), "wb") as file:
             file.write(text)
     run = lambda words, given=b"": run_small(program("json_schema"), words, given, cwd=checks.folder)
-    below = lambda line: unit_of("", "/minimum", line=line)
+    below = lambda line, value: unit_of("", "/minimum", f"must be at least 0, is {value}", line=line)
     told_of_b = b"b:1:3: Invalid character: ]\nb:3: not UTF-8\nb:4: " + too_many + b"\n"
-    answer = (1, below(2) + below(2) + below(1), told_of_b)
+    answer = (1, below(2, -1) + below(2, -2) + below(1, -1), told_of_b)
     checks.row("json_schema: -l, files", answer, run, ["-l", "schema", "a", "b", "-"], b"-1")
-    answer = (4, below(2) + below(2), b"none: No such file or directory (os error 2)\n" + told_of_b)
+    answer = (4, below(2, -1) + below(2, -2), b"none: No such file or directory (os error 2)\n" + told_of_b)
     checks.row("json_schema: -l, no file", answer, run, ["schema", "a", "none", "b", "--lines"])
-    answer = (3, unit_of("", "/minimum"), b"deep: " + too_many + b"\n")
+    answer = (3, unit_of("", "/minimum", "must be at least 0, is -1"), b"deep: " + too_many + b"\n")
     checks.row("json_schema: a file, too many schemas", answer, run, ["schema", "deep", "-"], b"-1")
     answer = reported(3, "json_schema", too_many.decode())
     checks.row("json_schema: too many schemas", answer, run, ["schema"], deep)
@@ -1215,7 +1300,7 @@ def check_padded(checks):
         places = enumerate((places for _, *places in others), len(valid) + 1)
         output = b"".join(unit_of(*place, line=number) for number, place in places)
         name, expected = f"json_schema: padded {row[0][:60]}", (int(others != []), output, b"")
-        checks.row(name, expected, checked, checks.folder, schema, ["-l"], b"\n".join(values), at=row)
+        checks.row(name, expected, placed, checks.folder, schema, ["-l"], b"\n".join(values), at=row)
     rows = [(row, row[0]) for row in REFUSED + REFUSED_REFERENCES + REFUSED_ANCHORS + REFUSED_RESOURCES]
     for row, schema in padded_rows(checks, "json_schema, refused", rows, padded_refused, UNPADDED_REFUSED):
         name, expected = f"json_schema: padded {row[0][:60]}", reported(2, "json_schema", NOT_APPLIED % row[1])
@@ -1231,7 +1316,7 @@ def check_padded_lines(checks):
         _, _, reports, lines, status = row
         output = b"".join(unit_of(instance, keyword, line=line) for line, instance, keyword in reports)
         name, expected = f"json_schema: padded -l {row[0][:60]} {row[1][:60]}", (status, output, told(lines))
-        checks.row(name, expected, checked, checks.folder, schema, ["-l"], given, at=row)
+        checks.row(name, expected, placed, checks.folder, schema, ["-l"], given, at=row)
 
 
 def check_deep(checks):
@@ -1251,7 +1336,7 @@ def in_one_file(folder, words, given):
 
 def check_order(checks):
     """What is printed and what is told of lines in the order of these."""
-    each = (unit_of("", "/type", line=i) + told([f"line {i + 1}, col 3: Invalid character: ]"]) for i in range(1, 3 * TURNS, 3))
+    each = (unit_of("", "/type", NO_OBJECT, line=i) + told([f"line {i + 1}, col 3: Invalid character: ]"]) for i in range(1, 3 * TURNS, 3))
     given = b'1\n[1,]\n{"id":1}\n' * TURNS
     checks.row("json_schema: -l in one file", (1, b"".join(each)), in_one_file, checks.folder, ["-l", SCHEMA], given)
 
@@ -1268,4 +1353,4 @@ def check_memory(checks):
 
 PAGE, LINES_PAGE = Page("json_schema", [SCHEMA], b"[1]"), Page("json_schema", ["-l", SCHEMA], b"[1]", is_lines=True)
 
-PARTS = (PAGE.check, LINES_PAGE.check_pipes, *shared(check_rows), check_drafts, check_lines, check_long_lines, check_files, check_padded, check_padded_lines, check_deep, check_order, check_faults, *shared(check_memory))
+PARTS = (PAGE.check, LINES_PAGE.check_pipes, *shared(check_rows), check_words, check_drafts, check_lines, check_long_lines, check_files, check_padded, check_padded_lines, check_deep, check_order, check_faults, *shared(check_memory))

@@ -11,7 +11,6 @@ use Rattle.tinyjson.specs.Tree.{Tree}
 use Rattle.tinyjson.specs.Written.{Written, WrittenPart}
 use Rattle.tinyjson_lines.specs.Line.{line_of}
 use Rattle.tinyjson_lines.specs.Within.{IsGiven}
-use Rattle.tinyjson_schema.specs.declared.violation.Violation.{Violation}
 use Rattle.json_schema.specs.Report.{report_tree}
 use Rattle.json_schema.specs.Run.{Gives, Handles, telling_of}
 use Rattle.json_schema.specs.Verdicts.{LineGives, GivesWithin}
@@ -20,6 +19,7 @@ use Rattle.json_schema.specs.declared.lines.Outcome.{Outcome}
 use Rattle.json_schema.specs.declared.lines.Outcome.TheVariants.{AllValid, SomeInvalid, SomeRefused}
 use Rattle.json_schema.specs.declared.verdict.Cause.{Cause}
 use Rattle.json_schema.specs.declared.verdict.Cause.TheVariants.{NotUtf8, NotJson, TooDeep, TooLong}
+use Rattle.json_schema.specs.declared.verdict.Finding.{Finding}
 use Rattle.json_schema.specs.declared.verdict.Verdict.{Verdict}
 use Rattle.json_schema.specs.declared.verdict.Verdict.TheVariants.{Valid, Invalid, Refused}
 
@@ -51,7 +51,7 @@ module _ (check : Check) (n : ℕ) (line : List ℕ) (held told : Option (List �
   pub line_valid : Gives check line Valid → Handles check n line held held told told (Ok AllValid)
   line_valid h = (Valid, h, refl, Appends-nil held, Appends-nil told)
 
-  module _ (v : Violation) (h : Gives check line (Invalid v)) (holds : Option (List ℕ)) where
+  module _ (v : Finding) (h : Gives check line (Invalid v)) (holds : Option (List ℕ)) where
     pub line_reported : Written held holds (line_of (report_tree (Some n) v)) [] → Handles check n line held holds told told (Ok SomeInvalid)
     line_reported w = (
       Invalid v,

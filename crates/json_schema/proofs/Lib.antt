@@ -3,3 +3,4 @@ pub mod Handling
 pub mod Outcomes
 pub mod Reports
 pub mod Running
+pub mod Verdicts

@@ -13,8 +13,8 @@ use Rattle.tinyjson.specs.declared.value.JsonValue.TheVariants as is
 use Rattle.tinyjson_pointer.specs.Text.{escape_char, escape, pointer_text}
 use Rattle.tinyjson_pointer.specs.Tokens.{tokens_of}
 use Rattle.tinyjson_pointer.specs.declared.pointer.Pointer.{Pointer}
-use Rattle.tinyjson_schema.specs.declared.violation.Violation.{Violation}
 use Rattle.json_schema.specs.Report.{place_tree, with_line, report_tree}
+use Rattle.json_schema.specs.declared.verdict.Finding.{Finding}
 
 -- ---- the text of a pointer is scalar values
 
@@ -48,33 +48,30 @@ place_text p s e = ap chars e ∙ encoded_chars (pointer_text (tokens_of p)) (of
 pub named : (k : List ℕ) (t : Tree) (old new : Members) → are_ascii k ≡ true → new ≡ put (chars k) t old → new ≡ put k t old
 named k t old new a h = h ∙ ap (λ l. put l t old) (chars_literal k a)
 
-abbrev pub error_words : List ℕ
-error_words = codes "the value does not meet the schema at this place"
-
 -- each member is put to those before it
-all_put : Option ℕ → Violation → Members
-all_put line v = put (codes "valid") (boolean false) (with_line line (put (codes "keywordLocation") (place_tree v.keyword_location)
-    (put (codes "instanceLocation") (place_tree v.instance_location) (put (codes "error") (string error_words) no_members))))
+all_put : Option ℕ → Finding → Members
+all_put line f = put (codes "valid") (boolean false) (with_line line (put (codes "keywordLocation") (place_tree f.violation.keyword_location)
+    (put (codes "instanceLocation") (place_tree f.violation.instance_location) (put (codes "error") (string (text f.words)) no_members))))
 
-made : (line : Option ℕ) (v : Violation) → object (all_put line v) ≡ report_tree line v
+made : (line : Option ℕ) (f : Finding) → object (all_put line f) ≡ report_tree line f
 unfolding all_put encode
-made None v = refl
-made (Some n) v = refl
+made None f = refl
+made (Some n) f = refl
 
-pub report_made : (line : Option ℕ) (v : Violation) (m : JsonMap) (none one two three four : Members) → none ≡ no_members
-    → one ≡ put (chars (codes "error")) (string error_words) none
-    → two ≡ put (chars (codes "instanceLocation")) (place_tree v.instance_location) one
-    → three ≡ put (chars (codes "keywordLocation")) (place_tree v.keyword_location) two
+pub report_made : (line : Option ℕ) (f : Finding) (m : JsonMap) (none one two three four : Members) → none ≡ no_members
+    → one ≡ put (chars (codes "error")) (string (text f.words)) none
+    → two ≡ put (chars (codes "instanceLocation")) (place_tree f.violation.instance_location) one
+    → three ≡ put (chars (codes "keywordLocation")) (place_tree f.violation.keyword_location) two
     → four ≡ with_line line three
     → members_view m.entries ≡ put (chars (codes "valid")) (boolean false) four
-    → view (is.Object m) ≡ report_tree line v
+    → view (is.Object m) ≡ report_tree line f
 unfolding all_put
-report_made line v m none one two three four e a b c d f =
-    let start = named (codes "error") (string error_words) none one refl a ∙ ap (put (codes "error") (string error_words)) e in
-    let second = named (codes "instanceLocation") (place_tree v.instance_location) one two refl b
-    ∙ ap (put (codes "instanceLocation") (place_tree v.instance_location)) start in
-    let third = named (codes "keywordLocation") (place_tree v.keyword_location) two three refl c
-    ∙ ap (put (codes "keywordLocation") (place_tree v.keyword_location)) second in
-    let last = named (codes "valid") (boolean false) four (members_view m.entries) refl f
+report_made line f m none one two three four e a b c d g =
+    let start = named (codes "error") (string (text f.words)) none one refl a ∙ ap (put (codes "error") (string (text f.words))) e in
+    let second = named (codes "instanceLocation") (place_tree f.violation.instance_location) one two refl b
+    ∙ ap (put (codes "instanceLocation") (place_tree f.violation.instance_location)) start in
+    let third = named (codes "keywordLocation") (place_tree f.violation.keyword_location) two three refl c
+    ∙ ap (put (codes "keywordLocation") (place_tree f.violation.keyword_location)) second in
+    let last = named (codes "valid") (boolean false) four (members_view m.entries) refl g
     ∙ ap (put (codes "valid") (boolean false)) (d ∙ ap (with_line line) third) in
-    view_Object m ∙ (ap object last ∙ made line v)
+    view_Object m ∙ (ap object last ∙ made line f)

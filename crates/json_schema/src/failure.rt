@@ -40,7 +40,10 @@ impl fmt::Display for SchemaFailure {
                 )
             }
             SchemaFailure::NoDraft(number) => {
-                write!(f, "no draft {number}: the drafts are 4, 6, 7, 2019 and 2020")
+                write!(
+                    f,
+                    "no draft {number}: the drafts are 4, 6, 7, 2019 and 2020"
+                )
             }
         }
     }

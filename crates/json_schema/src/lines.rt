@@ -113,8 +113,8 @@ fn handle<W: Write, E: Write>(
 {
     match check_given(alloc, check.schema, given)? {
         Verdict::Valid => Ok(Outcome::AllValid),
-        Verdict::Invalid(violation) => {
-            write_report(alloc, Some(number), &violation, output)?;
+        Verdict::Invalid(finding) => {
+            write_report(alloc, Some(number), &finding, output)?;
             Ok(Outcome::SomeInvalid)
         }
         Verdict::Refused(cause) => {

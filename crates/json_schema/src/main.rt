@@ -52,8 +52,8 @@ Usage: json_schema [-l] [-m N] [-d DRAFT] SCHEMA [FILE..]
 
 Checks JSON texts against a JSON Schema of draft 4, 6, 7, 2019-09 or 2020-12.
 SCHEMA is the name of the schema's file. Of a value that is not valid one line
-of JSON is printed: the place in the schema, and the place in the value that
-does not meet it.
+of JSON is printed: what was wanted and what the value is, the place in the
+schema, and the place in the value.
 
 The texts are those of the files, or standard input where none is named; '-' is
 standard input, too. Options may come anywhere; after '--' all are operands.
@@ -245,7 +245,7 @@ impl Answer for Asked<'_, '_> {
         match check_text(alloc, self.schema, text)? {
             Verdict::Valid => Ok(Status::Done),
             Verdict::Refused(cause) => Err(text_failure(alloc, cause)),
-            Verdict::Invalid(violation) => match write_report(alloc, None, &violation, output) {
+            Verdict::Invalid(finding) => match write_report(alloc, None, &finding, output) {
                 Ok(()) => Ok(Status::No),
                 Err(error) => Err(writing_error(error)),
             },

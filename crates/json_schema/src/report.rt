@@ -7,13 +7,13 @@ ghost use Rattle.tinyjson.specs.Written.{WritesPrefix};
 ghost use Rattle.tinyjson_lines.specs.Line.{line_of};
 ghost use Rattle.json_schema.specs.Report.{report_tree, place_tree, with_line};
 
+use crate::verdict::Finding;
 use std::alloc::{AllocError, Global};
 use std::collections::HashMap;
 use std::io::{self, Write};
 use tinyjson::{JsonNumber, JsonValue, insert_member};
 use tinyjson_lines::write_line;
 use tinyjson_pointer::Pointer;
-use tinyjson_schema::Violation;
 
 /// Writes an output unit (Core, 12.4.2) as one line of normal text, with the number of the value's line if it has
 /// one.
@@ -22,37 +22,33 @@ use tinyjson_schema::Violation;
 pub fn write_report<W: Write>(
     alloc: Global,
     line: Option<u64>,
-    violation: &Violation,
+    finding: &Finding,
     w: &mut W,
 ) -> io::Result<()>
     ensures { WritesPrefix (W.contents w.old) (W.contents w.new)
-        (line_of (report_tree line violation.now)) result }
+        (line_of (report_tree line finding.now)) result }
 {
-    let unit = output_unit(alloc, line, violation)?;
+    let unit = output_unit(alloc, line, finding)?;
     write_line(alloc, &unit, w)
 }
 
-fn output_unit(
-    alloc: Global,
-    line: Option<u64>,
-    violation: &Violation,
-) -> Result<JsonValue, AllocError>
-    ensures { IfOk result (λ unit. view unit ≡ report_tree line violation.now) }
+fn output_unit(alloc: Global, line: Option<u64>, finding: &Finding) -> Result<JsonValue, AllocError>
+    ensures { IfOk result (λ unit. view unit ≡ report_tree line finding.now) }
 {
     let mut members = HashMap::new(alloc);
-    let error = String::from_str(alloc, "the value does not meet the schema at this place")?;
+    let error = String::from_str(alloc, finding.words.as_str())?;
     put(alloc, &mut members, "error", JsonValue::String(error))?;
     put_place(
         alloc,
         &mut members,
         "instanceLocation",
-        &violation.instance_location,
+        &finding.violation.instance_location,
     )?;
     put_place(
         alloc,
         &mut members,
         "keywordLocation",
-        &violation.keyword_location,
+        &finding.violation.keyword_location,
     )?;
     put_line(alloc, &mut members, line)?;
     put(alloc, &mut members, "valid", JsonValue::Boolean(false))?;

@@ -1,10 +1,11 @@
 //! The verdict on a text.
-ghost use Rattle.std.specs.Prelude.{IfOk, ℕ, List, Option};
+ghost use Rattle.std.specs.Prelude.{IfOk, Ok, Some, ℕ, List, Option};
 ghost use Rattle.std.specs.Result.{result_map_both};
 ghost use Rattle.std.specs.Str.{chars};
 ghost use Rattle.tinyjson.specs.View.{view};
 ghost use Rattle.tinyjson_lines.specs.Within.{IsGiven};
 ghost use Rattle.tinyjson_schema.specs.Reading.{tree_of};
+ghost use Rattle.tinyjson_schema.specs.Valid.{Validates};
 ghost use Rattle.json_schema.specs.Verdicts.{ValueGives, TextGives, LineGives, GivesWithin};
 
 use std::alloc::{AllocError, Global};
@@ -12,6 +13,8 @@ use std::str;
 use tinyjson::{JsonParseError, JsonValue};
 use tinyjson_lines::content;
 use tinyjson_schema::{CheckError, Schema, Violation};
+use tinyjson_schema_keywords::Walk;
+use tinyjson_schema_words::{Places, words};
 
 /// How many containers may be nested in a schema or a value: the check takes stack with the nesting.
 pub const DEPTH_LIMIT: usize = 100;
@@ -25,9 +28,18 @@ pub enum Verdict {
     /// The text is JSON, and its value is valid.
     Valid,
     /// The text is JSON, and its value violates the schema there.
-    Invalid(Violation),
+    Invalid(Finding),
     /// The text is no JSON, or its value can't be checked.
     Refused(Cause),
+}
+
+/// What a value violates of the schema.
+#[derive(Drop)]
+pub struct Finding {
+    /// The places.
+    pub violation: Violation,
+    /// What was wanted, and what the value is.
+    pub words: String,
 }
 
 /// Why a text can't be checked.
@@ -67,10 +79,33 @@ fn check_value(alloc: Global, schema: &Schema<'_>, value: &JsonValue) -> Result<
 {
     match schema.invalid_place(value, STEP_LIMIT, alloc) {
         Ok(None) => Ok(Verdict::Valid),
-        Ok(Some(violation)) => Ok(Verdict::Invalid(violation)),
+        Ok(Some(violation)) => with_words(alloc, schema, value, violation),
         Err(CheckError::TooDeep) => Ok(Verdict::Refused(Cause::TooDeep)),
         Err(CheckError::OutOfMemory) => Err(AllocError),
     }
+}
+
+/// The verdict with the words of the violation.
+fn with_words(
+    alloc: Global,
+    schema: &Schema<'_>,
+    value: &JsonValue,
+    violation: Violation,
+) -> Result<Verdict, AllocError>
+    requires { Validates 200 (tree_of schema.now) (view value.now) (Ok (Some violation)) }
+    ensures { IfOk result (ValueGives (tree_of schema.now) (view value.now)) }
+{
+    let places = Places {
+        keyword: &violation.keyword_location,
+        instance: &violation.instance_location,
+    };
+    let walk = Walk {
+        whole: schema.whole(),
+        steps: STEP_LIMIT,
+        alloc,
+    };
+    let words = words(places, value, walk)?;
+    Ok(Verdict::Invalid(Finding { violation, words }))
 }
 
 /// Checks a line as it is given: itself, or the limit that it exceeds.

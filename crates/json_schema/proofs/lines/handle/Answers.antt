@@ -13,7 +13,7 @@ returns-in_err-check_given g c = λ line given.
 pub returns-in_err-write_report-in-Invalid : goal.returns-in_err-write_report-in-Invalid
 returns-in_err-write_report-in-Invalid g c = λ line given.
     let k = c.args.check in
-    report_failed k c.args.number line _ _ c.in-Invalid.violation
+    report_failed k c.args.number line _ _ c.in-Invalid.finding
     (subst (Gives k line) c.in-Invalid.is (c.in_ok-check_given.ensures k.max_line line given)) _
     c.from_residual-in_err-write_report-in-Invalid.result c.from_residual-in_err-write_report-in-Invalid.ensures.0
     c.in_err-write_report-in-Invalid.ensures
@@ -49,6 +49,6 @@ returns-in-Valid g c = λ line given.
 pub returns-in_ok-write_report-in-Invalid : goal.returns-in_ok-write_report-in-Invalid
 returns-in_ok-write_report-in-Invalid g c = λ line given.
     let k = c.args.check in
-    line_reported k c.args.number line _ _ c.in-Invalid.violation
+    line_reported k c.args.number line _ _ c.in-Invalid.finding
     (subst (Gives k line) c.in-Invalid.is (c.in_ok-check_given.ensures k.max_line line given)) _
     c.in_ok-write_report-in-Invalid.ensures

@@ -1,0 +1,14 @@
+use Rattle.std.proofs.Common.{◌∙◌, ap}
+use Rattle.tinyjson.specs.View.{view}
+use Rattle.tinyjson_pointer.specs.Tokens.{tokens_of}
+use Rattle.tinyjson_schema_keywords.specs.declared.document.Whole.{Whole}
+use Rattle.tinyjson_schema_words.specs.Words.{words}
+use Rattle.json_schema.proofs.verdict.with_words.Goals as goal
+
+pub returns : goal.returns
+returns c =
+    let v = c.args.violation in (
+      c.requires,
+      c.in_ok-words.ensures ∙ ap (λ (w : Whole). words (view w.root.now) (view c.args.value.now)
+          (tokens_of v.keyword_location) (tokens_of v.instance_location)) c.whole.ensures,
+    )
