@@ -14,8 +14,8 @@ struct Builder {
     values: Vec<JsonValue>,
 }
 
-/// The value that these words build, one after the other: `text=DIGITS` reads a text, the others take a variant and its content,
-/// `key=DIGITS` is the key of the next value, `array=N` takes the last N values, and `object=N` the last N with their keys.
+/// The value that these words build, one after the other. `text=DIGITS` reads a text, the others take a variant and its content.
+/// `key=DIGITS` is the key of the next value. `array=N` takes the last N values, and `object=N` the last N with their keys.
 pub fn built(alloc: Global, words: &str) -> io::Result<JsonValue> {
     let mut built = Builder {
         alloc,

@@ -55,7 +55,7 @@ fn asked(rt: &(impl Env + AllocGlobal)) -> Result<Option<Options>, RunFault> {
 }
 
 /// Reads the arguments that follow the program's name: `-i` for indented text, and `-d N` for a limit
-/// on depth, N of 1 to 9 decimal digits. They stand in either order, each at most once; other
+/// on depth, N of 1 to 9 decimal digits. They come in either order, each at most once; other
 /// arguments give `None`.
 pub fn options(words: &[String]) -> Option<Options>
     ensures asked { IfSome result (λ o. Asks (map string_bytes words.now) o.indented o.limit) }

@@ -30,7 +30,7 @@ impl Calls {
         }
     }
 
-    /// How many of so many bytes the next call takes.
+    /// How many of `len` bytes the next call takes.
     fn take(&mut self, len: usize) -> io::Result<usize>
         ensures { IfOk result (λ n. n ≤ len) }
     {

@@ -64,7 +64,7 @@ pub record TellsText {E : Type 0} (is : E → Tree → Type 0) (limit : Option �
   pub refused : IfErr result (λ e. ¬ (error_kind e ≡ kind.OutOfMemory) → ¬ IsAccepted limit xs)
   pub broken_off : IfErr result (λ e. error_kind e ≡ kind.OutOfMemory → IsBrokenOff limit consumed rest)
 
--- The same of the characters xs that a parser p had left, of which q has the rest left.
+-- As TellsText, for the characters xs that a parser p had left, of which q has the rest left.
 pub record TellsRest
     {S E : Type 0} (steps : S → Option ℕ → S → Type 0) (is : E → Tree → Type 0)
     (p : Parser S) (xs : List ℕ) (result : Result E JsonParseError) (q : Parser S)

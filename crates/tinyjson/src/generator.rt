@@ -95,8 +95,8 @@ impl<'indent, W: Write> JsonGenerator<'indent, W> {
 
     /// Writes the text of the value, in UTF-8, and flushes nothing.
     ///
-    /// It ends with the first error: the writer's own, an interruption too; one of kind `WriteZero` where
-    /// the writer takes nothing; or one of kind `OutOfMemory` where there is no memory for sorting the
+    /// It ends with the first error: the writer's own, an interruption too, or one of kind `WriteZero` where
+    /// the writer takes nothing. It is of kind `OutOfMemory` where there is no memory for sorting the
     /// members of an object that has two or more, or for more than 64 containers open at once. Then a
     /// prefix of the text is written, and the next call begins a new text. A value of any depth is written.
     ///

@@ -1,5 +1,5 @@
-//! What works on bytes alone: runs of plain characters, white space, digits and the rest of a line, found sixteen at
-//! a time; copies by vectors; keys put in order by numbers, and members near their order before they are sorted.
+//! What works on bytes alone. Runs of plain characters, white space, digits and the rest of a line are found sixteen
+//! at a time. Copies are made by vectors. Keys are put in order by numbers, and members near their order first.
 //!
 //! It is part of the inside of `tinyjson`, which a program takes alone.
 #![tactic(auto)]

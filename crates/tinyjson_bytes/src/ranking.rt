@@ -4,7 +4,7 @@ ghost use Rattle.std.specs.Prelude.{◌≡◌, length};
 /// Up to this many keys are compared whole as soon as some bytes of them are the same.
 pub(crate) const FEW: usize = 32;
 
-/// So many times keys are ordered by some of their bytes, before whole keys are compared.
+/// How often keys are ordered by some of their bytes, before whole keys are compared.
 const PASSES: usize = 16;
 
 /// Keys by their places.
@@ -26,7 +26,7 @@ pub fn rank<K: Keys>(ranks: &mut [u64], mask: u64, keys: &K)
     order(ranks, mask, keys, 0, PASSES);
 }
 
-/// Orders the ranks by the keys at their places, of which so many bytes are known to be the same. Those that tie in the
+/// Orders the ranks by the keys at their places, whose first `common` bytes are known to be equal. Those that tie in the
 /// first bytes after what all share are ordered by the bytes after these; by whole keys, where they are few or no pass
 /// is left.
 fn order<K: Keys>(ranks: &mut [u64], mask: u64, keys: &K, common: usize, passes: usize)
@@ -64,7 +64,7 @@ fn order_by_keys<K: Keys>(ranks: &mut [u64], mask: u64, keys: &K)
     ranks.sort_unstable_by(|a, b| keys.key_at(a & mask).cmp(keys.key_at(b & mask)));
 }
 
-/// How many bytes at their start many keys share, if so many are known to be the same. Of few keys it is not looked for.
+/// The number of first bytes that many keys share, of which `common` are known to be equal. Few keys are not searched.
 fn shared_len<K: Keys>(ranks: &[u64], mask: u64, keys: &K, common: usize) -> usize {
     let Some(rank) = ranks.first() else {
         return common;

@@ -39,7 +39,7 @@ struct White;
 /// The digits 0 to 9.
 pub struct Digit;
 
-/// What stands in one line: all but a line feed.
+/// The bytes within a line: all but a line feed.
 struct Line;
 
 impl Class for White {

@@ -50,7 +50,7 @@ fn presort_many<T>(alloc: Global, members: &mut [(&str, &T)])
     place(&mut words, mask, members);
 }
 
-/// The words of so many members, at first their indices.
+/// The words of `count` members, at first their indices.
 fn indices(alloc: Global, count: usize) -> Result<Vec<u64>, AllocError>
     ensures { IfOk result (λ v. length v.items ≡ count) }
 {
@@ -61,7 +61,7 @@ fn indices(alloc: Global, count: usize) -> Result<Vec<u64>, AllocError>
     Ok(words)
 }
 
-/// Moves each member to the place where the word with its index stands.
+/// Moves each member to the place of the word with its index.
 fn place<T>(words: &mut [u64], mask: u64, members: &mut [(&str, &T)])
     requires { length words.old ≡ length members.old }
     ensures { IsPermutation members.old members.new }
@@ -71,7 +71,7 @@ fn place<T>(words: &mut [u64], mask: u64, members: &mut [(&str, &T)])
     }
 }
 
-/// Moves the members of one cycle, each to the place where the word with its index stands.
+/// Moves the members of one cycle, each to the place of the word with its index.
 fn move_cycle<T>(words: &mut [u64], mask: u64, members: &mut [(&str, &T)], start: usize)
     requires same_len { length words.old ≡ length members.old }
     requires start { start < length members.old }

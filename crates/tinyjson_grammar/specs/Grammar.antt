@@ -5,7 +5,7 @@ use Rattle.tinyjson_number.specs.Numeral.{power_width}
 use Rattle.tinyjson_grammar.specs.Tree.{Tree}
 use Rattle.tinyjson_grammar.specs.Syntax.{Syntax, text, AreWhite, IsSpelled, IsStrictAt, depth, IsWithin, tree_of}
 
--- White space, a value, white space: a text of the loose grammar, with at most so many containers open at once.
+-- White space, a value, white space: a text of the loose grammar. The limit bounds the containers that are open at once.
 pub record IsLoose (limit : Option ℕ) (xs : List ℕ) : Type 0 where
   pub before : List ℕ
   pub value : Syntax

@@ -11,7 +11,7 @@ pub record Position : Type 0 where
 abbrev pub position_at : ℕ → ℕ → Position
 position_at l c = record { line = l; column = c }
 
--- where a new parser stands
+-- the position of a new parser
 abbrev pub origin : Position
 origin = position_at 1 0
 
@@ -24,7 +24,7 @@ is_within_line c = not (is_line_feed c)
 abbrev pub line_feeds : List ℕ → ℕ
 line_feeds xs = count_by is_line_feed xs
 
--- how many characters stand after the last line feed
+-- how many characters follow the last line feed
 abbrev pub after_line_feed : List ℕ → ℕ
 after_line_feed xs = suffix_len is_within_line xs
 

@@ -120,8 +120,8 @@ pub record IsCutOffText (limit : Option ℕ) (xs : List ℕ) : Type 0 where
   pub shallow : IsWithin limit (cut_off_depth cut_off)
   pub whole : xs ≡ before ++ cut_off_text cut_off
 
--- No error has come yet, or the first one just now, a key that is not a string: some list, perhaps the
--- empty one, completes it to a text, or to one that ends with its first key that is not a string. So `{1`
--- is meant, though no text begins so, and `{1:` is not.
+-- No error has come yet, or the first one just now, a key that is not a string. So some list, perhaps the
+-- empty one, completes it to a text, or to one that ends with its first key that is not a string. That
+-- includes `{1`, though no text begins so, and not `{1:`.
 abbrev pub IsErrorFree : Option ℕ → List ℕ → Type 0
 IsErrorFree limit xs = IsViable (λ ys. IsAccepted limit ys ⊎ IsCutOffText limit ys) xs

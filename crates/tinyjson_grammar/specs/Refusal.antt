@@ -189,12 +189,12 @@ pub record NoStringAt (limit : Option ℕ) (consumed : List ℕ) (c : ℕ) : Typ
   pub error_free : IsErrorFree limit prefix
   pub no_string : ¬ IsLooselyViable limit (prefix ++ codes "\"")
 
--- and next may stand in the place of c
+-- and next is accepted in the place of c
 pub record AwaitsAt (limit : Option ℕ) (consumed : List ℕ) (c next : ℕ) : Type 0 where
   pub place : NoStringAt limit consumed c
   pub without_error : IsErrorFree limit (place.prefix ++ next ∷ [])
 
--- characters that may stand between the first error and the place where it is reported
+-- characters that may be between the first error and the place where it is reported
 abbrev pub is_late : ℕ → Bool
 is_late c = is_hex c || ((c == letter_u) || ((c == reverse_solidus) || is_sign c))
 

@@ -11,7 +11,7 @@ use Rattle.tinyjson_grammar.specs.Characters.{backspace, begin_array, begin_obje
 use Rattle.tinyjson_grammar.specs.Characters.{end_object, form_feed, horizontal_tab, line_feed, name_separator}
 use Rattle.tinyjson_grammar.specs.Characters.{quotation_mark, reverse_solidus, space, value_separator}
 
--- how a character stands inside a string
+-- how a character is spelled inside a string
 abbrev pub escape : ℕ → List ℕ
 escape c =
     cond (c == backspace) (codes "\\b")
@@ -23,7 +23,7 @@ escape c =
     (cond (c == reverse_solidus) (codes "\\\\")
     (cond (nat_lt c space) (codes "\\u00" ++ digit_char (c / 16) ∷ digit_char (c % 16) ∷ []) (c ∷ []))))))))
 
--- the characters that do not stand as they are
+-- the characters that are not written as they are
 abbrev pub IsEscaped : ℕ → Type 0
 IsEscaped c = (c < space) ⊎ ((c ≡ quotation_mark) ⊎ (c ≡ reverse_solidus))
 
@@ -43,11 +43,11 @@ abbrev pub newline : Option (List ℕ) → ℕ → List ℕ
 newline None k = []
 newline (Some i) k = line_feed ∷ repeated k i
 
--- what stands before an item
+-- what precedes an item
 abbrev pub before : Option (List ℕ) → ℕ → Bool → List ℕ
 before w k first = separator first ++ newline w k
 
--- what stands after the last item
+-- what follows the last item
 abbrev pub closing : Option (List ℕ) → ℕ → Bool → ℕ → List ℕ
 closing w k is_empty bracket = cond is_empty [] (newline w k) ++ bracket ∷ []
 
@@ -74,7 +74,7 @@ abbrev mutual
   text w k (array ts) = begin_array ∷ (items_text w (k + 1) true ts ++ closing w k (has_no_items ts) end_array)
   text w k (object ms) = begin_object ∷ (members_text w (k + 1) true ms ++ closing w k (has_no_members ms) end_object)
 
-  -- `first` says that no item stands before these
+  -- with `first` no item precedes these
   pub items_text : Option (List ℕ) → ℕ → Bool → Items → List ℕ
   items_text w k first no_items = []
   items_text w k first (item t ts) = before w k first ++ (text w k t ++ items_text w k false ts)

@@ -21,7 +21,7 @@ FollowsGrammar limit xs result = MatchResult result
     (λ v. (t : Tree) → IsText limit xs t ↔ (t ≡ view v))
     (λ e. IsNotOutOfMemory e → ¬ IsAccepted limit xs)
 
--- The error stands after the first n characters of xs.
+-- The error's position follows the first n characters of xs.
 pub record StopsAt (limit : Option ℕ) (xs : List ℕ) (e : JsonParseError) (n : ℕ) : Type 0 where
   pub within : n ≤ length xs
   pub position : error_position e ≡ advance origin (take n xs)

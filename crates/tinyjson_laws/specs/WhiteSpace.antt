@@ -23,13 +23,13 @@ use Rattle.tinyjson_grammar.specs.Grammar.{IsLoose, IsText}
 
 -- ---- on a list of characters
 
--- where a character stands
+-- where a character is
 pub data Place : Type 0 where
   outside : Place
   in_string : Place
   after_backslash : Place
 
--- where the next character stands
+-- where the next character is
 abbrev pub place_after : Place → ℕ → Place
 place_after outside c = cond (c == quotation_mark) in_string outside
 place_after in_string c = cond (c == quotation_mark) outside (cond (c == reverse_solidus) after_backslash in_string)

@@ -32,7 +32,7 @@ pub fn parsed_from<I: Iterator<Item = char> + Drop>(alloc: Global, it: I) -> Jso
     JsonParser::new(alloc, it).parse()
 }
 
-/// The result of a parser with a limit on depth: the grammars are those with at most so many open containers.
+/// The result of a parser with a limit on depth: the grammars bound the open containers by it.
 pub fn parsed_within<I: Iterator<Item = char> + Drop>(
     alloc: Global,
     it: I,

@@ -1,7 +1,7 @@
 //! The laws over the definitions that the contracts of `tinyjson` cite: the grammar, the written texts,
 //! and the trees that values are seen as.
 //!
-//! Each law is the contract of a public function. Most of them do nothing, and their statements stand in
+//! Each law is the contract of a public function. Most of them do nothing, and their statements are in
 //! `specs/` under the name of the function's module; those of `headline` and `round_trips`, and
 //! `values::have_one_text`, read, write and compare.
 #![tactic(auto)]

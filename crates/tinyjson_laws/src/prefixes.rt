@@ -95,9 +95,9 @@ pub fn refused_not_too_late()
     ensures { RefusedNotTooLate }
 {}
 
-/// Out of memory is told before the shortest prefix that cannot be completed in the loose grammar is consumed,
-/// and no later than one character after the first error, but for late characters between them: digits, and
-/// what stands in escapes and exponents (`is_late`).
+/// Out of memory is returned before the shortest prefix that cannot be completed in the loose grammar is consumed.
+/// It is returned no later than one character after the first error, but for late characters between them: digits,
+/// and the characters of escapes and exponents (`is_late`).
 pub fn interrupted_not_too_late()
     ensures { InterruptedNotTooLate }
 {}

@@ -1,6 +1,6 @@
 //! Callers that write a value and read it again, proved from the contracts of the calls and from the laws.
 //!
-//! What they ensure could be met without those calls. The laws that hold of the calls themselves stand in `calls`.
+//! What they ensure could be met without those calls. The laws that hold of the calls themselves are in `calls`.
 ghost use Rattle.std.specs.Prelude.{◌≡◌, ◌↔◌, IsTrue, IfOk, MatchResult, encode_utf8_all};
 ghost use Rattle.std.specs.Str.{chars};
 ghost use Rattle.tinyjson_grammar.specs.Syntax.{AreWhite};

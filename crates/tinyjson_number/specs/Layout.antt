@@ -4,7 +4,7 @@ use Rattle.tinyjson_number.specs.Text.{integer_text}
 use Rattle.tinyjson_number.specs.declared.text.Layout.{Layout}
 use Rattle.tinyjson_number.specs.Characters.{letter_e}
 
--- what stands after the digits
+-- what follows the digits
 abbrev pub power_text : Option ℤ → List ℕ
 power_text None = []
 power_text (Some z) = letter_e ∷ integer_text z

@@ -1,4 +1,4 @@
--- Numbers that stand among the bytes of a text (RFC 8259, section 6).
+-- Numbers among the bytes of a text (RFC 8259, section 6).
 use Rattle.std.specs.Prelude.{◌≡◌, ℕ, ◌≤◌, ◌==◌, Bool, false, List, [], ◌∷◌, ◌++◌, drop, length, None}
 use Rattle.std.specs.Char.{is_ascii_digit}
 use Rattle.tinyjson_number.specs.Characters.{decimal_point}
@@ -25,13 +25,13 @@ pub record IsGrammatical (n : Numeral) : Type 0 where
   pub well_formed : IsNumeral n
   pub no_leading_zero : has_leading_zero n.integer ≡ false
 
--- the number stands between two places
+-- the number is between two places
 pub record NumeralAt (text : List ℕ) (at : ℕ) (n : Numeral) (end : ℕ) : Type 0 where
   pub grammatical : IsGrammatical n
   pub spelled : drop at text ≡ spelling n ++ drop end text
   pub within : end ≤ length text
   pub ends : EndsNumber n (drop end text)
 
--- the number of these parts stands between two places
+-- the number of these parts is between two places
 abbrev pub PartsAt : List ℕ → ℕ → NumberParts → ℕ → Type 0
 PartsAt text at parts end = (n : Numeral) × (numeral_of parts ≡ plain n) × NumeralAt text at n end

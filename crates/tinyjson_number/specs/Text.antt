@@ -19,7 +19,7 @@ abbrev pub integer_text : ℤ → List ℕ
 integer_text (pos n) = natural_text n
 integer_text (negsuc n) = minus_sign ∷ natural_text (suc n)
 
--- with no exponent; point is where the point stands, counted from the first digit on
+-- with no exponent; point is the place of the point, counted from the first digit on
 abbrev pub plain_text : List ℕ → ℤ → ℤ → List ℕ
 plain_text digits power point =
     if int_lt power (pos 0) then
@@ -31,7 +31,7 @@ plain_text digits power point =
 abbrev pub scientific_text : List ℕ → ℤ → List ℕ
 scientific_text digits point = take 1 digits ++ (fraction_text (drop 1 digits) ++ (letter_e ∷ integer_text (point -ℤ pos 1)))
 
--- the point stands before the place -323 or after the place 309
+-- the point is before the place -323 or after the place 309
 abbrev pub is_far : ℤ → Bool
 is_far point = int_lt point (negsuc 322) || int_lt (pos 309) point
 

@@ -69,7 +69,7 @@ impl Inline {
         self.len
     }
 
-    /// The bytes, and what stands after them.
+    /// The bytes, and those after them.
     #[inline(always)]
     pub(crate) fn all_bytes(&self) -> &[u8]
         ensures value { result.now ≡ self.now.bytes }

@@ -34,7 +34,7 @@ use std::alloc::Global;
 /// ```
 #[derive(Clone, Copy, Debug)]
 pub struct NumberParts<'a> {
-    /// Whether a `-` stands in front.
+    /// Whether it begins with a `-`.
     pub negative: bool,
     /// The digits before the point, as ASCII.
     pub integer: &'a [u8],
@@ -44,7 +44,7 @@ pub struct NumberParts<'a> {
     pub exponent: Option<ExponentParts<'a>>,
 }
 
-/// The exponent of a number: what stands after its `e` or `E`.
+/// The exponent of a number: what follows its `e` or `E`.
 ///
 /// ```
 /// let exponent = ExponentParts {
@@ -54,7 +54,7 @@ pub struct NumberParts<'a> {
 /// ```
 #[derive(Clone, Copy, Debug)]
 pub struct ExponentParts<'a> {
-    /// Whether a `-` stands in front.
+    /// Whether it begins with a `-`.
     pub negative: bool,
     /// Its digits, as ASCII, of any count.
     pub digits: &'a [u8],
@@ -64,10 +64,10 @@ impl JsonNumber {
     /// The decimal of the number that the whole text is, exactly as it is written: any count of digits,
     /// and an exponent of any size.
     ///
-    /// It returns `NotANumber` exactly where the text is no number of the grammar (RFC 8259, section 6),
-    /// `OutOfRange` exactly where it is one whose power of ten, after its last digit that is not `0`, is
-    /// out of the range of `i64`, and `OutOfMemory` only of a text of more than 24 bytes that has a
-    /// decimal.
+    /// It returns `NotANumber` exactly where the text is no number of the grammar (RFC 8259, section 6).
+    /// It returns `OutOfRange` exactly where it is one whose power of ten, after its last digit that is
+    /// not `0`, is out of the range of `i64`. It returns `OutOfMemory` only for a text of more than 24
+    /// bytes that has a decimal.
     ///
     /// `1.50e1` is 15, `-0` is zero, and ` 1`, `01` and `1.` are no numbers.
     ///

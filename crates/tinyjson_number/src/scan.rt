@@ -12,7 +12,7 @@ use crate::parse::{ExponentParts, NumberParts};
 use tinyjson_bytes::digits_end;
 
 /// The parts of the number at a place of a text, and the place after it; none exactly where no number of
-/// the grammar stands there.
+/// the grammar begins there.
 #[doc(hidden)]
 #[inline(never)]
 pub fn number_at(bytes: &[u8], at: usize) -> Option<(NumberParts<'_>, usize)>
@@ -29,7 +29,7 @@ pub fn number_at(bytes: &[u8], at: usize) -> Option<(NumberParts<'_>, usize)>
 }
 
 /// The parts of the number at a place of a text, and the place after it; none exactly where no number
-/// without an exponent stands there.
+/// without an exponent begins there.
 #[inline(always)]
 pub(crate) fn plain_number_at(bytes: &[u8], at: usize) -> Option<(NumberParts<'_>, usize)>
     requires { at ≤ length bytes.now }
@@ -83,7 +83,7 @@ impl<'a> Mantissa<'a> {
     }
 }
 
-/// What stands before the exponent of the number at a place of a text, and the place after it; none where
+/// What precedes the exponent of the number at a place of a text, and the place after it; none where
 /// the integer part or the fraction lacks digits, or has a leading zero.
 #[inline(always)]
 fn mantissa_at(bytes: &[u8], at: usize) -> Option<(Mantissa<'_>, usize)>
@@ -105,7 +105,7 @@ fn mantissa_at(bytes: &[u8], at: usize) -> Option<(Mantissa<'_>, usize)>
     Some((front, end))
 }
 
-/// Whether a minus sign stands at a place of a text, and the place after it.
+/// Whether a minus sign is at a place of a text, and the place after it.
 #[inline(always)]
 fn minus_at(bytes: &[u8], at: usize) -> (bool, usize)
     requires { at ≤ length bytes.now }
@@ -152,7 +152,7 @@ fn fraction_at(bytes: &[u8], point: usize) -> Option<(&[u8], usize)>
     Some((digits, end))
 }
 
-/// The sign and the digits of the exponent whose letter stands before a place of a text, and the place
+/// The sign and the digits of the exponent whose letter precedes a place of a text, and the place
 /// after them. None where there are no digits.
 fn exponent_at(bytes: &[u8], at: usize) -> Option<(ExponentParts<'_>, usize)>
     requires { at ≤ length bytes.now }
@@ -167,7 +167,7 @@ fn exponent_at(bytes: &[u8], at: usize) -> Option<(ExponentParts<'_>, usize)>
     Some((ExponentParts { negative, digits }, end))
 }
 
-/// Whether a minus sign stands at a place of a text, and the place after it or after a plus sign.
+/// Whether a minus sign is at a place of a text, and the place after it or after a plus sign.
 fn sign_at(bytes: &[u8], at: usize) -> (bool, usize)
     requires { at ≤ length bytes.now }
     ensures { SignAt bytes.now at result.0 result.1 }
@@ -179,7 +179,7 @@ fn sign_at(bytes: &[u8], at: usize) -> (bool, usize)
     }
 }
 
-/// Whether a point stands at a place of a text.
+/// Whether a point is at a place of a text.
 #[inline(always)]
 fn has_point(bytes: &[u8], at: usize) -> bool
     ensures { result ≡ starts is_point (drop at bytes.now) }
@@ -187,7 +187,7 @@ fn has_point(bytes: &[u8], at: usize) -> bool
     at < bytes.len() && bytes[at] == b'.'
 }
 
-/// Whether the letter of an exponent stands at a place of a text.
+/// Whether the letter of an exponent is at a place of a text.
 #[inline(always)]
 fn has_letter(bytes: &[u8], at: usize) -> bool
     ensures { result ≡ starts is_exponent_letter (drop at bytes.now) }
@@ -195,7 +195,7 @@ fn has_letter(bytes: &[u8], at: usize) -> bool
     at < bytes.len() && matches!(bytes[at], b'e' | b'E')
 }
 
-/// Whether a sign stands at a place of a text.
+/// Whether a sign is at a place of a text.
 fn has_sign(bytes: &[u8], at: usize) -> bool
     ensures { result ≡ starts is_sign (drop at bytes.now) }
 {

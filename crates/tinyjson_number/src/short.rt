@@ -14,10 +14,10 @@ const BUFFER: usize = 32;
 
 impl JsonNumber {
     /// Puts the text of this number at the front of a buffer of 32 bytes or more, if that takes few steps, and
-    /// returns its length: of zero; of at most 16 digits with up to 8 zeros after them and no point; and of at
-    /// most 16 digits with a power of ten of -16 or more, where at most 8 digits stand before the point, or at
-    /// most 6 zeros between the point and the digits. In other cases it may return `None`;
-    /// [`JsonNumber::layout`] has the text of each number.
+    /// returns its length. It does so for zero, and for at most 16 digits with up to 8 zeros after them and no
+    /// point. It does so too for at most 16 digits with a power of ten of -16 or more, where at most 8 digits
+    /// precede the point, or at most 6 zeros are between the point and the digits. In other cases it may return
+    /// `None`; [`JsonNumber::layout`] has the text of each number.
     ///
     /// Bytes of the buffer that don't belong to the text may be changed too.
     ///

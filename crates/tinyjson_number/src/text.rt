@@ -12,7 +12,7 @@ use crate::digits::ascii_str;
 use crate::number::JsonNumber;
 use std::fmt;
 
-/// The decimal without an exponent where the point stands near the digits, as `0.0012`, and with one
+/// The decimal without an exponent where the point is near the digits, as `0.0012`, and with one
 /// otherwise, as `1.2e309`.
 impl fmt::Display for JsonNumber {
     ghost output = { λ n. Some (decimal_text n.decimal) };
@@ -58,7 +58,7 @@ fn write_exponent<W: fmt::Write>(f: &mut fmt::Formatter<W>, exponent: i128) -> f
     write!(f, "e{exponent}")
 }
 
-/// The text of a number in parts that stand one after another, as ASCII. None of them is copied.
+/// The text of a number in consecutive parts, as ASCII. None of them is copied.
 ///
 /// ```
 /// let layout = Layout {
@@ -79,7 +79,7 @@ pub struct Layout<'a> {
     pub middle: &'a [u8],
     /// The other digits, or nothing.
     pub back: &'a [u8],
-    /// What stands in decimal after an `e`, where there is one.
+    /// The number after the `e`, written in decimal, if there is one.
     pub exponent: Option<i128>,
 }
 

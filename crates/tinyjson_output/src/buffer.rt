@@ -154,7 +154,7 @@ pub fn quick_text(buffer: &mut Buffer, bytes: &[u8]) -> bool
     true
 }
 
-/// Appends what stands before a member's value in compact text, a comma, the key and the colon, to the
+/// Appends what precedes a member's value in compact text, a comma, the key and the colon, to the
 /// buffer if it fits and nothing of the key needs an escape, and returns whether it did.
 #[inline(always)]
 pub fn quick_key(buffer: &mut Buffer, compact: bool, first: bool, key: &str) -> bool

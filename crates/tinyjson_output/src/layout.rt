@@ -1,4 +1,4 @@
-//! What stands between values in compact text, and in text that is indented.
+//! What separates values in compact text, and in indented text.
 ghost use Rattle.std.specs.Prelude.{◌∷◌, Some};
 ghost use Rattle.std.specs.Str.{chars};
 ghost use Rattle.tinyjson_grammar.specs.Characters.{name_separator};
@@ -9,7 +9,7 @@ ghost use Rattle.tinyjson_output.specs.Indent.{indent_of};
 use crate::buffer::{Buffer, write_bytes};
 use std::io::{self, Write};
 
-/// Writes what stands before an item or a member: a comma, but none before the first, and a new line.
+/// Writes what precedes an item or a member: a comma, but none before the first, and a new line.
 #[inline(always)]
 pub fn separate<W: Write>(
     out: &mut W,

@@ -1,5 +1,5 @@
 //! What a writer gets: the bytes of a buffer before it, which holds 4,096, the texts of numbers and of strings,
-//! and what stands between values.
+//! and what separates values.
 //!
 //! It is part of the inside of `tinyjson`, which a program takes alone. Its contracts say what is written and what is
 //! buffered.

@@ -36,7 +36,7 @@ fn write_escaped<W: Write>(out: &mut W, buffer: &mut Buffer, bytes: &[u8]) -> io
     write_stopped(out, buffer, &bytes[stop..])
 }
 
-/// Writes escapes that stand side by side, and the bytes up to the next one in one piece.
+/// Writes consecutive escapes, and the bytes up to the next one in one piece.
 #[inline(never)]
 fn write_stopped<W: Write>(out: &mut W, buffer: &mut Buffer, bytes: &[u8]) -> io::Result<()>
     requires { prefix_len is_plain bytes.now ≡ 0 }
@@ -96,7 +96,7 @@ fn append_escape(buffer: &mut Buffer, byte: u8) -> bool
     true
 }
 
-/// Whether the byte does not stand as it is.
+/// Whether the byte is not written as it is.
 #[inline(always)]
 fn is_escaped(byte: u8) -> bool
     ensures { IsTrue result → IsEscaped byte }

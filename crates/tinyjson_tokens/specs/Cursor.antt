@@ -15,7 +15,7 @@ Ready can remaining p = p.done ≡ false → can p.it × IsFinite (remaining p.i
 abbrev pub left : {S : Type 0} → (S → Count) → Cursor S → ℕ
 left remaining p = option_len p.peeked + cond p.done 0 (size (remaining p.it))
 
--- where the cursor stands
+-- the position of the cursor
 abbrev pub place : {S : Type 0} → Cursor S → Position
 place p = position_at p.line p.column
 
@@ -44,7 +44,7 @@ module _ {S : Type 0} (steps : S → Option ℕ → S → Type 0) where
     pub source : p.done ≡ false → Begins p.it later
     pub ended : p.done ≡ true → later ≡ []
 
-  -- calls took xs from p and left q: of any list that p gave, xs stands in front, and q gives the rest
+  -- calls took xs from p and left q: any list that p gave begins with xs, and q gives the rest
   pub record Goes (p : Cursor S) (xs : List ℕ) (q : Cursor S) : Type 0 where
     pub gives : (zs : List ℕ) → Gives p zs → (rest : List ℕ) × (zs ≡ xs ++ rest) × Gives q rest
     pub moves : place q ≡ advance (place p) xs

@@ -5,7 +5,7 @@ use Rattle.std.specs.List.{AllByRecursion}
 use Rattle.tinyjson_grammar.specs.Characters.{is_white, quotation_mark}
 use Rattle.tinyjson_grammar.specs.Position.{Position, advance}
 
--- How a source is seen: the list that it still gives, the first character of that list, or none, and where it stands.
+-- How a source is seen: the list that it still gives, the first character of that list, or none, and its position.
 pub record Sight (S : Type 0) : Type 1 where
   pub gives : S → List ℕ → Type 0
   pub shows : S → Option ℕ → Type 0
@@ -21,7 +21,7 @@ abbrev pub Still : {S : Type 0} → Sight S → S → S → Type 0
 Still sight p q = (o : Option ℕ) → sight.shows p o → sight.shows q o
 
 module _ {S : Type 0} (sight : Sight S) where
-  -- a call took xs from p and left q: of any list that p gave, xs stands in front, and q gives the rest
+  -- a call took xs from p and left q: any list that p gave begins with xs, and q gives the rest
   pub record Takes (p : S) (xs : List ℕ) (q : S) : Type 0 where
     pub gives : (zs : List ℕ) → sight.gives p zs → (rest : List ℕ) × (zs ≡ xs ++ rest) × sight.gives q rest
     pub moves : sight.place q ≡ advance (sight.place p) xs

@@ -27,8 +27,8 @@ const SHORT_ESCAPES: [u8; 83] = [
     0, 0, 0, 0, 8, 0, 0, 0, 12, 0, 0, 0, 0, 0, 0, 0, b'\n', 0, 0, 0, b'\r', 0, b'\t',
 ];
 
-/// Adds the characters of the escapes that stand side by side from a place on, and says where these end: at the
-/// place itself, where no escape stands, and before an error.
+/// Adds the characters of the consecutive escapes from a place on, and returns where these end: at the place
+/// itself, where there is no escape, and before an error.
 #[inline(always)]
 pub(crate) fn escapes(bytes: &[u8], at: usize, string: &mut String) -> Result<usize, AllocError>
     requires { at ≤ length bytes.now }
@@ -44,7 +44,7 @@ pub(crate) fn escapes(bytes: &[u8], at: usize, string: &mut String) -> Result<us
 }
 
 /// The character that an escape spells at a place, or two that are a pair, and where they end. None where
-/// no escape stands, and where an error may stand.
+/// there is no escape, and where an error is possible.
 #[inline(always)]
 fn escape_at(bytes: &[u8], at: usize) -> Option<(char, usize)>
     requires { at ≤ length bytes.now }

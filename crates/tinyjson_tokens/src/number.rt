@@ -21,7 +21,7 @@ use tinyjson_number::{ExponentParts, JsonNumber, LiteralError, NumberParts, has_
 /// What a number has besides its digits, which are gathered without anything between them.
 #[derive(Clone, Copy)]
 struct Marks {
-    /// Whether a `-` stands in front.
+    /// Whether it begins with a `-`.
     negative: bool,
     /// Where the digits of the integer part end.
     integer: usize,

@@ -9,7 +9,7 @@ ghost use Rattle.tinyjson_grammar.specs.Position.{position_at};
 
 use std::simd::prelude::*;
 
-/// The line, which begins at 1, and how many characters stand after its line feed.
+/// The line, which begins at 1, and how many characters follow its line feed.
 pub(crate) fn place_after(text: &str) -> (usize, usize)
     ensures { position_at result.0 result.1 ≡ advance origin (chars text.now) }
 {
@@ -35,7 +35,7 @@ fn line_start(bytes: &[u8]) -> usize
     start
 }
 
-/// How many line feeds stand in the bytes.
+/// How many line feeds the bytes have.
 fn line_feeds(bytes: &[u8]) -> usize
     ensures { result ≡ line_feeds bytes.now }
 {

@@ -109,7 +109,7 @@ impl<S: Tokens> TokenReader<S> {
         }
     }
 
-    /// The characters of the string that was read last, which the source lends, or which stand in the buffer.
+    /// The characters of the string that was read last, which the source lends, or which are in the buffer.
     #[inline(always)]
     pub fn characters<'b>(&'b self, lent: bool, buffer: &'b String) -> &'b str
         ensures { chars result.now ≡ cond lent (S.lent self.now.source) (text buffer.now) }

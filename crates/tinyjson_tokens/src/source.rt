@@ -16,7 +16,7 @@ use std::alloc::AllocError;
 
 /// A source of characters, of which the next one can be looked at.
 ///
-/// `sight` says what the source still gives and where it stands, `left` goes down with each character, and `lent`
+/// `sight` is what the source still gives and its position, `left` goes down with each character, and `lent`
 /// has the characters of the string that was lent last.
 pub trait Source: Drop {
     ghost sight: { Sight Self };

@@ -50,7 +50,7 @@ pub(crate) fn is_answer(told: Result<(), JsonParseError>, expected: Answer) -> b
     }
 }
 
-/// What is told is forgotten.
+/// Events that keep nothing.
 #[derive(Drop)]
 pub(crate) struct Forget;
 

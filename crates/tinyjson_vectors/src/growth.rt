@@ -1,4 +1,4 @@
-//! Growing things at sizes round each growth of a vector, a string or a map, where memory is ample, alone and inside others: a text
+//! Growing things at sizes round each growth of a vector, a string or a map, where memory is ample, alone and inside others. A text
 //! and its characters have one answer, and the value is copied and written in each way. The rows of `tests/` show what the answers
 //! and the texts are.
 
@@ -26,7 +26,7 @@ const OTHERS: &str =
     \"b50\":0,\"b51\":0,\"b52\":0,\"b53\":0,\"b54\":0,\"b55\":0,\"b56\":0,\"b57\":0,\"b58\":0,\"b59\":0,\
     \"b60\":0,\"b61\":0,\"b62\":0,\"b63\":0";
 
-/// Where a value stands: at the top, as an item, as a later, the first and the only member, as the first and the last member of an
+/// Where a value is: at the top, as an item, as a later, the first and the only member, as the first and the last member of an
 /// object of 65, and in such an object in another. `@` is the value, and `*` is `OTHERS`.
 const PLACES: [&str; 8] = [
     "@",
@@ -39,8 +39,8 @@ const PLACES: [&str; 8] = [
     "{*,\"z\":{\"a\":@,*}}",
 ];
 
-/// What stands before the pieces, each piece, with `#` for its number, and what stands between the pieces, inside the last, after the
-/// inside so many times as there are pieces, and at the end.
+/// What is before the pieces; each piece, with `#` for its number; what is between the pieces; inside the last; after that inside, once
+/// for each piece; and at the end.
 type Shape = [&'static str; 6];
 
 const SHAPES: &[Shape] = &[
@@ -90,7 +90,7 @@ pub(crate) fn placed(alloc: Global, place: &str, value: &str) -> Result<String, 
         .replace(alloc, "@", value)
 }
 
-/// The text of this shape with so many pieces, whose numbers fall and have as many digits each.
+/// The text of this shape with `size` pieces, whose numbers fall and have equally many digits.
 fn text_of(alloc: Global, shape: &Shape, size: usize) -> Result<String, Fail> {
     let [begin, piece, between, inside, close, end] = *shape;
     let mut text = begin.to_string(alloc)?;

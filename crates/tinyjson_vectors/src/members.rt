@@ -6,7 +6,7 @@ use std::collections::HashMap;
 use std::test::Fail;
 use tinyjson::{JsonValue, sorted_members};
 
-/// Compact texts of objects, whose keys stand in the order of their bytes.
+/// Compact texts of objects, whose keys are in the order of their bytes.
 const OBJECTS: &[&str] = &[
     "{}",
     "{\"a\":null}",

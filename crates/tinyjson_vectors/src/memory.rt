@@ -74,7 +74,7 @@ const TEXTS: &[(&str, Answer)] = &[
 /// A whole number with more digits than a small number has.
 const LONG: &str = "1234567890123456789012345678901234567890123456789";
 
-/// How many characters of the text stand before the place of an error.
+/// How many characters of the text precede the place of an error.
 fn consumed(text: &str, error: &JsonParseError) -> usize {
     let mut place = (1, 0);
     for (count, c) in text.chars().enumerate() {

@@ -31,7 +31,7 @@ Agree (Key ∷ os) (at_key ms ∷ fs) = Agree os fs
 Agree (Value ∷ os) (at_value ms k ∷ fs) = Agree os fs
 Agree os fs = ⊥
 
--- the same of the containers around the innermost
+-- as Agree, for the containers around the innermost
 abbrev pub AgreeAround : List Awaited → List Frame → Type 0
 AgreeAround [] fs = ⊥
 AgreeAround (o ∷ os) fs = Agree os fs

@@ -21,7 +21,7 @@ abbrev pub filled : Partial → Tree → Tree
 filled (partial.Array v r) t = array (items_of (map view v.items ++ t ∷ map view (iter_rest r)))
 filled (partial.Object m k r) t = object (put_all r (put (text k) t (members_view m.entries)))
 
--- the same of containers inside one another; the last is the innermost
+-- as filled, for nested containers; the last is the innermost
 abbrev pub filled_all : List Partial → Tree → Tree
 filled_all [] t = t
 filled_all (p ∷ ps) t = filled p (filled_all ps t)

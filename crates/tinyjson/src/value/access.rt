@@ -89,9 +89,9 @@ impl JsonValue {
     /// The part of this value that `T` sees, for writing. Afterwards the value is the old one with
     /// what was written in the place of the part; where `T` sees none, it stays as it is.
     ///
-    /// Where the write is to be proved, take this and not a `match` on a `&mut JsonValue`: after it
-    /// the value is plainly `Object`, `Array` or the like of what was written, and a call on a part
-    /// of a part, as below, gives of the whole what its own contract gives of the part.
+    /// Where the write is to be proved, take this and not a `match` on a `&mut JsonValue`. After it
+    /// the value is plainly `Object`, `Array` or the like of what was written. A call on a part of a
+    /// part, as below, gives of the whole what its own contract gives of the part.
     ///
     /// ```
     /// let mut value = JsonValue::from_str(alloc, "[1, 2, 3]")?;

@@ -4,9 +4,9 @@ use std::collections::HashMap;
 use std::mem;
 
 impl JsonValue {
-    /// Frees the value, however deep it is nested, in linear time and without taking memory: the outer
-    /// 64 levels by a recursion, and deeper ones by a loop, which keeps what is still to be freed in the
-    /// containers that it has reached.
+    /// Frees the value, however deep it is nested, in linear time and without taking memory. The outer
+    /// 64 levels are freed by a recursion, and deeper ones by a loop, which keeps what is still to be
+    /// freed in the containers that it has reached.
     ///
     /// The language frees a value that goes out of scope by a recursion over its levels.
     ///

@@ -12,7 +12,7 @@ use Rattle.tinyjson_number.specs.declared.scan.Mantissa.{Mantissa}
 abbrev pub is_minus : ℕ → Bool
 is_minus c = c == minus_sign
 
--- a text is what stands before an exponent, and a rest
+-- a text is what precedes an exponent, and a rest
 pub record IsMantissa (negative : Bool) (integer fraction text rest : List ℕ) : Type 0 where
   pub integer_digits : AreDigits integer
   pub some_digit : 0 < length integer

@@ -1,4 +1,4 @@
--- What a cursor shows stands in front of what it gives. For private contracts.
+-- What a cursor gives begins with what it shows. For private contracts.
 use Rattle.std.specs.Prelude.{◌≡◌, ℕ, List, [], ◌∷◌, ◌++◌, Option, Some, None}
 use Rattle.std.specs.Option.{option_to_list}
 use Rattle.std.proofs.Common.{ap, sym, ◌∙◌}
@@ -10,7 +10,7 @@ module _ {S : Type 0} (steps : S → Option ℕ → S → Type 0) where
   pub nothing_left : (p : Cursor S) (zs : List ℕ) → Shows p None → Gives steps p zs → zs ≡ []
   nothing_left p zs s g = g.is ∙ ap (λ o. option_to_list o ++ g.later) s.peeked ∙ g.ended s.ended
 
-  -- what is shown stands in front
+  -- what is shown comes first
   pub shown_first : (p : Cursor S) (zs : List ℕ) (c : ℕ) → Shows p (Some c) → Gives steps p zs → (cs : List ℕ) × (zs ≡ c ∷ cs)
   shown_first p zs c s g = (g.later, g.is ∙ ap (λ o. option_to_list o ++ g.later) s.peeked)
 

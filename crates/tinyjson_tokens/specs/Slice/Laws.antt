@@ -1,4 +1,4 @@
--- Lines and columns are bounded, and what is shown stands in front. For private contracts.
+-- Lines and columns are bounded, and what is shown comes first. For private contracts.
 use Rattle.std.specs.Prelude.{◌≡◌, ℕ, ◌+◌, ◌<◌, ◌==◌, cond, List, [], ◌∷◌, length, Option, Some, None, slice_get}
 use Rattle.std.specs.Option.{unwrap_or}
 use Rattle.std.proofs.Common.{ap, sym, ◌∙◌}
@@ -20,7 +20,7 @@ module _ (cs : List ℕ) where
   pub shown_once : (o u : Option ℕ) → slice_get cs 0 ≡ o → slice_get cs 0 ≡ u → o ≡ u
   shown_once o u a b = sym a ∙ b
 
--- what is shown stands in front
+-- what is shown comes first
 pub shown_first : (cs zs : List ℕ) (c : ℕ) → slice_get cs 0 ≡ Some c → zs ≡ cs → (ds : List ℕ) × (zs ≡ c ∷ ds)
 shown_first [] zs c s g = absurd cc
 shown_first (x ∷ xs) zs c s g = (xs, g ∙ ap (λ o. unwrap_or o x ∷ xs) s)
