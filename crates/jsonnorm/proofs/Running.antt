@@ -58,12 +58,14 @@ module _ (limit : Option ℕ) (is_indented : Bool) (unread left held : Option (L
       P x = Runs limit is_indented unread left held held (Err x)
 
   pub wrote : (n : Parsed) (holds : Option (List ℕ)) → TellsText (IsParsed is_indented) limit (chars bytes) (Ok n)
-      → ((t : Tree) → IsParsed is_indented n t → Written held holds (line_of is_indented t) []) → Runs limit is_indented unread left held holds (Ok tt)
+      → ((t : Tree) → IsParsed is_indented n t → Written held holds (line_of is_indented t) [])
+      → Runs limit is_indented unread left held holds (Ok tt)
   wrote n holds h w =
       let a = h.answer in
       record { read = bytes; taken = taken; says = (end, (a.1, record { utf8 = utf8; text = a.2 }, w a.1 a.3)) }
 
-  pub stopped : {M : Type 0} (n : Parsed) (holds : Option (List ℕ)) (f : RunFault) → TellsText (IsParsed is_indented) limit (chars bytes) (Ok n)
+  pub stopped : {M : Type 0} (n : Parsed) (holds : Option (List ℕ)) (f : RunFault)
+      → TellsText (IsParsed is_indented) limit (chars bytes) (Ok n)
       → ((t : Tree) → IsParsed is_indented n t → WrittenPart held holds (line_of is_indented t)) → IsMemoryOr M Writing f
       → Runs limit is_indented unread left held holds (Err f)
   stopped n holds f h w why =

@@ -1,5 +1,6 @@
 -- What a text of the grammar gives is a sound tree, no deeper than the text.
-use Rattle.std.proofs.Common.{◌≡◌, ℕ, ◌<◌, ◌≤◌, max, Bool, true, false, cond, List, [], ◌∷◌, Option, refl, sym, subst, arith, IsTrue, not, ◌&&◌}
+use Rattle.std.proofs.Common.{◌≡◌, ℕ, ◌<◌, ◌≤◌, max, Bool, true, false, cond, List, [], ◌∷◌, Option}
+use Rattle.std.proofs.Common.{refl, sym, subst, arith, IsTrue, not, ◌&&◌}
 use Rattle.std.specs.Prelude.{⊤, unwrap_or}
 use Rattle.std.specs.Int.{Width}
 use Rattle.std.specs.Char.{IsScalar, digit_value}
@@ -90,7 +91,8 @@ are_put_at width Less k l t u ms a b c later = (a, b, c)
 are_put_at width Equal k l t u ms a b c later = (a, b, c.2)
 are_put_at width Greater k l t u ms a b c later = (c.0, c.1, later)
 
-pub are_put : (width : Width) (k : List ℕ) (t : tree.Tree) (ms : tree.Members) → IsTrue (all_scalars k) → IsTreeAt width t → AreMembersAt width ms
+pub are_put : (width : Width) (k : List ℕ) (t : tree.Tree) (ms : tree.Members)
+    → IsTrue (all_scalars k) → IsTreeAt width t → AreMembersAt width ms
     → AreMembersAt width (tree.put k t ms)
 are_put width k t tree.no_members a b c = (a, b, tt)
 are_put width k t (tree.member l u ms) a b c = are_put_at width (key_cmp k l) k l t u ms a b c (are_put width k t ms a b c.2)

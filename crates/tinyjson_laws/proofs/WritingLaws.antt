@@ -4,7 +4,8 @@ use Rattle.tinyjson_number.specs.Numeral.{power_width}
 use Rattle.tinyjson_grammar.specs.Syntax.{text}
 use Rattle.tinyjson_grammar.specs.Text as written
 use Rattle.tinyjson_grammar.proofs.Callers.Laws.{only_tree, written_text, from_text}
-use Rattle.tinyjson_laws.specs.Writing.{CompactReadsBack, IndentedReadsBack, SameCompact, SameIndented, SameNormal, WrittenOnce, CompactWithin}
+use Rattle.tinyjson_laws.specs.Writing.{CompactReadsBack, IndentedReadsBack, SameCompact, SameIndented, SameNormal}
+use Rattle.tinyjson_laws.specs.Writing.{WrittenOnce, CompactWithin}
 use Rattle.tinyjson_laws.specs.Writing.{IndentedWithin, LimitKept, TextsAreUtf8, CompactIsUtf8, IndentedIsUtf8}
 use Rattle.tinyjson_laws.proofs.ReadingLaws.{tree_within, rewritten}
 use Rattle.tinyjson_grammar.proofs.Callers.{compact_text, one_compact, text_sound}

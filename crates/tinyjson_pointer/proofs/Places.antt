@@ -19,7 +19,8 @@ use Rattle.tinyjson.specs.declared.value.JsonValue.{JsonValue}
 use Rattle.tinyjson.specs.declared.value.JsonValue.TheVariants as is
 use Rattle.tinyjson_pointer.proofs.Changing.{items_inserted, none_inserted, items_removed}
 use Rattle.tinyjson_pointer.proofs.Steps.{no_item}
-use Rattle.tinyjson_pointer.specs.Change.{place_of, with_item_before, with_child, without_child, without_item, without_step, Inserts, Removes}
+use Rattle.tinyjson_pointer.specs.Change.{place_of, with_item_before, with_child, without_child, without_item, without_step}
+use Rattle.tinyjson_pointer.specs.Change.{Inserts, Removes}
 use Rattle.tinyjson_pointer.specs.Index.{index_of}
 use Rattle.tinyjson_pointer.specs.Tokens.{begins_with}
 use Rattle.tinyjson_pointer.specs.Walk.{step, item_of}

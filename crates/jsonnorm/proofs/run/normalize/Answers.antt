@@ -29,4 +29,5 @@ returns-in-Err-written g c =
     let same = u.0 ∙ c.as_slice.ensures.value ∙ r.answer.0 in
     let taken = subst (Consumes (g.R.Read.remaining c.args.input.now) (g.R.Read.remaining c.read_all.new.input)) (sym same) r.taken in
     stopped c.args.options.limit c.args.options.indented _ _ _ c.in-Ok.text.now taken r.answer.1 (subst IsUtf8 (sym u.0) u.1)
-    c.in-Ok-parsed.parsed _ c.writing_error.result c.in-Ok-parsed.ensures (c.in-Err-written.ensures c.args.options.indented) c.writing_error.ensures
+    c.in-Ok-parsed.parsed _ c.writing_error.result c.in-Ok-parsed.ensures
+    (c.in-Err-written.ensures c.args.options.indented) c.writing_error.ensures

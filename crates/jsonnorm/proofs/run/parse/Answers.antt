@@ -5,4 +5,5 @@ use Rattle.jsonnorm.specs.Parsed.{IsParsed}
 use Rattle.jsonnorm.proofs.run.parse.Goals as goal
 
 pub returns-in-Err : goal.returns-in-Err
-returns-in-Err c = same_error HasNodes (IsParsed c.args.options.indented) c.args.options.limit (chars c.args.text.now) c.in-Err.error c.in-Err.ensures
+returns-in-Err c = same_error HasNodes (IsParsed c.args.options.indented) c.args.options.limit (chars c.args.text.now)
+    c.in-Err.error c.in-Err.ensures
