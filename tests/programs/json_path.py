@@ -401,7 +401,7 @@ UNDER = b"[" * 100_000 + b"0,7" + b"]" * 100_000
 
 
 # Where a 65th expression would begin in the others.
-TOO_DEEP = "the query: more than 64 expressions in each other at character %d"
+TOO_DEEP = "the query: more than 64 nested expressions at character %d"
 
 
 def nested(before, inner, after):

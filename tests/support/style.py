@@ -2,7 +2,7 @@
 
 The words, the sentences and the phrases are those of the prose: blocks of code are left out, and a code span is one
 word. The pages are read in one form: a list of paragraphs, with an item of a list as one, and a list of cells of tables.
-Of comments only the phrases are looked for.
+Of comments the phrases and the length of sentences are looked for.
 """
 
 import re
@@ -98,7 +98,10 @@ def comments(path):
 
 
 def comment_faults(path):
-    """The lines of a file's comments that are to be said in plain words."""
+    """What is wrong with how a file's comments are written: of each the number of the comment's first line."""
     for first, text in comments(path):
         for phrase in PHRASE.finditer(text):
-            yield first, text[max(0, phrase.start() - 30):phrase.end() + 10]
+            yield first, f"say this in plain words: {text[max(0, phrase.start() - 30):phrase.end() + 10]}"
+        for sentence in sentences([text]):
+            if count(sentence) > LONGEST:
+                yield first, f"a sentence of {count(sentence)} words, more than {LONGEST}: {sentence[:60]}"

@@ -9,7 +9,7 @@ use Rattle.tinyjson_path_query.specs.declared.error.ParseErrorKind.TheVariants.{
 abbrev pub kind_message : ParseErrorKind → List ℕ
 kind_message Invalid = codes "no query of RFC 9535"
 kind_message NumberOutOfRange = codes "a number whose power of ten is out of range"
-kind_message TooDeep = codes "more than 64 expressions in each other"
+kind_message TooDeep = codes "more than 64 nested expressions"
 kind_message OutOfMemory = codes "out of memory"
 
 -- the message of an error: that of its kind, and its place

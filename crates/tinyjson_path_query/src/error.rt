@@ -27,7 +27,7 @@ impl fmt::Display for ParseErrorKind {
         f.write_str(match self {
             ParseErrorKind::Invalid => "no query of RFC 9535",
             ParseErrorKind::NumberOutOfRange => "a number whose power of ten is out of range",
-            ParseErrorKind::TooDeep => "more than 64 expressions in each other",
+            ParseErrorKind::TooDeep => "more than 64 nested expressions",
             ParseErrorKind::OutOfMemory => "out of memory",
         })
     }
