@@ -40,8 +40,8 @@ abbrev pub reference_accepts : Tree → Judge → Tree → Tree → Bool
 reference_accepts root f s t = target_accepts root kw.Ref f s t && target_accepts root kw.DynamicRef f s t
 
 -- The schema s accepts the tree t, given the results a of the schemas that s applies, in s or elsewhere in the root
--- schema: t meets the assertions and the applicators, the schema for each part accepts it, and so does the one for
--- what is not evaluated.
+-- schema. So t meets the assertions and the applicators, the schema for each part accepts it, and so does the one
+-- for what is not evaluated.
 abbrev pub accepts_by : Tree → Answers → Judge
 accepts_by root a s t = not (refuses_all s) && (meets_all assertions s t && (apply_all a.accepts tests s t
     && (apply_all a.accepts demands s t && (reference_accepts root a.accepts s t && (parts_accepted a.accepts s t

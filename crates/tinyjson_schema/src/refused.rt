@@ -42,9 +42,10 @@ pub enum Reason {
     PatternLimit,
 }
 
-/// A place in the schema that can't be applied: a keyword's value whose form is not the standard's; a reference
-/// that leads to no schema in it, or in a circle; a schema that is neither an object nor a boolean; or a pattern
-/// that is too deep or too large. `None` means that the schema can be applied. The only error is out of memory.
+/// A place in the schema that can't be applied. It has a keyword's value whose form is not the standard's, or a
+/// schema that is neither an object nor a boolean. Or a reference there leads to no schema, or in a circle. Or a
+/// pattern is too deep or too large. `None` means that the schema can be applied. The only error is out
+/// of memory.
 ///
 /// It is recursive: it takes stack with the nesting of the schema.
 pub fn refused_place(

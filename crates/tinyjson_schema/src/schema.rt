@@ -25,9 +25,9 @@ pub struct Schema<'s> {
 /// Why a tree is not accepted as a schema.
 #[derive(Drop)]
 pub enum SchemaError {
-    /// The tree can't be applied at this place: a keyword's value whose form is not the standard's; a reference
-    /// that leads to no schema in the tree, or in a circle; a name that another schema has; or a schema that is
-    /// neither an object nor a boolean.
+    /// The tree can't be applied at this place. It has a keyword's value whose form is not the standard's, or
+    /// a schema that is neither an object nor a boolean. Or a reference there leads to no schema in the tree, or in
+    /// a circle. Or it has a name that another schema has.
     Refused(Pointer),
     /// The pattern at this place is too deep or too large.
     PatternLimit(Pointer),

@@ -199,8 +199,8 @@ Places = List ℕ → Option (List ℕ)
 
 -- ---- where references lead
 
--- the place of a URI; the place to which a dynamic reference leads from a schema with the base URI b, given its
--- resource and its name; and the place, in the document or in a copy, at which a place is found from such a schema
+-- The place of a URI. The place to which a dynamic reference leads from a schema with the base URI b, given its
+-- resource and its name. The place, in the document or in a copy, at which a place is found from such a schema.
 abbrev pub Leads : Type 0
 Leads = Places × (List ℕ → List ℕ → List ℕ → Option (List ℕ)) × (List ℕ → List ℕ → List ℕ)
 

@@ -16,9 +16,9 @@ use std::collections::BTreeMap;
 use tinyjson_schema_keywords::read_pointer;
 use uri_reference::fragment;
 
-/// What references are resolved with: the place of each URI, all marks, and the URI of the root; whether dynamic
-/// references lead to different places, the states that have a copy, and the letters with which the copies' keys
-/// begin; and the allocator.
+/// What references are resolved with: the place of each URI, all marks, the URI of the root, and the allocator. For
+/// dynamic references also whether they lead to different places, the states that have a copy, and the letters with
+/// which the copies' keys begin.
 #[derive(Clone, Copy)]
 pub struct Guide<'a> {
     pub places: &'a BTreeMap<String, String>,
