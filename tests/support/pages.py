@@ -9,6 +9,7 @@ import select
 import shlex
 import subprocess
 import tempfile
+import tty
 
 from running import LIMIT, program, reported, run_of
 
@@ -114,6 +115,7 @@ class Page:
         checks.row(f"{self.name}: the reader of the page has gone", GONE, self.unread, ["--help"])
         head = b"".join(self.run(self.words, self.given)[1].splitlines(True)[:1])
         checks.row(f"{self.name}: the first line, and the reader has gone", head.decode(), self.shell, f"{self.command()} | head -n 1")
+        checks.row(f"{self.name}: the page on a terminal", self.page().encode(), self.page_on_terminal)
         checks.row(f"{self.name}: one end on a terminal", (True, self.run(self.words, self.given)[1]), self.on_terminal)
         if self.is_lines:
             checks.row(f"{self.name}: a slow pipe", self.run(self.words, b"[1]\n")[1], self.slowly, b"[1]\n")
@@ -144,6 +146,20 @@ class Page:
             ran.stdin.close()
             ran.wait(timeout=LIMIT)
         return come
+
+    def page_on_terminal(self):
+        """What `--help` prints where its output is a terminal."""
+        ours, theirs = pty.openpty()
+        tty.setraw(theirs)
+        wanted, shown = len(self.page()), b""
+        try:
+            with subprocess.Popen([program(self.name), "--help"], stdin=subprocess.DEVNULL, stdout=theirs):
+                while len(shown) < wanted and select.select([ours], [], [], SOON)[0]:
+                    shown += os.read(ours, 4096)
+            return shown
+        finally:
+            os.close(ours)
+            os.close(theirs)
 
     def on_terminal(self):
         """Whether the program ends at the first end of input on a terminal, and what it prints."""
