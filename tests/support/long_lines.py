@@ -68,12 +68,11 @@ class LongLines:
     def check_files(self, checks):
         """The lines of each file are counted by themselves, and a message begins with the file's name."""
         with tempfile.TemporaryDirectory() as folder:
-            for name, text in (("a", b"1\n2\n"), ("b", b"1\n[1,23]\n2\n")):
+            for name, text in (("a", b"1\n2\n"), ("b", b"3\n[1,23]\n4\n")):
                 with open(os.path.join(folder, name), "wb") as file:
                     file.write(text)
-            lines = self.reached([b"1", b"2", b"1", 5, b"2"])
-            status, output, _ = self.answer(lines)
-            expected = (status, output, b"b:2: longer than 5 bytes\n")
+            first, second = self.answer([b"1", b"2"]), self.answer(self.reached([b"3", 5, b"4"]))
+            expected = (second[0], first[1] + second[1], b"b:2: longer than 5 bytes\n")
             checks.row(f"{self.name}: a longer line of a file", expected, self.run, ["-m5", "a", "b"], b"", cwd=folder)
 
     def check_memory(self, checks):
