@@ -20,11 +20,17 @@ returns-in-Ok g c =
 pub returns-else-is_out_of_memory : goal.returns-else-is_out_of_memory
 returns-else-is_out_of_memory g c =
     let h = c.in-Err.ensures in
-    let other : ¬ (error_kind c.in-Err.error ≡ kind.OutOfMemory) = λ k. false≢true (c.if-is_out_of_memory.ensures.1 k) in
-    ((record {
-      consumed = h.consumed;
-      rest = h.rest;
-      whole = h.whole;
-      answer = (h.answer.0, h.answer.1 other);
-      refused = h.refused;
-    }, other, h.refused other), Keeps-refl _)
+    let other : ¬ (error_kind c.in-Err.error ≡ kind.OutOfMemory) = λ k. false≢true (c.if-is_out_of_memory.ensures.1 k) in (
+      (
+        record {
+          consumed = h.consumed;
+          rest = h.rest;
+          whole = h.whole;
+          answer = (h.answer.0, h.answer.1 other);
+          refused = h.refused;
+        },
+        other,
+        h.refused other,
+      ),
+      Keeps-refl _,
+    )
