@@ -1,16 +1,17 @@
 -- What an error of a part of a query says of the whole.
 use Rattle.std.proofs.Common.{◌≡◌, ℕ, ◌<◌, ◌==◌, false, not, List, [], ◌∷◌, ◌++◌, map, length, get_or, refl, sym, ap}
-use Rattle.std.proofs.Common.{◌∙◌, subst}
+use Rattle.std.proofs.Common.{◌∙◌, subst, Bor}
 use Rattle.std.proofs.Common.{rules, Result, Option, suc, arith}
 use Rattle.std.proofs.lemmas.Bool.Decides.{nat_tests}
 use Rattle.std.specs.Prelude.{IsErrAnd, IfErr}
 use Rattle.tinyjson.specs.Tree.{Tree}
+use Rattle.tinyjson.specs.View.{view}
+use Rattle.tinyjson.specs.declared.value.JsonValue.{JsonValue}
 use Rattle.tinyjson_path.specs.Comparing.{origin_tree}
-use Rattle.tinyjson_path.specs.Nodes.{Part, part_view, parts_view, tree_of}
+use Rattle.tinyjson_path.specs.Nodes.{Part, part_view, parts_view}
 use Rattle.tinyjson_path.specs.Queries.{holds_of, found_by, is_some_part, comparable_value}
 use Rattle.tinyjson_path.specs.Strings.{Texts, joined, strings_in, strings_at, strings_of, comparable_strings, IsFrom, IsFromAny}
 use Rattle.tinyjson_path.specs.declared.node.Node.{Node}
-use Rattle.tinyjson_path.specs.declared.value.NodeValue.{NodeValue}
 use Rattle.tinyjson_path.specs.declared.patterns.FindError.{FindError}
 use Rattle.tinyjson_path.proofs.Stated.{comparable_keeps}
 use Rattle.tinyjson_path.proofs.Selected.{AreWithin, are_within, is_origin}
@@ -116,9 +117,9 @@ error_of_root whole part root r e k =
     k
 
 -- of a root that is the same
-pub error_at : (part below : Texts) (d : FindError) {r s : NodeValue} → r ≡ s → IsFromAny part (tree_of r) below d
-    → IsFromAny part (tree_of s) below d
-error_at part below d e k = subst (λ x. IsFromAny part (tree_of x) below d) e k
+pub error_at : (part below : Texts) (d : FindError) {r s : Bor JsonValue} → r ≡ s → IsFromAny part (view r.now) below d
+    → IsFromAny part (view s.now) below d
+error_at part below d e k = subst (λ x. IsFromAny part (view x.now) below d) e k
 
 -- ---- a test
 

@@ -1,36 +1,34 @@
 //! What filters compare (RFC 9535, 2.3.5.2.2), and the functions of values.
-ghost use Rattle.std.specs.Prelude.{◌≡◌, Some, IfOk, length, option_map};
-ghost use Rattle.std.specs.Str.{chars};
+ghost use Rattle.std.specs.Prelude.{◌≡◌, ◌<◌, Some, IfOk, option_map};
+ghost use Rattle.tinyjson.specs.View.{view};
 ghost use Rattle.tinyjson_path.specs.Comparing.{compares, is_same, is_below, is_tree_less, literal_tree};
-ghost use Rattle.tinyjson_path.specs.Comparing.{one_at, one_tree, origin_tree};
+ghost use Rattle.tinyjson_path.specs.Comparing.{one_at, one_child, one_tree, origin_tree};
 ghost use Rattle.tinyjson_path.specs.Comparing.{length_of, count_of, value_of, size_of, whole};
-ghost use Rattle.tinyjson_path.specs.Nodes.{parts_view, tree_of};
-ghost use Rattle.tinyjson_path.specs.Seen.{numbers_less, operand_tree, texts_less, value_tree};
+ghost use Rattle.tinyjson_path.specs.Nodes.{parts_view};
+ghost use Rattle.tinyjson_path.specs.Seen.{operand_tree, value_tree};
 
-use crate::children::one_child;
+use crate::children::{child_at, child_named};
 use crate::node::Node;
-use crate::value::NodeValue;
 use std::alloc::{AllocError, Global};
-use tinyjson::{JsonKind, JsonNumber, JsonValue};
+use tinyjson::{JsonNumber, JsonValue, sorted_members};
 use tinyjson_compare::is_less;
-use tinyjson_document::JsonView;
 use tinyjson_path_query::{ComparisonOperator, Literal, Origin, SingularQuery, SingularSegment};
 
 /// A value that is compared: a part of the input, or a value of the filter's own.
 pub(crate) enum Operand<'v> {
-    Part(NodeValue<'v>),
+    Part(&'v JsonValue),
     // In a box, for the stack that a filter in a filter takes.
     Own(Box<JsonValue>),
 }
 
 /// The value, if there is one.
-pub(crate) fn value_of<'a>(operand: &'a Option<Operand>) -> Option<NodeValue<'a>>
+pub(crate) fn value_of<'a>(operand: &'a Option<Operand>) -> Option<&'a JsonValue>
     ensures { value_tree result ≡ option_map operand_tree operand.now }
 {
     match operand {
         None => None,
         Some(Operand::Part(value)) => Some(*value),
-        Some(Operand::Own(value)) => Some(NodeValue::InValue(value)),
+        Some(Operand::Own(value)) => Some(value),
     }
 }
 
@@ -63,7 +61,11 @@ pub(crate) fn compare(
     is_so
 }
 
-fn compares(operator: ComparisonOperator, left: Option<NodeValue>, right: Option<NodeValue>) -> bool
+fn compares(
+    operator: ComparisonOperator,
+    left: Option<&JsonValue>,
+    right: Option<&JsonValue>,
+) -> bool
     ensures { result ≡ compares operator (value_tree left.entry) (value_tree right.entry) }
 {
     match operator {
@@ -76,17 +78,17 @@ fn compares(operator: ComparisonOperator, left: Option<NodeValue>, right: Option
     }
 }
 
-fn is_same(left: Option<NodeValue>, right: Option<NodeValue>) -> bool
+fn is_same(left: Option<&JsonValue>, right: Option<&JsonValue>) -> bool
     ensures { result ≡ is_same (value_tree left.entry) (value_tree right.entry) }
 {
     match (left, right) {
         (None, None) => true,
-        (Some(left), Some(right)) => left.equals(&right),
+        (Some(left), Some(right)) => *left == *right,
         _ => false,
     }
 }
 
-fn is_below(left: Option<NodeValue>, right: Option<NodeValue>) -> bool
+fn is_below(left: Option<&JsonValue>, right: Option<&JsonValue>) -> bool
     ensures { result ≡ is_below (value_tree left.entry) (value_tree right.entry) }
 {
     match (left, right) {
@@ -95,40 +97,14 @@ fn is_below(left: Option<NodeValue>, right: Option<NodeValue>) -> bool
     }
 }
 
-fn is_value_less(left: NodeValue, right: NodeValue) -> bool
-    ensures { result ≡ is_tree_less (tree_of left.entry) (tree_of right.entry) }
-{
-    match left.kind() {
-        JsonKind::Number => is_number_less(left.number(), right.number()),
-        JsonKind::String => is_string_less(left.string(), right.string()),
-        _ => false,
-    }
-}
-
-fn is_number_less(left: Option<&JsonNumber>, right: Option<&JsonNumber>) -> bool
-    ensures { result ≡ numbers_less (option_map (λ n. n.now.decimal) left.entry)
-        (option_map (λ n. n.now.decimal) right.entry) }
+fn is_value_less(left: &JsonValue, right: &JsonValue) -> bool
+    ensures { result ≡ is_tree_less (view left.now) (view right.now) }
 {
     match (left, right) {
-        (Some(left), Some(right)) => is_less(left, right),
+        (JsonValue::Number(left), JsonValue::Number(right)) => is_less(left, right),
+        (JsonValue::String(left), JsonValue::String(right)) => left.as_str() < right.as_str(),
         _ => false,
     }
-}
-
-fn is_string_less(left: Option<&str>, right: Option<&str>) -> bool
-    ensures { result ≡ texts_less (option_map (λ s. chars s.now) left.entry)
-        (option_map (λ s. chars s.now) right.entry) }
-{
-    match (left, right) {
-        (Some(left), Some(right)) => is_text_less(left, right),
-        _ => false,
-    }
-}
-
-fn is_text_less(left: &str, right: &str) -> bool
-    ensures { result ≡ texts_less (Some (chars left.now)) (Some (chars right.now)) }
-{
-    left < right
 }
 
 pub(crate) fn literal_value<'v>(
@@ -147,8 +123,8 @@ pub(crate) fn literal_value<'v>(
 }
 
 /// Where a query inside a filter begins.
-pub(crate) fn start<'v>(origin: Origin, root: NodeValue<'v>, here: NodeValue<'v>) -> NodeValue<'v>
-    ensures { tree_of result ≡ origin_tree origin (tree_of root.entry) (tree_of here.entry) }
+pub(crate) fn start<'v>(origin: Origin, root: &'v JsonValue, here: &'v JsonValue) -> &'v JsonValue
+    ensures { view result.now ≡ origin_tree origin (view root.now) (view here.now) }
 {
     match origin {
         Origin::Root => root,
@@ -159,11 +135,10 @@ pub(crate) fn start<'v>(origin: Origin, root: NodeValue<'v>, here: NodeValue<'v>
 /// The value of the one node that the query selects, if it selects one.
 pub(crate) fn singular_value<'v>(
     query: &SingularQuery,
-    root: NodeValue<'v>,
-    here: NodeValue<'v>,
+    root: &'v JsonValue,
+    here: &'v JsonValue,
 ) -> Option<Operand<'v>>
-    ensures { option_map operand_tree result
-        ≡ one_tree query.now (tree_of root.entry) (tree_of here.entry) }
+    ensures { option_map operand_tree result ≡ one_tree query.now (view root.now) (view here.now) }
 {
     match descend_singly(query.segments.as_slice(), start(query.origin, root, here)) {
         Some(value) => Some(Operand::Part(value)),
@@ -171,8 +146,8 @@ pub(crate) fn singular_value<'v>(
     }
 }
 
-fn descend_singly<'v>(segments: &[SingularSegment], value: NodeValue<'v>) -> Option<NodeValue<'v>>
-    ensures { value_tree result ≡ one_at segments.now (tree_of value.entry) }
+fn descend_singly<'v>(segments: &[SingularSegment], value: &'v JsonValue) -> Option<&'v JsonValue>
+    ensures { value_tree result ≡ one_at segments.now (view value.now) }
 {
     let mut here = value;
     for segment in segments {
@@ -184,6 +159,21 @@ fn descend_singly<'v>(segments: &[SingularSegment], value: NodeValue<'v>) -> Opt
     Some(here)
 }
 
+fn one_child<'v>(segment: &SingularSegment, value: &'v JsonValue) -> Option<&'v JsonValue>
+    ensures { value_tree result ≡ one_child segment.now (view value.now) }
+{
+    match segment {
+        SingularSegment::Name(name) => match child_named(value, name.as_str()) {
+            Some((_, child)) => Some(child),
+            None => None,
+        },
+        SingularSegment::Index(index) => match child_at(value, *index) {
+            Some((_, child)) => Some(child),
+            None => None,
+        },
+    }
+}
+
 /// `length` (RFC 9535, 2.4.4) of the operand, which is consumed.
 pub(crate) fn length<'v>(
     alloc: Global,
@@ -193,34 +183,26 @@ pub(crate) fn length<'v>(
         ≡ length_of (option_map operand_tree argument.entry)) }
 {
     let size = match value_of(&argument) {
-        Some(value) => size(value),
-        None => None,
+        Some(value) => size(alloc, value),
+        None => Ok(None),
     };
     release(argument);
-    match size {
+    match size? {
         Some(size) => whole(alloc, size),
         None => Ok(None),
     }
 }
 
 /// The number of characters of a string, of items of an array, or of members of an object.
-fn size(value: NodeValue) -> Option<usize>
-    ensures { result ≡ size_of (tree_of value.entry) }
+fn size(alloc: Global, value: &JsonValue) -> Result<Option<usize>, AllocError>
+    ensures { IfOk result (λ n. n ≡ size_of (view value.now)) }
 {
-    match value.kind() {
-        JsonKind::String => match value.string() {
-            Some(text) => Some(character_count(text)),
-            None => None,
-        },
-        JsonKind::Array | JsonKind::Object => Some(value.len()),
-        _ => None,
+    match value {
+        JsonValue::String(text) => Ok(Some(text.as_str().chars().count())),
+        JsonValue::Array(items) => Ok(Some(items.len())),
+        JsonValue::Object(members) => Ok(Some(sorted_members(alloc, members)?.len())),
+        _ => Ok(None),
     }
-}
-
-fn character_count(text: &str) -> usize
-    ensures { result ≡ length (chars text.now) }
-{
-    text.chars().count()
 }
 
 /// A whole number.

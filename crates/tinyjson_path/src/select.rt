@@ -1,9 +1,7 @@
 //! The nodes that a query selects.
 ghost use Rattle.std.specs.Prelude.{◌≡◌, ◌++◌, ◌∷◌, [], reverse, OnOk, IfOk, IfErr, option_map};
 ghost use Rattle.tinyjson.specs.View.{view};
-ghost use Rattle.tinyjson_document.specs.Document.{tree};
 ghost use Rattle.tinyjson_path.specs.Nodes.{path_of, part_view, parts_view, root_part, children};
-ghost use Rattle.tinyjson_path.specs.Nodes.{tree_of};
 ghost use Rattle.tinyjson_path.specs.Queries.{query_parts, selector_parts, selected_by};
 ghost use Rattle.tinyjson_path.specs.Queries.{found_by, holds_of, kept, comparable_value};
 ghost use Rattle.tinyjson_path.specs.Patterns.{judged};
@@ -19,15 +17,13 @@ use crate::operand::{
     self, Operand, compare, literal_value, only_value, release, singular_value, start,
 };
 use crate::patterns::{FindError, Patterns};
-use crate::value::NodeValue;
 use std::alloc::{AllocError, Global};
 use tinyjson::JsonValue;
 use tinyjson_path_query::{Comparable, Expression, FunctionExpression, Query, Segment, Selector};
 
 /// Returns the nodes that the query selects in the value, in the order of RFC 9535, 2.1.2. A node that is selected
 /// twice is returned twice. The members of an object come in the order of their keys' bytes, since the RFC leaves
-/// their order open. Nodes borrow the value and the query. The errors are out of memory, and a regular expression that is
-/// too deep or too large.
+/// their order open. The errors are out of memory, and a regular expression that is too deep or too large.
 ///
 /// A regular expression that is a literal of the query is parsed once, when it is first needed; one from the value is
 /// kept for the next node with the same one. The stack grows with the nesting of the query, not with the depth of the
@@ -44,7 +40,7 @@ use tinyjson_path_query::{Comparable, Expression, FunctionExpression, Query, Seg
 /// assert_eq!(rt; path.as_str(), "$['a'][1]['b']");
 /// ```
 pub fn find<'v>(
-    query: &'v Query,
+    query: &Query,
     alloc: Global,
     value: &'v JsonValue,
 ) -> Result<Vec<Node<'v>>, FindError>
@@ -52,44 +48,12 @@ pub fn find<'v>(
         ≡ query_parts judged query.now (view value.now)) }
     ensures err { IfErr result (IsFrom (query_strings query.now ++ strings_in (view value.now))) }
 {
-    find_below(query, alloc, NodeValue::InValue(value))
-}
-
-/// Returns the nodes that the query selects in a value of a document, as [`find`] does in a `JsonValue`.
-///
-/// ```
-/// let document = Document::read(alloc, r#"{"a": [{"b": 1}, {"b": 2.50}]}"#)?;
-/// let query = Query::parse(alloc, "$.a[?@.b > 1].b")?;
-/// let nodes = find_in(&query, alloc, document.root())?;
-/// assert_eq!(rt; nodes.len(), 1);
-/// ```
-pub fn find_in<'v>(
-    query: &'v Query,
-    alloc: Global,
-    value: tinyjson_document::Node<'v>,
-) -> Result<Vec<Node<'v>>, FindError>
-    ensures ok { IfOk result (λ v. parts_view v.items
-        ≡ query_parts judged query.now (tree value.entry)) }
-    ensures err { IfErr result (IsFrom (query_strings query.now ++ strings_in (tree value.entry))) }
-{
-    find_below(query, alloc, NodeValue::InDocument(value))
-}
-
-fn find_below<'v>(
-    query: &'v Query,
-    alloc: Global,
-    root: NodeValue<'v>,
-) -> Result<Vec<Node<'v>>, FindError>
-    ensures ok { IfOk result (λ v. parts_view v.items
-        ≡ query_parts judged query.now (tree_of root.entry)) }
-    ensures err { IfErr result (IsFrom (query_strings query.now ++ strings_in (tree_of root.entry))) }
-{
     let mut finder = Finder {
         alloc,
-        root,
+        root: value,
         patterns: Patterns::new(alloc),
     };
-    finder.find_from(query.segments.as_slice(), root)
+    finder.find_from(query.segments.as_slice(), value)
 }
 
 /// The state of an evaluation.
@@ -97,7 +61,7 @@ fn find_below<'v>(
 struct Finder<'v> {
     alloc: Global,
     /// The value of `$`.
-    root: NodeValue<'v>,
+    root: &'v JsonValue,
     patterns: Patterns,
 }
 
@@ -107,14 +71,14 @@ impl<'v> Finder<'v> {
     #[cycle(selecting)]
     fn find_from(
         &mut self,
-        segments: &'v [Segment],
-        value: NodeValue<'v>,
+        segments: &[Segment],
+        value: &'v JsonValue,
     ) -> Result<Vec<Node<'v>>, FindError>
         ensures root { self.new.root ≡ self.old.root }
         ensures ok { IfOk result (λ v. parts_view v.items
-            ≡ found_by segments.now (tree_of self.old.root) (tree_of value.entry)) }
+            ≡ found_by segments.now (view self.old.root.now) (view value.now)) }
         ensures err { IfErr result (IsFromAny (segments_strings segments.now)
-            (tree_of self.old.root) (strings_in (tree_of value.entry))) }
+            (view self.old.root.now) (strings_in (view value.now))) }
     {
         let mut found = Vec::new(self.alloc);
         let mut waiting = first(self.alloc, value)?;
@@ -140,7 +104,7 @@ impl<'v> Finder<'v> {
     #[cycle(selecting)]
     fn push_selected(
         &mut self,
-        selectors: &'v [Selector],
+        selectors: &[Selector],
         node: &Node<'v>,
         segment: usize,
         waiting: &mut Vec<Waiting<'v>>,
@@ -148,9 +112,9 @@ impl<'v> Finder<'v> {
         ensures root { self.new.root ≡ self.old.root }
         ensures ok { OnOk result (waits_view waiting.new.items ≡ waits_view waiting.old.items
             ++ reverse (waits_at segment
-            (selected_by selectors.now (tree_of self.old.root) (part_view node.now)))) }
+            (selected_by selectors.now (view self.old.root.now) (part_view node.now)))) }
         ensures err { IfErr result (IsFromAny (selectors_strings selectors.now)
-            (tree_of self.old.root) (strings_in (tree_of node.now.value))) }
+            (view self.old.root.now) (strings_in (view node.now.value.now))) }
     {
         let mut selected = Vec::new(self.alloc);
         self.select_each(selectors, node, &mut selected)?;
@@ -160,15 +124,15 @@ impl<'v> Finder<'v> {
     #[cycle(selecting)]
     fn select_each(
         &mut self,
-        selectors: &'v [Selector],
+        selectors: &[Selector],
         node: &Node<'v>,
         selected: &mut Vec<Node<'v>>,
     ) -> Result<(), FindError>
         ensures root { self.new.root ≡ self.old.root }
         ensures ok { OnOk result (parts_view selected.new.items ≡ parts_view selected.old.items
-            ++ selected_by selectors.now (tree_of self.old.root) (part_view node.now)) }
+            ++ selected_by selectors.now (view self.old.root.now) (part_view node.now)) }
         ensures err { IfErr result (IsFromAny (selectors_strings selectors.now)
-            (tree_of self.old.root) (strings_in (tree_of node.now.value))) }
+            (view self.old.root.now) (strings_in (view node.now.value.now))) }
     {
         for selector in selectors {
             self.select(selector, node, selected)?;
@@ -179,15 +143,15 @@ impl<'v> Finder<'v> {
     #[cycle(selecting)]
     fn select(
         &mut self,
-        selector: &'v Selector,
+        selector: &Selector,
         node: &Node<'v>,
         selected: &mut Vec<Node<'v>>,
     ) -> Result<(), FindError>
         ensures root { self.new.root ≡ self.old.root }
         ensures ok { OnOk result (parts_view selected.new.items ≡ parts_view selected.old.items
-            ++ selector_parts selector.now (tree_of self.old.root) (part_view node.now)) }
+            ++ selector_parts selector.now (view self.old.root.now) (part_view node.now)) }
         ensures err { IfErr result (IsFromAny (selector_strings selector.now)
-            (tree_of self.old.root) (strings_in (tree_of node.now.value))) }
+            (view self.old.root.now) (strings_in (view node.now.value.now))) }
     {
         match selector {
             Selector::Name(name) => push_named(self.alloc, node, name.as_str(), selected)?,
@@ -205,16 +169,16 @@ impl<'v> Finder<'v> {
     #[cycle(selecting)]
     fn push_kept(
         &mut self,
-        expression: &'v Expression,
+        expression: &Expression,
         node: &Node<'v>,
         selected: &mut Vec<Node<'v>>,
     ) -> Result<(), FindError>
         ensures root { self.new.root ≡ self.old.root }
         ensures ok { OnOk result (parts_view selected.new.items ≡ parts_view selected.old.items
-            ++ kept (holds_of expression.now (tree_of self.old.root))
-            (children (path_of node.now) (tree_of node.now.value))) }
+            ++ kept (holds_of expression.now (view self.old.root.now))
+            (children (path_of node.now) (view node.now.value.now))) }
         ensures err { IfErr result (IsFromAny (expression_strings expression.now)
-            (tree_of self.old.root) (strings_in (tree_of node.now.value))) }
+            (view self.old.root.now) (strings_in (view node.now.value.now))) }
     {
         let children = children(self.alloc, node)?;
         for child in children.as_slice() {
@@ -227,12 +191,12 @@ impl<'v> Finder<'v> {
 
     /// Whether the expression holds of the value.
     #[cycle(selecting)]
-    fn holds(&mut self, expression: &'v Expression, here: NodeValue<'v>) -> Result<bool, FindError>
+    fn holds(&mut self, expression: &Expression, here: &'v JsonValue) -> Result<bool, FindError>
         ensures root { self.new.root ≡ self.old.root }
         ensures ok { IfOk result (λ b. b
-            ≡ holds_of expression.now (tree_of self.old.root) (tree_of here.entry)) }
+            ≡ holds_of expression.now (view self.old.root.now) (view here.now)) }
         ensures err { IfErr result (IsFromAny (expression_strings expression.now)
-            (tree_of self.old.root) (strings_in (tree_of here.entry))) }
+            (view self.old.root.now) (strings_in (view here.now))) }
     {
         match expression {
             Expression::Or(expressions) => {
@@ -285,14 +249,14 @@ impl<'v> Finder<'v> {
     #[cycle(selecting)]
     fn compared(
         &mut self,
-        comparable: &'v Comparable,
-        here: NodeValue<'v>,
+        comparable: &Comparable,
+        here: &'v JsonValue,
     ) -> Result<Option<Operand<'v>>, FindError>
         ensures root { self.new.root ≡ self.old.root }
         ensures ok { IfOk result (λ o. option_map operand_tree o
-            ≡ comparable_value comparable.now (tree_of self.old.root) (tree_of here.entry)) }
+            ≡ comparable_value comparable.now (view self.old.root.now) (view here.now)) }
         ensures err { IfErr result (IsFromAny (comparable_strings comparable.now)
-            (tree_of self.old.root) (strings_in (tree_of here.entry))) }
+            (view self.old.root.now) (strings_in (view here.now))) }
     {
         match comparable {
             Comparable::Literal(literal) => Ok(literal_value(self.alloc, literal)?),
@@ -324,8 +288,8 @@ struct Waiting<'v> {
 }
 
 /// What waits at first: the node of the value, for all segments.
-fn first<'v>(alloc: Global, value: NodeValue<'v>) -> Result<Vec<Waiting<'v>>, AllocError>
-    ensures { IfOk result (λ v. waits_view v.items ≡ (0, root_part (tree_of value.entry)) ∷ []) }
+fn first<'v>(alloc: Global, value: &'v JsonValue) -> Result<Vec<Waiting<'v>>, AllocError>
+    ensures { IfOk result (λ v. waits_view v.items ≡ (0, root_part (view value.now)) ∷ []) }
 {
     let mut waiting = Vec::new(alloc);
     let node = Node::root(alloc, value)?;
