@@ -11,9 +11,9 @@ use crate::verdict::Finding;
 use std::alloc::{AllocError, Global};
 use std::collections::HashMap;
 use std::io::{self, Write};
-use tinyjson::{JsonNumber, JsonValue, insert_member};
+use tinyjson::{JsonNumber, JsonValue};
 use tinyjson_lines::write_line;
-use tinyjson_pointer::Pointer;
+use tinyjson_pointer::{Pointer, put_member};
 
 /// Writes an output unit (Core, 12.4.2) as one line of normal text, with the number of the value's line if it has
 /// one.
@@ -37,7 +37,7 @@ fn output_unit(alloc: Global, line: Option<u64>, finding: &Finding) -> Result<Js
 {
     let mut members = HashMap::new(alloc);
     let error = String::from_str(alloc, finding.words.as_str())?;
-    put(alloc, &mut members, "error", JsonValue::String(error))?;
+    put_member(&mut members, "error", JsonValue::String(error), alloc)?;
     put_place(
         alloc,
         &mut members,
@@ -51,7 +51,7 @@ fn output_unit(alloc: Global, line: Option<u64>, finding: &Finding) -> Result<Js
         &finding.violation.keyword_location,
     )?;
     put_line(alloc, &mut members, line)?;
-    put(alloc, &mut members, "valid", JsonValue::Boolean(false))?;
+    put_member(&mut members, "valid", JsonValue::Boolean(false), alloc)?;
     Ok(JsonValue::Object(members))
 }
 
@@ -66,7 +66,7 @@ fn put_line(
     match line {
         Some(number) => {
             let number = JsonNumber::from_u64(alloc, number)?;
-            put(alloc, members, "line", JsonValue::Number(number))
+            put_member(members, "line", JsonValue::Number(number), alloc)
         }
         None => Ok(()),
     }
@@ -82,17 +82,5 @@ fn put_place(
         ≡ put (chars key.now) (place_tree place.now) (members_view members.old.entries)) }
 {
     let text = place.to_string(alloc)?;
-    put(alloc, members, key, JsonValue::String(text))
-}
-
-fn put(
-    alloc: Global,
-    members: &mut HashMap<String, JsonValue>,
-    key: &str,
-    value: JsonValue,
-) -> Result<(), AllocError>
-    ensures { OnOk result (members_view members.new.entries
-        ≡ put (chars key.now) (view value) (members_view members.old.entries)) }
-{
-    insert_member(members, String::from_str(alloc, key)?, value)
+    put_member(members, key, JsonValue::String(text), alloc)
 }

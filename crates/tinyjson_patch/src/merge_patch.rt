@@ -7,7 +7,8 @@ ghost use Rattle.tinyjson_patch.specs.Merge.{merge_patch, members_of};
 
 use std::alloc::{AllocError, Global};
 use std::collections::HashMap;
-use tinyjson::{JsonValue, discard_member, insert_member, remove_member};
+use tinyjson::{JsonValue, discard_member, remove_member};
+use tinyjson_pointer::put_member;
 
 /// Applies the patch to the target: `MergePatch(Target, Patch)` of RFC 7396, section 2.
 ///
@@ -68,23 +69,6 @@ fn take_or_null(members: &mut HashMap<String, JsonValue>, key: &str) -> JsonValu
         ≡ remove (chars key.now) (members_view members.old.entries) }
 {
     remove_member(members, key).unwrap_or(JsonValue::Null)
-}
-
-/// Inserts the value at the key, which it copies. If memory runs out, the value is freed.
-fn put_member(
-    members: &mut HashMap<String, JsonValue>,
-    key: &str,
-    value: JsonValue,
-    alloc: Global,
-) -> Result<(), AllocError>
-    ensures { OnOk result (members_view members.new.entries
-        ≡ put (chars key.now) (view value) (members_view members.old.entries)) }
-{
-    let Ok(key) = String::from_str(alloc, key) else {
-        value.dismantle();
-        return Err(AllocError);
-    };
-    insert_member(members, key, value)
 }
 
 /// Frees the members in a loop, and returns the error.

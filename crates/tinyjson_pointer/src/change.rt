@@ -1,7 +1,8 @@
 //! Inserts and removes parts of a value.
-ghost use Rattle.std.specs.Prelude.{◌≡◌, ℕ, ◌<◌, ◌≤◌, Some, IsSome, MatchOption, map, length, OnOk};
+ghost use Rattle.std.specs.Prelude.{◌≡◌, ℕ, ◌<◌, ◌≤◌, Some, IsSome, MatchOption, map, length, OnErr};
+ghost use Rattle.std.specs.Prelude.{OnOk};
 ghost use Rattle.std.specs.Str.{chars};
-ghost use Rattle.tinyjson.specs.Tree.{null, array, object};
+ghost use Rattle.tinyjson.specs.Tree.{null, array, object, put};
 ghost use Rattle.tinyjson.specs.View.{view, text, items_view, members_view};
 ghost use Rattle.tinyjson_pointer.specs.Change.{place_of, with_child, without_child, with_new_part};
 ghost use Rattle.tinyjson_pointer.specs.Change.{without_part, Inserts, Removes};
@@ -11,7 +12,7 @@ ghost use Rattle.tinyjson_pointer.specs.Walk.{step, part_at, with_part};
 use crate::index::index;
 use crate::pointer::Pointer;
 use crate::walk::replace_at;
-use std::alloc::Global;
+use std::alloc::{AllocError, Global};
 use std::collections::HashMap;
 use std::mem;
 use tinyjson::{JsonValue, insert_member, remove_member};
@@ -126,6 +127,32 @@ fn insert_child(
     Err(InsertError::NoPlace)
 }
 
+/// Puts the value at the key, which it copies into a string, in the place of what the members had there.
+///
+/// The only error is out of memory. Then the members are unchanged, and the value is freed by a loop.
+///
+/// ```
+/// let mut members = HashMap::new(alloc);
+/// put_member(&mut members, "foo", JsonValue::Null, alloc)?; // the members are then {"foo":null}
+/// ```
+#[inline(never)]
+pub fn put_member(
+    members: &mut HashMap<String, JsonValue>,
+    key: &str,
+    value: JsonValue,
+    alloc: Global,
+) -> Result<(), AllocError>
+    ensures ok { OnOk result (members_view members.new.entries
+        ≡ put (chars key.now) (view value) (members_view members.old.entries)) }
+    ensures err { OnErr result (members.new.entries ≡ members.old.entries) }
+{
+    let Ok(key) = String::from_str(alloc, key) else {
+        value.dismantle();
+        return Err(AllocError);
+    };
+    insert_member(members, key, value)
+}
+
 fn insert_at_key(
     alloc: Global,
     members: &mut HashMap<String, JsonValue>,
@@ -137,11 +164,7 @@ fn insert_at_key(
         (object (members_view members.old.entries)) result
         (object (members_view members.new.entries)) }
 {
-    let Ok(key) = String::from_str(alloc, key) else {
-        part.dismantle();
-        return Err(InsertError::OutOfMemory);
-    };
-    match insert_member(members, key, part) {
+    match put_member(members, key, part, alloc) {
         Ok(()) => Ok(()),
         Err(_) => Err(InsertError::OutOfMemory),
     }

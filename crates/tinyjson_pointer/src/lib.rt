@@ -14,5 +14,5 @@ mod siblings;
 mod view;
 mod walk;
 
-pub use change::InsertError;
+pub use change::{InsertError, put_member};
 pub use pointer::{Pointer, PointerError};

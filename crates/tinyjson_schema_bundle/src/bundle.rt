@@ -2,7 +2,6 @@
 ghost use Rattle.std.specs.Prelude.{◌≡◌, ◌&&◌, List, IfOk, OnOk, option_map};
 ghost use Rattle.std.specs.Str.{chars};
 ghost use Rattle.std.specs.String.{string_bytes};
-ghost use Rattle.tinyjson.specs.Tree.{put};
 ghost use Rattle.tinyjson.specs.View.{view, items_view, members_view, members_listed};
 ghost use Rattle.tinyjson_schema_keywords.specs.Anchors.{is_plain_name};
 ghost use Rattle.tinyjson_schema_keywords.specs.Forms.{form_at};
@@ -22,7 +21,8 @@ use crate::scope::{State, moved, place_of_dynamic, some_contested};
 use std::alloc::{AllocError, Global};
 use std::collections::{BTreeMap, HashMap};
 use std::str;
-use tinyjson::{JsonValue, insert_member, sorted_members};
+use tinyjson::{JsonValue, sorted_members};
+use tinyjson_pointer::put_member;
 use tinyjson_schema_keywords::{Form, Keyword, form_at, is_plain_name, percent_decoded};
 use uri_reference::{resolve, without_fragment};
 
@@ -241,24 +241,6 @@ pub fn put_some(
         Some(value) => put_member(members, key, value, alloc),
         None => Ok(()),
     }
-}
-
-/// Inserts the value at the key, which it copies into a string.
-#[inline(never)]
-pub fn put_member(
-    members: &mut HashMap<String, JsonValue>,
-    key: &str,
-    value: JsonValue,
-    alloc: Global,
-) -> Result<(), AllocError>
-    ensures { OnOk result (members_view members.new.entries
-        ≡ put (chars key.now) (view value) (members_view members.old.entries)) }
-{
-    let Ok(key) = String::from_str(alloc, key) else {
-        value.dismantle();
-        return Err(AllocError);
-    };
-    insert_member(members, key, value)
 }
 
 /// What remains of the value of a keyword without subschemas.

@@ -10,7 +10,7 @@ ghost use Rattle.tinyjson_schema_bundle.specs.Scopes.{letters_above, longest, lo
 ghost use Rattle.tinyjson_schema_bundle.specs.Scopes.{copy_by, copy_of, put_copies, defs_in};
 ghost use Rattle.tinyjson_schema_bundle.specs.Scopes.{with_defs, with_copies};
 
-use crate::bundle::{first_place, pointed, pointed_members, pointed_named, put_member, put_some};
+use crate::bundle::{first_place, pointed, pointed_members, pointed_named, put_some};
 use crate::guide::Guide;
 use crate::mark::{Kind, Spot};
 use crate::scope::{State, home, is_in_document, is_within, place_in_list, place_of_base, reached};
@@ -18,6 +18,7 @@ use std::alloc::{AllocError, Global};
 use std::collections::HashMap;
 use std::str;
 use tinyjson::{JsonValue, sorted_members};
+use tinyjson_pointer::put_member;
 use tinyjson_schema_keywords::{Keyword, at_pointer, percent_decoded, schema_at, schema_map_at};
 use uri_reference::resolve;
 

@@ -2,7 +2,6 @@
 ghost use Rattle.std.specs.Prelude.{◌≡◌, ◌&&◌, IfOk, OnOk, option_map};
 ghost use Rattle.tinyjson.specs.Access.{is_array};
 ghost use Rattle.std.specs.Str.{chars};
-ghost use Rattle.tinyjson.specs.Tree.{put};
 ghost use Rattle.tinyjson.specs.View.{view, items_view, members_view, members_listed};
 ghost use Rattle.tinyjson_schema_drafts.specs.Translated.{translated, in_words, words_among, value_of};
 ghost use Rattle.tinyjson_schema_drafts.specs.Translated.{list_in_words, items_in_words, map_in_words};
@@ -19,7 +18,8 @@ use crate::reference::reference_in_words;
 use crate::rule::{Rule, Traits, is_array, is_hidden, rule_of, traits_of};
 use std::alloc::{AllocError, Global};
 use std::collections::HashMap;
-use tinyjson::{JsonValue, insert_member, sorted_members};
+use tinyjson::{JsonValue, sorted_members};
+use tinyjson_pointer::put_member;
 use tinyjson_schema_keywords::{Keyword, operand, schema_at};
 use uri_reference::{fragment, without_fragment};
 
@@ -436,17 +436,4 @@ fn put_new(
         return Ok(());
     }
     put_member(members, keyword.name(), value, alloc)
-}
-
-/// Puts the value at the key, of which it makes a string.
-fn put_member(
-    members: &mut HashMap<String, JsonValue>,
-    key: &str,
-    value: JsonValue,
-    alloc: Global,
-) -> Result<(), AllocError>
-    ensures { OnOk result (members_view members.new.entries
-        ≡ put (chars key.now) (view value) (members_view members.old.entries)) }
-{
-    insert_member(members, String::from_str(alloc, key)?, value)
 }

@@ -18,4 +18,4 @@ returns-in_ok-number-in-Some c =
     let same : put (chars (codes "line")) (view (is.Number n)) old ≡ with_line c.args.line old
     = ap (λ k. put k (view (is.Number n)) old) (chars_literal (codes "line") refl)
     ∙ (ap (λ t. put (codes "line") t old) tree ∙ ap (λ o. with_line o old) (sym c.in-Some.is)) in
-    subst (λ ms. OnOk c.put.result (members_view c.put.new.members.entries ≡ ms)) same c.put.ensures
+    subst (λ ms. OnOk c.put_member.result (members_view c.put_member.new.members.entries ≡ ms)) same c.put_member.ensures.ok

@@ -14,5 +14,5 @@ returns c =
     let text = c.in_ok-text.text in
     let tree : view (is.String text) ≡ place_tree c.args.place.now
     = view_String text ∙ ap string (place_text c.args.place.now text c.in_ok-text.ensures.ok) in
-    subst (λ t. OnOk c.put.result (members_view c.put.new.members.entries
-    ≡ put (chars c.args.key.now) t (members_view c.args.members.now.entries))) tree c.put.ensures
+    subst (λ t. OnOk c.put_member.result (members_view c.put_member.new.members.entries
+    ≡ put (chars c.args.key.now) t (members_view c.args.members.now.entries))) tree c.put_member.ensures.ok

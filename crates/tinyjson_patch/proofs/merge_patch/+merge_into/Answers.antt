@@ -39,7 +39,7 @@ loop-key-preserved t c =
     let gone : mid ≡ remove (text key) now = c.take_or_null-old.ensures.new ∙ ap (λ bs. remove (chars bs) now) same in
     let was : view c.take_or_null-old.result ≡ unwrap_or (find (text key) now) null =
     c.take_or_null-old.ensures.old ∙ ap (λ bs. unwrap_or (find (chars bs) now) null) same in
-    let is_put : next ≡ put (text key) (view c.in-Ok.new) mid = c.in-Ok-put_member.ensures
+    let is_put : next ≡ put (text key) (view c.in-Ok.new) mid = c.in-Ok-put_member.ensures.ok
     ∙ ap (λ bs. put (chars bs) (view c.in-Ok.new) mid) c.as_str-else-is_null-2.ensures.value in
     merge_next (members_of (view c.args.target)) now next c.into_iter-key-iterator.result c.loop-key.key-iterator c.next.new.self (key, v)
     c.loop-key.invariant c.in-Some.ensures.steps

@@ -55,7 +55,7 @@ pointed_members-loop-left-preserved t c =
           (members_view c.loop-left.members.entries) (members_view c.put_member.new.members.entries) (view c.in_ok-value.value)
           c.loop-left.invariant.1
           (c.in_ok-value.ensures ∙ ap (λ q. pointed to b q (view x.1.now)) (c.as_str-in-loop-left.ensures.value ∙ c.in_ok-place.ensures))
-          (c.in_ok-put_member.ensures ∙ ap (λ k. put (chars k) (view c.in_ok-value.value) (members_view c.loop-left.members.entries))
+          (c.in_ok-put_member.ensures.ok ∙ ap (λ k. put (chars k) (view c.in_ok-value.value) (members_view c.loop-left.members.entries))
           (c.as_str-in-loop-left-2.ensures.value ∙ sym c.as_str.ensures.value)),
     )
 

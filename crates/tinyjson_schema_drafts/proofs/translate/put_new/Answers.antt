@@ -26,4 +26,4 @@ returns c =
     ∙ (sym c.contains_key.ensures ∙ c.if-contains_key.false) in
     subst (λ l. OnOk c.put_member.result (members_view c.put_member.new.members.entries ≡ l))
     (ap (λ x. put x w ms) (name_chars k c.name-2.result.now c.name-2.ensures) ∙ ap (λ b. cond b ms (put (name k) w ms)) (sym has))
-    c.put_member.ensures
+    c.put_member.ensures.ok
