@@ -22,8 +22,7 @@ fn set_member(value: &mut JsonValue, key: &str, part: JsonValue) -> Option<JsonV
 }
 
 #[test]
-fn parts(rt: HostRuntime) -> Result<(), Fail> {
-    let alloc = rt.alloc();
+fn booleans_by_their_type(rt: HostRuntime) -> Result<(), Fail> {
     let value = JsonValue::Boolean(true);
     assert!(rt; bool::json_value_as(&value) == Some(&true));
     assert!(rt; String::json_value_as(&value).is_none());
@@ -33,7 +32,12 @@ fn parts(rt: HostRuntime) -> Result<(), Fail> {
         *b = false;
     }
     assert!(rt; value == JsonValue::Boolean(false));
+    Ok(())
+}
 
+#[test]
+fn items_by_their_type(rt: HostRuntime) -> Result<(), Fail> {
+    let alloc = rt.alloc();
     let value = JsonValue::from_str(alloc, "[1, 2, 3]")?;
     let vec: &Vec<JsonValue> = value.get().expect(&rt, "an array");
     assert_eq!(rt; vec.len(), 3);
@@ -41,7 +45,12 @@ fn parts(rt: HostRuntime) -> Result<(), Fail> {
 
     // A type of another kind
     assert!(rt; value.get::<JsonNumber>().is_none());
+    Ok(())
+}
 
+#[test]
+fn items_that_change_by_their_type(rt: HostRuntime) -> Result<(), Fail> {
+    let alloc = rt.alloc();
     let mut value = JsonValue::from_str(alloc, "[1, 2, 3]")?;
     let vec: &mut Vec<JsonValue> = value.get_mut().expect(&rt, "an array");
     assert_eq!(rt; vec.len(), 3);

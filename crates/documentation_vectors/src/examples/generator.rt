@@ -16,7 +16,12 @@ fn texts_of_numbers(rt: HostRuntime) -> Result<(), Fail> {
     ]?);
     let s = tinyjson::stringify(alloc, &v)?;
     assert_eq!(rt; s.as_str(), "[1,2,3]");
+    Ok(())
+}
 
+#[test]
+fn indented_texts_of_numbers(rt: HostRuntime) -> Result<(), Fail> {
+    let alloc = rt.alloc();
     let v = JsonValue::from(vec![in alloc;
         JsonValue::from(JsonNumber::from_i64(alloc, 1)?),
         JsonValue::from(JsonNumber::from_i64(alloc, 2)?),
@@ -49,7 +54,12 @@ fn compact_texts(rt: HostRuntime) -> Result<(), Fail> {
     ]?);
     let s = v.stringify(alloc)?;
     assert_eq!(rt; s.as_str(), "[1,true,\"str\"]");
+    Ok(())
+}
 
+#[test]
+fn compact_bytes(rt: HostRuntime) -> Result<(), Fail> {
+    let alloc = rt.alloc();
     let v = JsonValue::from(vec![in alloc;
         JsonValue::from(JsonNumber::from_i64(alloc, 1)?),
         JsonValue::from(true),
@@ -78,7 +88,12 @@ fn indented_texts(rt: HostRuntime) -> Result<(), Fail> {
   \"str\"
 ]"
     );
+    Ok(())
+}
 
+#[test]
+fn indented_bytes(rt: HostRuntime) -> Result<(), Fail> {
+    let alloc = rt.alloc();
     let v = JsonValue::from(vec![in alloc;
         JsonValue::from(JsonNumber::from_i64(alloc, 1)?),
         JsonValue::from(true),
@@ -106,7 +121,12 @@ fn texts_of_generators(rt: HostRuntime) -> Result<(), Fail> {
     generator.generate(&v)?;
 
     assert_eq!(rt; String::from_utf8(buf)?.as_str(), "\"hello, world\"");
+    Ok(())
+}
 
+#[test]
+fn indented_texts_of_generators(rt: HostRuntime) -> Result<(), Fail> {
+    let alloc = rt.alloc();
     let v = JsonValue::from(vec![in alloc;
         JsonValue::from(JsonNumber::from_i64(alloc, 1)?),
         JsonValue::from(JsonNumber::from_i64(alloc, 2)?),

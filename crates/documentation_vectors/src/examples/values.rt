@@ -28,41 +28,65 @@ fn a_value_and_its_content(rt: HostRuntime) -> Result<(), Fail> {
 }
 
 #[test]
-fn values_and_kinds(rt: HostRuntime) -> Result<(), Fail> {
+fn copies(rt: HostRuntime) -> Result<(), Fail> {
     let alloc = rt.alloc();
     let value = JsonValue::Array(vec![in alloc; JsonValue::Null, JsonValue::Boolean(true)]?);
     assert!(rt; value.kind() == JsonKind::Array);
 
     let copy = value.try_clone(alloc)?;
     assert!(rt; copy == value);
+    Ok(())
+}
 
+#[test]
+fn kinds(rt: HostRuntime) -> Result<(), Fail> {
+    let alloc = rt.alloc();
     assert!(rt; JsonValue::Null.kind() == JsonKind::Null);
     assert!(rt; JsonValue::Boolean(true).kind() == JsonKind::Boolean);
     assert_eq!(rt; JsonKind::Boolean.to_string(alloc)?.as_str(), "boolean");
+    Ok(())
+}
 
+#[test]
+fn equal_arrays(rt: HostRuntime) -> Result<(), Fail> {
+    let alloc = rt.alloc();
     let one = JsonValue::from(vec![in alloc; JsonValue::Null]?);
     assert!(rt; one == JsonValue::Array(vec![in alloc; JsonValue::from(())]?));
     Ok(())
 }
 
 #[test]
-fn kinds_of_scalars(rt: HostRuntime) -> Result<(), Fail> {
+fn booleans(rt: HostRuntime) -> Result<(), Fail> {
     let alloc = rt.alloc();
     let v = JsonValue::from(true);
     assert!(rt; v.is_bool());
     let v = JsonValue::from(JsonNumber::from_i64(alloc, 1)?);
     assert!(rt; !v.is_bool());
+    Ok(())
+}
 
+#[test]
+fn numbers(rt: HostRuntime) -> Result<(), Fail> {
+    let alloc = rt.alloc();
     let v = JsonValue::from(JsonNumber::from_i64(alloc, 1)?);
     assert!(rt; v.is_number());
     let v = JsonValue::from(false);
     assert!(rt; !v.is_number());
+    Ok(())
+}
 
+#[test]
+fn strings(rt: HostRuntime) -> Result<(), Fail> {
+    let alloc = rt.alloc();
     let v = JsonValue::from("foo".to_string(alloc)?);
     assert!(rt; v.is_string());
     let v = JsonValue::from(JsonNumber::from_i64(alloc, 1)?);
     assert!(rt; !v.is_string());
+    Ok(())
+}
 
+#[test]
+fn nulls(rt: HostRuntime) -> Result<(), Fail> {
     let v = JsonValue::from(());
     assert!(rt; v.is_null());
     let v = JsonValue::from(false);
