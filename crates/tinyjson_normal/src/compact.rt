@@ -1,5 +1,5 @@
 //! Builds compact text from a text's events, without a tree.
-ghost use Rattle.std.specs.Prelude.{◌≡◌, ◌==◌, ◌++◌, ◌∷◌, [], ℕ, List, false, OnOk, take};
+ghost use Rattle.std.specs.Prelude.{◌≡◌, ◌==◌, ◌++◌, ◌∷◌, [], ℕ, IfOk, List, false, OnOk, take};
 ghost use Rattle.std.specs.Prelude.{encode_utf8_all};
 ghost use Rattle.std.specs.Str.{chars};
 ghost use Rattle.tinyjson_grammar.specs.Characters.{value_separator};
@@ -10,6 +10,7 @@ ghost use Rattle.tinyjson_normal.specs.Compacting.{placed, value_bytes};
 ghost use Rattle.tinyjson_document.specs.Order.{IsOrdered, lasts};
 ghost use Rattle.tinyjson_document.specs.declared.store.Member.{Member as Pair};
 ghost use Rattle.tinyjson_number.specs.Text.{decimal_text};
+ghost use Rattle.tinyjson_output.specs.Buffer.{buffered};
 
 use std::alloc::{AllocError, Global};
 use tinyjson::{Events, JsonNumber};
@@ -49,8 +50,8 @@ pub(crate) struct Compact {
     ranks: Vec<u64>,
     kept: Vec<Member>,
     moved: Vec<u8>,
-    /// For strings and numbers that are written in pieces.
-    buffer: Buffer,
+    /// For strings and numbers that are written in pieces; made for the first one.
+    buffer: Option<Box<Buffer>>,
     /// How many bytes may still be moved.
     left: usize,
 }
@@ -66,7 +67,7 @@ impl Compact {
             ranks: Vec::new(alloc),
             kept: Vec::new(alloc),
             moved: Vec::new(alloc),
-            buffer: Buffer::new(),
+            buffer: None,
             left: 0,
         }
     }
@@ -218,7 +219,7 @@ fn push_closing(text: &mut Vec<u8>, bracket: u8) -> Result<(), AllocError>
 /// Appends the string in quotes, and a byte after it.
 fn push_quoted(
     text: &mut Vec<u8>,
-    buffer: &mut Buffer,
+    buffer: &mut Option<Box<Buffer>>,
     value: &str,
     behind: u8,
 ) -> Result<(), AllocError>
@@ -236,24 +237,48 @@ fn push_quoted(
 
 /// Appends the string in quotes, with escapes.
 #[inline(never)]
-fn push_escaped(text: &mut Vec<u8>, buffer: &mut Buffer, value: &str) -> Result<(), AllocError>
+fn push_escaped(
+    text: &mut Vec<u8>,
+    buffer: &mut Option<Box<Buffer>>,
+    value: &str,
+) -> Result<(), AllocError>
     ensures { OnOk result (text.new.items
         ≡ text.old.items ++ encode_utf8_all (quoted (chars value.now))) }
 {
-    buffer.truncate(0);
-    let Ok(()) = quote(text, buffer, value) else {
+    let mut pieces = empty_buffer(*text.allocator(), buffer)?;
+    let Ok(()) = quote(text, &mut pieces, value) else {
         return Err(AllocError);
     };
-    let Ok(()) = flush(text, buffer) else {
+    let Ok(()) = flush(text, &mut pieces) else {
         return Err(AllocError);
     };
+    *buffer = Some(pieces);
     Ok(())
+}
+
+/// An empty buffer: the one that is kept, or else a new one.
+fn empty_buffer(alloc: Global, kept: &mut Option<Box<Buffer>>) -> Result<Box<Buffer>, AllocError>
+    ensures { IfOk result (λ b. buffered b.value ≡ []) }
+{
+    let mut pieces = match kept.take() {
+        Some(pieces) => pieces,
+        None => new_buffer(alloc)?,
+    };
+    pieces.truncate(0);
+    Ok(pieces)
+}
+
+/// A new buffer. Not inlined, so that no room for it is cleared where one was kept.
+#[cold]
+#[inline(never)]
+fn new_buffer(alloc: Global) -> Result<Box<Buffer>, AllocError> {
+    Ok(Box::new(alloc, Buffer::new())?)
 }
 
 /// Appends the text of a number.
 fn push_number(
     text: &mut Vec<u8>,
-    buffer: &mut Buffer,
+    buffer: &mut Option<Box<Buffer>>,
     number: &JsonNumber,
 ) -> Result<(), AllocError>
     ensures { OnOk result (text.new.items
@@ -266,17 +291,22 @@ fn push_number(
 }
 
 #[inline(never)]
-fn push_long(text: &mut Vec<u8>, buffer: &mut Buffer, number: &JsonNumber) -> Result<(), AllocError>
+fn push_long(
+    text: &mut Vec<u8>,
+    buffer: &mut Option<Box<Buffer>>,
+    number: &JsonNumber,
+) -> Result<(), AllocError>
     ensures { OnOk result (text.new.items
         ≡ text.old.items ++ encode_utf8_all (decimal_text number.now.decimal)) }
 {
-    buffer.truncate(0);
-    let Ok(()) = write_number(text, buffer, number) else {
+    let mut pieces = empty_buffer(*text.allocator(), buffer)?;
+    let Ok(()) = write_number(text, &mut pieces, number) else {
         return Err(AllocError);
     };
-    let Ok(()) = flush(text, buffer) else {
+    let Ok(()) = flush(text, &mut pieces) else {
         return Err(AllocError);
     };
+    *buffer = Some(pieces);
     Ok(())
 }
 
