@@ -994,6 +994,25 @@ LARGE_PATTERNS = [
 ]
 
 TOO_MANY = reported(3, "json_schema", "schemas are nested too deep")
+TOO_MUCH = reported(3, "json_schema", "the check takes too many steps")
+
+# Checks that would take minutes, and like ones that are short: two million steps are allowed, and two more for each byte.
+HOSTILE = [
+    # Each level is judged twice by each of two schemas.
+    ('{"allOf":[{"items":{"$ref":"#"}},{"items":{"$ref":"#"}}]}', "[" * 25 + "]" * 25, TOO_MUCH),
+    ('{"allOf":[{"items":{"$ref":"#"}},{"items":{"$ref":"#"}}]}', "[" * 12 + "]" * 12, judged(None)),
+    ('{"anyOf":[{"additionalProperties":{"$ref":"#"}}],"unevaluatedProperties":false}', '{"a":' * 40 + "{}" + "}" * 40, TOO_MUCH),
+    # Each value is compared with each of a list, each item is judged by each schema, and each pattern is sought in each key.
+    ('{"items":{"enum":%s}}' % list(range(20_000)), json.dumps([19_999] * 10_000), TOO_MUCH),
+    ('{"items":{"enum":%s}}' % list(range(1_000)), json.dumps([999] * 1_000), judged(None)),
+    ('{"items":{"oneOf":[%s]}}' % ",".join(f'{{"const":{i}}}' for i in range(3_000)), json.dumps([1] * 3_000), TOO_MUCH),
+    ('{"items":{"oneOf":[%s]}}' % ",".join(f'{{"const":{i}}}' for i in range(300)), json.dumps([1] * 300), judged(None)),
+    ('{"patternProperties":{%s}}' % ",".join(f'"^{i}$":{{}}' for i in range(2_000)), json.dumps({f"a{i}": 0 for i in range(4_000)}), TOO_MUCH),
+    # Each member is looked up in each schema.
+    ('{"allOf":[%s],"unevaluatedProperties":{"type":"integer"}}' % ",".join(f'{{"properties":{{"a{i}":{{}}}}}}' for i in range(3_000)), json.dumps({f"b{i}": 0 for i in range(3_000)}), TOO_MUCH),
+    # A long text with three schemas an item is no such one.
+    ('{"items":{"$ref":"#/$defs/a"},"$defs":{"a":{"$ref":"#/$defs/b"},"b":{"minimum":0}}}', "[" + "0," * 700_000 + "0]", judged(None)),
+]
 
 # Schemas that lead to themselves, where a part of the value is judged by what more than 200 in one another say.
 CUT_OFF = [
@@ -1186,7 +1205,7 @@ def answers():
     for row in UNKNOWN:
         schema, words = row
         yield row, schema, "1", (0, b"", told(f'the schema: "{word}" is no keyword' for word in words))
-    yield from ((row, *row) for row in LONG_SCHEMAS)
+    yield from ((row, *row) for row in LONG_SCHEMAS + HOSTILE)
 
 
 def checked(folder, schema, words, given):

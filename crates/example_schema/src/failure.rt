@@ -34,6 +34,7 @@ impl fmt::Display for Failure {
             Failure::Check(CheckError::TooDeep) => f.write_str(
                 "too many schemas apply one another",
             ),
+            Failure::Check(CheckError::TooMuch) => f.write_str("the check takes too many steps"),
             Failure::Schema(SchemaError::OutOfMemory) | Failure::Check(CheckError::OutOfMemory) => {
                 f.write_str("out of memory")
             }

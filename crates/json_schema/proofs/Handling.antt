@@ -18,7 +18,7 @@ use Rattle.json_schema.specs.declared.lines.Check.{Check}
 use Rattle.json_schema.specs.declared.lines.Outcome.{Outcome}
 use Rattle.json_schema.specs.declared.lines.Outcome.TheVariants.{AllValid, SomeInvalid, SomeRefused}
 use Rattle.json_schema.specs.declared.verdict.Cause.{Cause}
-use Rattle.json_schema.specs.declared.verdict.Cause.TheVariants.{NotUtf8, NotJson, TooDeep, TooLong}
+use Rattle.json_schema.specs.declared.verdict.Cause.TheVariants.{NotUtf8, NotJson, TooDeep, TooMuch, TooLong}
 use Rattle.json_schema.specs.declared.verdict.Finding.{Finding}
 use Rattle.json_schema.specs.declared.verdict.Verdict.{Verdict}
 use Rattle.json_schema.specs.declared.verdict.Verdict.TheVariants.{Valid, Invalid, Refused}
@@ -34,6 +34,7 @@ within_checked max s line xs r g h = of r (subst (λ l. IfOk r (LineGives s l)) 
     of (Ok (Refused NotUtf8)) k = (g.1, k)
     of (Ok (Refused (NotJson e))) k = (g.1, k)
     of (Ok (Refused TooDeep)) k = (g.1, k)
+    of (Ok (Refused TooMuch)) k = (g.1, k)
     of (Ok (Refused (TooLong m))) k = absurd k.1.2
     of (Err e) k = tt
 

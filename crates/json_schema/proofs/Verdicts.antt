@@ -15,6 +15,7 @@ line_gives s line (Invalid f) u h = (u, h)
 line_gives s line (Refused cause.NotUtf8) u h = absurd h.2
 line_gives s line (Refused (cause.NotJson e)) u h = (u, h)
 line_gives s line (Refused cause.TooDeep) u h = (u, h)
+line_gives s line (Refused cause.TooMuch) u h = (u, h)
 line_gives s line (Refused (cause.TooLong m)) u h = (u, h)
 
 pub gives_of_line : {E : Type 0} (s : Tree) (line : List ℕ) (r : Result Verdict E) → IsUtf8 (content line)

@@ -11,7 +11,7 @@ use Rattle.tinyjson_cli.specs.declared.failure.Failure.{Failure}
 use Rattle.tinyjson_cli.specs.declared.failure.Failure.TheVariants as failure
 use Rattle.tinyjson_cli.specs.declared.status.Status.{Status}
 use Rattle.tinyjson_cli.specs.declared.status.Status.TheVariants.{Misused, Refused}
-use Rattle.json_schema.specs.Told.{too_deep}
+use Rattle.json_schema.specs.Told.{too_deep, too_much}
 use Rattle.json_schema.specs.declared.failure.SchemaFailure.{SchemaFailure}
 use Rattle.json_schema.specs.declared.failure.SchemaFailure.TheVariants as is
 use Rattle.json_schema.specs.declared.verdict.Cause.{Cause}
@@ -42,4 +42,5 @@ abbrev pub TellsText : Cause → Failure → Type 0
 TellsText (cause.NotJson e) f = f ≡ failure.NotJson e
 TellsText cause.NotUtf8 f = Is Refused (codes "not UTF-8") f ⊎ (f ≡ failure.OutOfMemory)
 TellsText cause.TooDeep f = Is Refused too_deep f ⊎ (f ≡ failure.OutOfMemory)
+TellsText cause.TooMuch f = Is Refused too_much f ⊎ (f ≡ failure.OutOfMemory)
 TellsText (cause.TooLong m) f = Is Refused (codes "too long") f ⊎ (f ≡ failure.OutOfMemory)

@@ -36,6 +36,7 @@ abbrev pub ValueGives : Tree → Tree → Verdict → Type 0
 ValueGives s t Valid = Validates step_limit s t (Ok None)
 ValueGives s t (Invalid f) = Validates step_limit s t (Ok (Some f.violation)) × HasWords s t f
 ValueGives s t (Refused cause.TooDeep) = Validates step_limit s t (Err check.TooDeep)
+ValueGives s t (Refused cause.TooMuch) = Validates step_limit s t (Err check.TooMuch)
 ValueGives s t (Refused _) = ⊥
 
 -- the characters are no JSON text, with this error of the parser

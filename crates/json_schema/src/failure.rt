@@ -77,6 +77,7 @@ pub fn text_failure(alloc: Global, cause: Cause) -> Failure
         Cause::NotJson(error) => return Failure::NotJson(error),
         Cause::NotUtf8 => "not UTF-8",
         Cause::TooDeep => "schemas are nested too deep",
+        Cause::TooMuch => "the check takes too many steps",
         Cause::TooLong(_) => "too long",
     };
     match String::from_str(alloc, words) {

@@ -1,5 +1,5 @@
 //! The verdict on a text.
-ghost use Rattle.std.specs.Prelude.{IfOk, Ok, Some, ℕ, List, Option};
+ghost use Rattle.std.specs.Prelude.{◌≡◌, IfOk, Ok, Some, ℕ, List, Option};
 ghost use Rattle.std.specs.Result.{result_map_both};
 ghost use Rattle.std.specs.Str.{chars};
 ghost use Rattle.tinyjson.specs.View.{view};
@@ -12,7 +12,7 @@ use std::alloc::{AllocError, Global};
 use std::str;
 use tinyjson::{JsonParseError, JsonValue};
 use tinyjson_lines::content;
-use tinyjson_schema::{CheckError, Schema, Violation};
+use tinyjson_schema::{CheckError, Limits, Schema, Violation};
 use tinyjson_schema_keywords::Walk;
 use tinyjson_schema_words::{Places, words};
 
@@ -21,6 +21,12 @@ pub const DEPTH_LIMIT: usize = 100;
 
 /// How many nested schemas may be applied: these take less than 256 KB of stack.
 const STEP_LIMIT: usize = 200;
+
+/// How many steps the check of a short text may take: some seconds.
+const STEPS: u64 = 2_000_000;
+
+/// How many more steps it may take for each byte of the text.
+const STEPS_A_BYTE: u64 = 2;
 
 /// The verdict on a text.
 #[derive(Drop)]
@@ -51,6 +57,8 @@ pub enum Cause {
     NotJson(JsonParseError),
     /// It needs more than 200 nested schemas.
     TooDeep,
+    /// Its check takes more than two million steps and two for each byte.
+    TooMuch,
     /// It is a line with more bytes before its line feed than this limit.
     TooLong(usize),
 }
@@ -61,7 +69,7 @@ pub fn check_text(alloc: Global, schema: &Schema<'_>, text: &str) -> Result<Verd
 {
     match JsonValue::from_str_with_depth_limit(alloc, text, DEPTH_LIMIT) {
         Ok(value) => {
-            let verdict = check_value(alloc, schema, &value);
+            let verdict = check_value(alloc, schema, &value, limits_of(text));
             value.dismantle();
             verdict
         }
@@ -74,13 +82,31 @@ pub fn check_text(alloc: Global, schema: &Schema<'_>, text: &str) -> Result<Verd
     }
 }
 
-fn check_value(alloc: Global, schema: &Schema<'_>, value: &JsonValue) -> Result<Verdict, AllocError>
+/// How much the check of a text may do.
+fn limits_of(text: &str) -> Limits
+    ensures { result.nested ≡ 200 }
+{
+    let length = text.len() as u64;
+    Limits {
+        nested: STEP_LIMIT,
+        steps: STEPS.saturating_add(length.saturating_mul(STEPS_A_BYTE)),
+    }
+}
+
+fn check_value(
+    alloc: Global,
+    schema: &Schema<'_>,
+    value: &JsonValue,
+    limits: Limits,
+) -> Result<Verdict, AllocError>
+    requires { limits.nested ≡ 200 }
     ensures { IfOk result (ValueGives (tree_of schema.now) (view value.now)) }
 {
-    match schema.invalid_place(value, STEP_LIMIT, alloc) {
+    match schema.invalid_place_within(value, limits, alloc) {
         Ok(None) => Ok(Verdict::Valid),
         Ok(Some(violation)) => with_words(alloc, schema, value, violation),
         Err(CheckError::TooDeep) => Ok(Verdict::Refused(Cause::TooDeep)),
+        Err(CheckError::TooMuch) => Ok(Verdict::Refused(Cause::TooMuch)),
         Err(CheckError::OutOfMemory) => Err(AllocError),
     }
 }

@@ -100,7 +100,7 @@ fn accepts(
     let alloc = walk.alloc;
     match keyword {
         Keyword::Type => Ok(has_type(operand, value)),
-        Keyword::Enum => Ok(is_in(operand, value)),
+        Keyword::Enum => Ok(is_in(operand, value, walk)),
         Keyword::Const => Ok(value == operand),
         Keyword::MultipleOf => Ok(are_multiple(value, operand)),
         Keyword::Maximum => Ok(are_ordered(value, operand)),
@@ -177,11 +177,15 @@ fn is_whole(value: &JsonValue) -> bool
     }
 }
 
-fn is_in(values: &JsonValue, value: &JsonValue) -> bool
+/// Whether the value is one of an array. It takes a step for each of them.
+fn is_in(values: &JsonValue, value: &JsonValue, walk: Walk<'_, '_>) -> bool
     ensures { result ≡ is_in (view values.now) (view value.now) }
 {
     match values {
-        JsonValue::Array(values) => is_among(values.as_slice(), value),
+        JsonValue::Array(values) => {
+            walk.whole.budget.charge(values.len());
+            is_among(values.as_slice(), value)
+        }
         _ => false,
     }
 }
@@ -237,6 +241,9 @@ fn has_pattern(
 {
     match (pattern, value) {
         (JsonValue::String(pattern), JsonValue::String(text)) => {
+            walk.whole
+                .budget
+                .charge(pattern.len().saturating_add(text.len()) / 32);
             walk.whole
                 .patterns
                 .is_found(pattern.as_str(), text.as_str(), walk.alloc)

@@ -17,6 +17,6 @@ mod unique;
 mod validate;
 mod violation;
 
-pub use schema::{Schema, SchemaError};
+pub use schema::{Limits, Schema, SchemaError};
 pub use tinyjson_schema_keywords::{CheckError, unknown_words};
 pub use violation::Violation;

@@ -6,9 +6,8 @@ ghost use Rattle.tinyjson_schema.specs.Parts.{property, prefix_item, some_found,
 ghost use Rattle.tinyjson_schema.specs.Parts.{additional};
 ghost use Rattle.tinyjson_schema.specs.Places.{IsMemberPart, IsItemPart};
 
-use std::alloc::AllocError;
 use tinyjson::JsonValue;
-use tinyjson_schema_keywords::{Keyword, Walk, operand, schema_map_at};
+use tinyjson_schema_keywords::{CheckError, Keyword, Walk, operand, schema_map_at};
 
 /// The schema for a part of the value, and the keyword that applies it.
 #[derive(Clone, Copy)]
@@ -18,14 +17,15 @@ pub struct Part<'s> {
 }
 
 /// The schema for the member at the key: that of `properties`, or else `additionalProperties`, unless a pattern of
-/// `patternProperties` matches the key.
+/// `patternProperties` matches the key. It takes a step.
 pub fn member_part<'s>(
     schema: &'s JsonValue,
     key: &str,
     walk: Walk<'_, '_>,
-) -> Result<Option<Part<'s>>, AllocError>
+) -> Result<Option<Part<'s>>, CheckError>
     ensures { IfOk result (λ part. IsMemberPart (view schema.now) (chars key.now) part) }
 {
+    walk.whole.budget.spend(1)?;
     if let Some(part) = property(schema, key) {
         return Ok(Some(Part {
             applicator: Keyword::Properties,
@@ -72,7 +72,7 @@ fn additional<'s>(
     schema: &'s JsonValue,
     key: &str,
     walk: Walk<'_, '_>,
-) -> Result<Option<&'s JsonValue>, AllocError>
+) -> Result<Option<&'s JsonValue>, CheckError>
     ensures { IfOk result (λ part.
         option_map (λ x. view x.now) part ≡ additional (view schema.now) (chars key.now)) }
 {
@@ -89,7 +89,7 @@ fn additional<'s>(
 /// Whether a pattern of `patternProperties` matches the key. Not inlined, since the recursion over schemas calls it
 /// at each level.
 #[inline(never)]
-pub fn is_patterned(schema: &JsonValue, key: &str, walk: Walk<'_, '_>) -> Result<bool, AllocError>
+pub fn is_patterned(schema: &JsonValue, key: &str, walk: Walk<'_, '_>) -> Result<bool, CheckError>
     ensures { IfOk result (λ is. is ≡ is_patterned (view schema.now) (chars key.now)) }
 {
     let patterns = schema_map_at(schema, Keyword::PatternProperties, walk.alloc)?;
@@ -100,15 +100,12 @@ fn some_found(
     patterns: &[(&String, &JsonValue)],
     key: &str,
     walk: Walk<'_, '_>,
-) -> Result<bool, AllocError>
+) -> Result<bool, CheckError>
     ensures { IfOk result
         (λ some. some ≡ some_found (members_listed patterns.now) (chars key.now)) }
 {
     for &(pattern, _) in patterns {
-        let is_found = walk
-            .whole
-            .patterns
-            .is_found(pattern.as_str(), key, walk.alloc)?;
+        let is_found = walk.is_found(pattern.as_str(), key)?;
         if is_found {
             return Ok(true);
         }

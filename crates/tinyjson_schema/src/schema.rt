@@ -11,7 +11,7 @@ use std::alloc::{AllocError, Global};
 use tinyjson::JsonValue;
 use tinyjson_pointer::Pointer;
 use tinyjson_schema_keywords::{
-    CheckError, Document, KeptPatterns, Walk, Whole, anchors_of, repeated,
+    Budget, CheckError, Document, KeptPatterns, Walk, Whole, anchors_of, repeated,
 };
 
 /// A schema that can be applied. Each keyword in it is applied or is an annotation, and its value has the
@@ -20,6 +20,16 @@ use tinyjson_schema_keywords::{
 pub struct Schema<'s> {
     whole: Whole<'s>,
     ghost checked: { is_schema (view whole.root.now) true (view whole.root.now) ≡ true },
+}
+
+/// How much a check may do.
+#[derive(Clone, Copy, Debug, PartialEq, Eq)]
+pub struct Limits {
+    /// How many nested schemas may be applied, by keywords and by references.
+    pub nested: usize,
+    /// How many steps the check may take in all. A step is a schema that is applied to a part of the value, a key that
+    /// is looked up for it, a value of `enum` that is compared, or 32 bytes that are searched for a pattern.
+    pub steps: u64,
 }
 
 /// Why a tree is not accepted as a schema.
@@ -64,6 +74,7 @@ impl<'s> Schema<'s> {
             root: tree,
             anchors,
             patterns: KeptPatterns::new(alloc),
+            budget: Budget::new(u64::MAX),
         };
         let document = Document {
             whole: &whole,
@@ -87,7 +98,7 @@ impl<'s> Schema<'s> {
 
     /// What the value violates of the schema, and where in the value. `None` means that the value is valid. Up to
     /// `steps` nested schemas are applied, by keywords and by references; for more the error is `TooDeep`. The
-    /// other error is out of memory.
+    /// other error is out of memory. The time is bounded only by [`Schema::invalid_place_within`].
     ///
     /// It calls itself for each schema that is applied, so it takes stack with the nesting of these.
     ///
@@ -103,9 +114,33 @@ impl<'s> Schema<'s> {
         ensures judged { Validates steps (tree_of self.now) (view value.now) result }
         ensures only { IfOk result (λ found. Agrees (tree_of self.now) (view value.now) found) }
     {
+        let limits = Limits {
+            nested: steps,
+            steps: u64::MAX,
+        };
+        self.invalid_place_within(value, limits, alloc)
+    }
+
+    /// [`Schema::invalid_place`] with a limit on all steps of the check, too. For more of these the error is
+    /// `TooMuch`. So a check ends soon, whatever the schema and the value are.
+    ///
+    /// ```
+    /// let limits = Limits { nested: 200, steps: 1_000_000 };
+    /// let place = schema.invalid_place_within(&value, limits, alloc)?;
+    /// ```
+    pub fn invalid_place_within(
+        &self,
+        value: &JsonValue,
+        limits: Limits,
+        alloc: Global,
+    ) -> Result<Option<Violation>, CheckError>
+        ensures judged { Validates limits.nested (tree_of self.now) (view value.now) result }
+        ensures only { IfOk result (λ found. Agrees (tree_of self.now) (view value.now) found) }
+    {
+        self.whole.budget.renew(limits.steps);
         let walk = Walk {
             whole: &self.whole,
-            steps,
+            steps: limits.nested,
             alloc,
         };
         find_violation(value, walk)

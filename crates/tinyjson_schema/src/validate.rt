@@ -57,7 +57,7 @@ fn violation_in(
 ) -> Result<Option<Violation>, CheckError>
     ensures { Judges walk.entry (view schema.now) (view value.now) result }
 {
-    let inner = walk.deeper()?;
+    let inner = walk.entered()?;
     if refuses_all(schema) {
         return Ok(Some(Violation::of_schema(walk.alloc)));
     }
@@ -180,6 +180,7 @@ fn in_dependents(
 {
     let listed = schema_map_at(schema, Keyword::DependentSchemas, walk.alloc)?;
     let dependents = listed.as_slice();
+    walk.whole.budget.charge(dependents.len());
     for &(key, part) in dependents {
         if has_key(value, key.as_str()) {
             if let Some(mut found) = violation_in(value, part, walk)? {
@@ -205,6 +206,7 @@ fn in_patterned(
 {
     let listed = schema_map_at(schema, Keyword::PatternProperties, walk.alloc)?;
     let patterns = listed.as_slice();
+    walk.whole.budget.charge(patterns.len());
     for &(pattern, part) in patterns {
         if let Some(mut found) = in_found(value, pattern.as_str(), part, walk)? {
             found.enter_keyed(walk.alloc, Keyword::PatternProperties, pattern.as_str())?;
@@ -229,10 +231,7 @@ fn in_found(
     let listed = listed_members(value, walk.alloc)?;
     let members = listed.as_slice();
     for &(key, member) in members {
-        let is_found = walk
-            .whole
-            .patterns
-            .is_found(pattern, key.as_str(), walk.alloc)?;
+        let is_found = walk.is_found(pattern, key.as_str())?;
         if is_found {
             if let Some(mut found) = violation_in(member, schema, walk)? {
                 found.enter_value(walk.alloc, key.as_str())?;

@@ -8,6 +8,7 @@
 #![tactic(auto)]
 
 mod anchor;
+mod budget;
 mod document;
 mod keyword;
 mod pattern;
@@ -17,6 +18,7 @@ mod unknown;
 mod walk;
 
 pub use anchor::{Anchor, anchored, anchors_of, is_plain_name, repeated};
+pub use budget::Budget;
 pub use document::{Document, Whole};
 pub use keyword::{Form, Keyword, form_at, form_by, keyword_of};
 pub use pattern::{KeptPatterns, PatternError, is_pattern};

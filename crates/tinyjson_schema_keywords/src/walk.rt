@@ -1,5 +1,7 @@
 //! The state of a check, which is passed down from schema to subschema.
-ghost use Rattle.std.specs.Prelude.{◌≡◌, MatchResult};
+ghost use Rattle.i_regexp.specs.PatternDeciding.{is_found};
+ghost use Rattle.std.specs.Prelude.{◌≡◌, IfOk, MatchResult};
+ghost use Rattle.std.specs.Str.{chars};
 ghost use Rattle.tinyjson_schema_keywords.specs.Walks.{IsDeeper};
 
 use crate::document::Whole;
@@ -10,6 +12,8 @@ use std::alloc::{AllocError, AllocFailed, Global};
 pub enum CheckError {
     /// More nested schemas would be applied than the caller allows.
     TooDeep,
+    /// The check would take more steps than the caller allows.
+    TooMuch,
     /// An allocation failed.
     OutOfMemory,
 }
@@ -49,5 +53,24 @@ impl<'d, 's> Walk<'d, 's> {
             }),
             None => Err(CheckError::TooDeep),
         }
+    }
+
+    /// The state for a schema that is applied: one step of the budget is taken, and one less nested schema is left.
+    pub fn entered(self) -> Result<Walk<'d, 's>, CheckError>
+        ensures { IfOk result (IsDeeper self.entry) }
+    {
+        self.whole.budget.spend(1)?;
+        self.deeper()
+    }
+
+    /// Whether the pattern matches somewhere in the text. One that is no pattern matches nothing. It takes a step of
+    /// the budget, and another one for each 32 bytes of the pattern and the text.
+    pub fn is_found(self, pattern: &str, text: &str) -> Result<bool, CheckError>
+        ensures { IfOk result (λ is. is ≡ is_found (chars pattern.now) (chars text.now)) }
+    {
+        let bytes = pattern.len().saturating_add(text.len());
+        self.whole.budget.spend(bytes / 32 + 1)?;
+        let is_found = self.whole.patterns.is_found(pattern, text, self.alloc)?;
+        Ok(is_found)
     }
 }

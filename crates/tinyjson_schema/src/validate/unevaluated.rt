@@ -120,7 +120,7 @@ fn in_items_left(
 
 /// Whether one of the sources evaluates the member at the key.
 #[inline(never)]
-fn is_member_evaluated(key: &str, sources: &[Source<'_, '_>]) -> Result<bool, AllocError>
+fn is_member_evaluated(key: &str, sources: &[Source<'_, '_>]) -> Result<bool, CheckError>
     ensures { IfOk result (λ is. (g : Answers) (u : Tree) →
         is ≡ sources_evaluate g sources.now (member_at (chars key.now) u)) }
 {
@@ -133,7 +133,7 @@ fn is_member_evaluated(key: &str, sources: &[Source<'_, '_>]) -> Result<bool, Al
     Ok(false)
 }
 
-fn evaluates_member(source: &Source<'_, '_>, key: &str) -> Result<bool, AllocError>
+fn evaluates_member(source: &Source<'_, '_>, key: &str) -> Result<bool, CheckError>
     ensures { IfOk result (λ is. (g : Answers) (u : Tree) →
         is ≡ source_evaluates g source.now (member_at (chars key.now) u)) }
 {
