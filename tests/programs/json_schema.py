@@ -1042,10 +1042,10 @@ def doubling(count):
     return json.dumps({"$ref": "l0", "$defs": defs})
 
 
-def lists(count):
-    """A schema with lists of so many kinds of items: what has led to the list tells which."""
+def lists(count, size=0):
+    """A schema with lists of so many kinds of items: what has led to the list tells which. The list has a comment of so many letters."""
     kinds = {f"k{i:04}": {"$id": f"k{i:04}", "$ref": "list", "$defs": {"item": {"$dynamicAnchor": "item", "const": i}}} for i in range(count)}
-    generic = {"$id": "list", "items": {"$dynamicRef": "#item"}, "$defs": {"item": {"$dynamicAnchor": "item"}}}
+    generic = {"$id": "list", "items": {"$dynamicRef": "#item"}, "$defs": {"item": {"$dynamicAnchor": "item"}}, "$comment": "a" * size}
     return json.dumps({"prefixItems": [{"$ref": name} for name in kinds], "$defs": {**kinds, "list": generic}})
 
 
@@ -1085,6 +1085,9 @@ LONG_SCHEMAS = [
     (lists(1_000), json.dumps([[i] for i in range(1_000)]), judged(None)),
     (lists(1_000), json.dumps([[0]] * 1_000), judged(("/1/0", "/prefixItems/1/$ref/$ref/items/$dynamicRef/const"))),
     (lists(1_001), "1", reported(2, "json_schema", NOT_APPLIED % "/$defs/k1000/$ref")),
+    # Copies may have twice the document's text in all, and 100,000 bytes more.
+    (lists(300, 100), "1", judged(None)),
+    (lists(300, 60_000), "1", reported(2, "json_schema", NOT_APPLIED % "/$defs/k0004/$ref")),
     # The same in members whose keys have a pattern.
     ('{"patternProperties":{"^a$":{"allOf":[{"$ref":"#"}]}}}', '{"a":' * 66 + "{}" + "}" * 66, judged(None)),
     ('{"patternProperties":{"^a$":{"allOf":[{"$ref":"#"}]}}}', '{"a":' * 67 + "{}" + "}" * 67, TOO_MANY),

@@ -65,7 +65,7 @@ pub fn bundled(document: &JsonValue, alloc: Global) -> Result<JsonValue, AllocEr
         from: &start,
         alloc,
     };
-    let copies = copies_of(&guide)?;
+    let copies = copies_of(document, &guide)?;
     let guide = Guide {
         copies: copies.as_slice(),
         ..guide

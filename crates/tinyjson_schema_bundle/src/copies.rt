@@ -206,37 +206,82 @@ fn schema_there<'s>(
 /// The most copies that are made. References to further ones lead nowhere, and are rejected at their place.
 const MOST_COPIES: usize = 1000;
 
+/// How many bytes of text all copies may have, beside twice those of the document.
+const MOST_BYTES: usize = 100_000;
+
+/// The states that need a copy, and how many more bytes of text their copies may have.
+#[derive(Drop)]
+struct Gathered<'d> {
+    document: &'d JsonValue,
+    states: Vec<State>,
+    room: usize,
+}
+
+impl Gathered<'_> {
+    /// Appends the state if there is room for its copy. After one that is too long there is none for others: references
+    /// to these lead nowhere, and are rejected at their place.
+    fn push(&mut self, state: State, alloc: Global) -> Result<(), AllocError> {
+        let Some(schema) = schema_there(self.document, state.entry.as_str(), alloc)? else {
+            return Ok(());
+        };
+        let length = text_length(schema, alloc)?;
+        match self.room.checked_sub(length) {
+            Some(room) => {
+                self.room = room;
+                self.states.push(state)?;
+            }
+            None => self.room = 0,
+        }
+        Ok(())
+    }
+}
+
 /// The states that need a copy, as references lead to them from the root. No clause claims that it finds all of
 /// them: a reference to a missing copy is rejected at its place.
-pub fn copies_of(guide: &Guide<'_>) -> Result<Vec<State>, AllocError> {
-    let mut copies = Vec::new(guide.alloc);
+pub fn copies_of(document: &JsonValue, guide: &Guide<'_>) -> Result<Vec<State>, AllocError> {
+    let states = Vec::new(guide.alloc);
     if !guide.contested {
-        return Ok(copies);
+        return Ok(states);
     }
-    gather_reached(guide, &mut copies)?;
+    let length = text_length(document, guide.alloc)?;
+    let room = length.saturating_mul(2).saturating_add(MOST_BYTES);
+    let mut gathered = Gathered {
+        document,
+        states,
+        room,
+    };
+    gather_reached(guide, &mut gathered)?;
     for next in 0..MOST_COPIES {
-        if next >= copies.len() {
+        if next >= gathered.states.len() {
             break;
         }
-        let from = copies[next].try_clone(guide.alloc)?;
+        let from = gathered.states[next].try_clone(guide.alloc)?;
         let guide = Guide {
             from: &from,
             ..*guide
         };
-        gather_reached(&guide, &mut copies)?;
+        gather_reached(&guide, &mut gathered)?;
     }
-    Ok(copies)
+    Ok(gathered.states)
+}
+
+/// The length of the schema's normal text.
+fn text_length(schema: &JsonValue, alloc: Global) -> Result<usize, AllocError> {
+    match schema.stringify(alloc) {
+        Ok(text) => Ok(text.len()),
+        Err(_) => Err(AllocError),
+    }
 }
 
 /// Appends the states that the references of the last state lead to, unless the document has them itself.
-fn gather_reached(guide: &Guide<'_>, copies: &mut Vec<State>) -> Result<(), AllocError> {
+fn gather_reached(guide: &Guide<'_>, gathered: &mut Gathered<'_>) -> Result<(), AllocError> {
     for mark in guide.marks {
         let is_reference = matches!(mark.kind, Kind::Inside | Kind::Outside);
         if is_reference && is_within(guide.from.entry.as_str(), mark.place.as_str()) {
             let (base, _) = home(mark.place.as_str(), guide);
             let target = resolve(guide.alloc, base, mark.uri.as_str())?;
-            gather_target(target.as_str(), false, base, guide, copies)?;
-            gather_target(target.as_str(), true, base, guide, copies)?;
+            gather_target(target.as_str(), false, base, guide, gathered)?;
+            gather_target(target.as_str(), true, base, guide, gathered)?;
         }
     }
     Ok(())
@@ -247,9 +292,9 @@ fn gather_target(
     dynamic: bool,
     base: &str,
     guide: &Guide<'_>,
-    copies: &mut Vec<State>,
+    gathered: &mut Gathered<'_>,
 ) -> Result<(), AllocError> {
-    if copies.len() >= MOST_COPIES {
+    if gathered.states.len() >= MOST_COPIES || gathered.room == 0 {
         return Ok(());
     }
     let Some(place) = first_place(target, dynamic, base, guide)? else {
@@ -257,10 +302,9 @@ fn gather_target(
     };
     let state = reached(place_of_base(base, guide), place.as_str(), guide)?;
     if is_in_document(&state, place.as_str(), guide)?
-        || place_in_list(copies.as_slice(), &state) < copies.len()
+        || place_in_list(gathered.states.as_slice(), &state) < gathered.states.len()
     {
         return Ok(());
     }
-    copies.push(state)?;
-    Ok(())
+    gathered.push(state, guide.alloc)
 }
