@@ -384,33 +384,13 @@ static uint32_t status_of(const char *name) {
     return status;
 }
 
-static uint32_t select_values(const uint8_t *text, size_t length, const uint8_t *query, size_t query_length, size_t depth,
-                              uint8_t *buffer, size_t room, struct tinyjson_place *place) {
-    return tinyjson_select(text, length, query, query_length, false, depth, buffer, room, place);
-}
-
-static uint32_t select_lines(const uint8_t *text, size_t length, const uint8_t *query, size_t query_length, size_t depth,
-                             uint8_t *buffer, size_t room, struct tinyjson_place *place) {
-    return tinyjson_select_lines(text, length, query, query_length, false, depth, buffer, room, place);
-}
-
-static uint32_t select_lines_paths(const uint8_t *text, size_t length, const uint8_t *query, size_t query_length, size_t depth,
-                                   uint8_t *buffer, size_t room, struct tinyjson_place *place) {
-    return tinyjson_select_lines(text, length, query, query_length, true, depth, buffer, room, place);
-}
-
-static uint32_t select_paths(const uint8_t *text, size_t length, const uint8_t *query, size_t query_length, size_t depth,
-                             uint8_t *buffer, size_t room, struct tinyjson_place *place) {
-    return tinyjson_select(text, length, query, query_length, true, depth, buffer, room, place);
-}
-
 static writes_of_two *call_of(const char *name) {
     static const struct {
         const char *name;
         writes_of_two *call;
     } calls[] = {{"part", tinyjson_part}, {"merge", tinyjson_merge}, {"patch", tinyjson_patch},
-                 {"select", select_values}, {"select_paths", select_paths}, {"select_lines", select_lines},
-                 {"select_lines_paths", select_lines_paths}};
+                 {"select", tinyjson_select}, {"select_paths", tinyjson_select_paths},
+                 {"select_lines", tinyjson_select_lines}, {"select_lines_paths", tinyjson_select_lines_paths}};
     size_t i = 0;
     while (strcmp(calls[i].name, name) != 0) {
         i++;

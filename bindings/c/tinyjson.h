@@ -115,17 +115,20 @@ uint32_t tinyjson_merge(const uint8_t *target, size_t length, const uint8_t *pat
 uint32_t tinyjson_patch(const uint8_t *text, size_t length, const uint8_t *patch, size_t patch_length, size_t depth,
                         uint8_t *buffer, size_t room, struct tinyjson_place *place);
 
-/* What a JSONPath query (RFC 9535) selects, into the buffer, a line each: the normal texts of the values or, with
- * `paths`, their normalized paths. It may select nothing. The query is read first; one that is not UTF-8 is a bad one,
- * and the place has the length of what precedes the fault. */
-uint32_t tinyjson_select(const uint8_t *text, size_t length, const uint8_t *query, size_t query_length, bool paths,
-                         size_t depth, uint8_t *buffer, size_t room, struct tinyjson_place *place);
+/* What a JSONPath query (RFC 9535) selects, into the buffer, a line each: the normal texts of the values, or their
+ * normalized paths. It may select nothing. The query is read first; one that is not UTF-8 is a bad one, and its place is
+ * in bytes. */
+uint32_t tinyjson_select(const uint8_t *text, size_t length, const uint8_t *query, size_t query_length, size_t depth,
+                         uint8_t *buffer, size_t room, struct tinyjson_place *place);
+uint32_t tinyjson_select_paths(const uint8_t *text, size_t length, const uint8_t *query, size_t query_length, size_t depth,
+                               uint8_t *buffer, size_t room, struct tinyjson_place *place);
 
-/* What tinyjson_select writes of each line, with an empty line behind it, into the buffer. The last line may lack its
- * line feed. A line without a value, or with a regular expression above the limits, stops the call: `text` is its
- * number, from 0 on. */
-uint32_t tinyjson_select_lines(const uint8_t *text, size_t length, const uint8_t *query, size_t query_length, bool paths,
-                               size_t depth, uint8_t *buffer, size_t room, struct tinyjson_place *place);
+/* What these write of each line, with an empty line behind it, into the buffer. The last line may lack its line feed. A
+ * line without a value, or with a regular expression above the limits, stops the call: `text` is its number, from 0 on. */
+uint32_t tinyjson_select_lines(const uint8_t *text, size_t length, const uint8_t *query, size_t query_length, size_t depth,
+                               uint8_t *buffer, size_t room, struct tinyjson_place *place);
+uint32_t tinyjson_select_lines_paths(const uint8_t *text, size_t length, const uint8_t *query, size_t query_length,
+                                     size_t depth, uint8_t *buffer, size_t room, struct tinyjson_place *place);
 
 /* The message of the error at a place, into the buffer, and its length. */
 uint32_t tinyjson_message(const struct tinyjson_place *place, uint8_t *buffer, size_t room, size_t *length);

@@ -12,7 +12,7 @@ import ctypes
 import enum
 import os
 import pathlib
-from typing import Any, Callable, List, Optional, Sequence, Union, overload
+from typing import Any, Callable, List, Optional, Tuple, Union, overload
 
 __all__ = ["DEPTH", "BadPatch", "BadPointer", "BadQuery", "Error", "Failed", "Kind", "NotUtf8", "PatternLimit"]
 __all__ += ["Refused", "Value", "check", "equal", "indented", "is_normal", "merge", "normal", "normal_lines", "part"]
@@ -146,7 +146,13 @@ def _library() -> ctypes.CDLL:
 
 
 _lib = _library()
-_size, _bytes, _place = ctypes.c_size_t, ctypes.c_char_p, ctypes.POINTER(_Place)
+_size, _bytes, _place = ctypes.c_size_t, ctypes.c_void_p, ctypes.POINTER(_Place)
+
+# A new `bytes` object of a size, whose bytes are not set yet, and the bytes that a `str` in ASCII has anyway: so a text is
+# copied once, when the answer is made.
+_new_bytes, _utf8 = ctypes.pythonapi.PyBytes_FromStringAndSize, ctypes.pythonapi.PyUnicode_AsUTF8AndSize
+_new_bytes.argtypes, _new_bytes.restype = (ctypes.c_void_p, ctypes.c_ssize_t), ctypes.py_object
+_utf8.argtypes, _utf8.restype = (ctypes.py_object, ctypes.c_void_p), ctypes.c_void_p
 
 
 def _call(name: str, *types: type) -> Callable[..., int]:
@@ -161,11 +167,10 @@ _normal_lines = _call("tinyjson_normal_lines", _bytes, _size, _size, _bytes, _si
 _indented = _call("tinyjson_indented", _bytes, _size, _size, _bytes, _size, _place)
 _is_normal = _call("tinyjson_is_normal", _bytes, _size, ctypes.POINTER(ctypes.c_bool))
 _equal = _call("tinyjson_equal", _bytes, _size, _bytes, _size, _size, ctypes.POINTER(ctypes.c_bool), _place)
-_part = _call("tinyjson_part", _bytes, _size, _bytes, _size, _size, _bytes, _size, _place)
-_merge = _call("tinyjson_merge", _bytes, _size, _bytes, _size, _size, _bytes, _size, _place)
-_patch = _call("tinyjson_patch", _bytes, _size, _bytes, _size, _size, _bytes, _size, _place)
-_select = _call("tinyjson_select", _bytes, _size, _bytes, _size, ctypes.c_bool, _size, _bytes, _size, _place)
-_select_lines = _call("tinyjson_select_lines", _bytes, _size, _bytes, _size, ctypes.c_bool, _size, _bytes, _size, _place)
+_two = (_bytes, _size, _bytes, _size, _size, _bytes, _size, _place)
+_part, _merge, _patch = (_call(f"tinyjson_{it}", *_two) for it in ("part", "merge", "patch"))
+_select, _select_paths = (_call(f"tinyjson_{it}", *_two) for it in ("select", "select_paths"))
+_select_lines, _select_lines_paths = (_call(f"tinyjson_{it}", *_two) for it in ("select_lines", "select_lines_paths"))
 _words = _call("tinyjson_message", _place, _bytes, _size, ctypes.POINTER(_size))
 
 
@@ -193,6 +198,14 @@ def _encoded(text: Text) -> bytes:
     raise TypeError(f"a text is a str or bytes, not {type(text).__name__}")
 
 
+def _given(text: Text) -> Tuple[Any, int]:
+    """A pointer to the bytes of a text, or their `bytes`; and their number. The caller keeps the text."""
+    if isinstance(text, str) and text.isascii():
+        return _utf8(text, None), len(text)
+    data = _encoded(text)
+    return data, len(data)
+
+
 def _limit(depth: int) -> int:
     if depth < 0:
         raise ValueError("depth is negative")
@@ -218,31 +231,37 @@ def _raise(status: int, place: _Place) -> None:
         raise MemoryError("tinyjson")
 
 
-def _written(call: Callable[..., int], depth: int, *texts: Text, flags: Sequence[bool] = ()) -> Optional[bytes]:
+def _written(call: Callable[..., int], depth: int, *texts: Text) -> Optional[memoryview]:
     """What a call writes, into a buffer that grows to what the call asks for, or None if there is no such part."""
-    data, place = [_encoded(it) for it in texts], _Place()
-    given = [*(it for text in data for it in (text, len(text))), *flags]
-    room = len(data[0])
+    given, place = [_given(it) for it in texts], _Place()
+    room = given[0][1]
     while True:
-        buffer = ctypes.create_string_buffer(room)
-        status = call(*given, _limit(depth), buffer, room, place)
+        buffer = _new_bytes(None, room)
+        status = call(*(it for pair in given for it in pair), _limit(depth), buffer, room, place)
         if status == _NOT_FOUND:
             return None
         if status != _TOO_SMALL:
             _raise(status, place)
-            return ctypes.string_at(buffer, place.length)
+            return memoryview(buffer)[: place.length]
         room = place.length
 
 
-def _like(text: Text, written: Optional[bytes]) -> Any:
+def _like(text: Text, written: Union[bytes, memoryview, None]) -> Any:
     """What was written, in the type of the text."""
-    return written.decode() if isinstance(text, str) and written is not None else written
+    if written is None:
+        return None
+    return str(written, "utf-8") if isinstance(text, str) else bytes(written)
+
+
+def _lines(text: Text, written: Optional[memoryview]) -> List[Any]:
+    """The lines that were written, in the type of the text."""
+    return [_like(text, line) for line in bytes(written or b"").split(b"\n")[:-1]]
 
 
 def check(text: Text, depth: int = DEPTH) -> None:
     """Raises `Refused` or `NotUtf8` unless the text has a value."""
-    data, place = _encoded(text), _Place()
-    _raise(_check(data, len(data), _limit(depth), place), place)
+    place = _Place()
+    _raise(_check(*_given(text), _limit(depth), place), place)
 
 
 @overload
@@ -315,11 +334,6 @@ def patch(text: Text, operations: Text, depth: int = DEPTH) -> Text:
     return _like(text, _written(_patch, depth, text, operations))
 
 
-def _selected(text: Text, query: str, depth: int, paths: bool) -> Any:
-    written = _written(_select, depth, text, query, flags=[paths]) or b""
-    return [_like(text, line) for line in written.split(b"\n")[:-1]]
-
-
 @overload
 def select(text: str, query: str, depth: int = ...) -> List[str]: ...
 @overload
@@ -330,7 +344,7 @@ def select(text: Text, query: str, depth: int = DEPTH) -> Any:
     >>> select('{"a": [{"b": 1.0}, {"b": 2}]}', "$.a[?@.b > 1]")
     ['{"b":2}']
     """
-    return _selected(text, query, depth, False)
+    return _lines(text, _written(_select, depth, text, query))
 
 
 @overload
@@ -343,15 +357,15 @@ def select_paths(text: Text, query: str, depth: int = DEPTH) -> Any:
     >>> select_paths('{"a": [1, 2]}', "$.a[-1:]")
     ["$['a'][1]"]
     """
-    return _selected(text, query, depth, True)
+    return _lines(text, _written(_select_paths, depth, text, query))
 
 
-def _selected_lines(text: Text, query: str, depth: int, paths: bool) -> Any:
+def _selected_lines(call: Callable[..., int], text: Text, query: str, depth: int) -> Any:
     """An empty line ends what is selected of a line."""
     found: List[List[Text]] = [[]]
-    for line in (_written(_select_lines, depth, text, query, flags=[paths]) or b"").split(b"\n")[:-1]:
+    for line in _lines(text, _written(call, depth, text, query)):
         if line:
-            found[-1].append(_like(text, line))
+            found[-1].append(line)
         else:
             found.append([])
     return found[:-1]
@@ -367,7 +381,7 @@ def select_lines(text: Text, query: str, depth: int = DEPTH) -> Any:
     >>> select_lines("[1.0,2]\\n{}", "$[*]")
     [['1', '2'], []]
     """
-    return _selected_lines(text, query, depth, False)
+    return _selected_lines(_select_lines, text, query, depth)
 
 
 @overload
@@ -376,15 +390,15 @@ def select_lines_paths(text: str, query: str, depth: int = ...) -> List[List[str
 def select_lines_paths(text: bytes, query: str, depth: int = ...) -> List[List[bytes]]: ...
 def select_lines_paths(text: Text, query: str, depth: int = DEPTH) -> Any:
     """What `select_paths` returns of each line. The last line may lack its line feed."""
-    return _selected_lines(text, query, depth, True)
+    return _selected_lines(_select_lines_paths, text, query, depth)
 
 
 def is_normal(text: Text) -> bool:
     """Whether the text is its own normal text. One that has no value is not."""
-    data, answer = _encoded(text), ctypes.c_bool()
-    status = _is_normal(data, len(data), answer)
+    answer = ctypes.c_bool()
+    status = _is_normal(*_given(text), answer)
     if status == _NOT_UTF8:
-        check(data)
+        check(text)
     if status != _OK:
         raise MemoryError("tinyjson")
     return answer.value
@@ -392,6 +406,6 @@ def is_normal(text: Text) -> bool:
 
 def equal(first: Text, second: Text, depth: int = DEPTH) -> bool:
     """Whether two texts have equal values."""
-    one, other, place, answer = _encoded(first), _encoded(second), _Place(), ctypes.c_bool()
-    _raise(_equal(one, len(one), other, len(other), _limit(depth), answer, place), place)
+    place, answer = _Place(), ctypes.c_bool()
+    _raise(_equal(*_given(first), *_given(second), _limit(depth), answer, place), place)
     return answer.value

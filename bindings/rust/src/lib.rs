@@ -268,7 +268,7 @@ pub fn patch(
 /// # Ok::<(), Error>(())
 /// ```
 pub fn select(text: impl AsRef<[u8]>, query: &str, depth: usize) -> Result<Vec<String>, Error> {
-    selected(text.as_ref(), query, false, depth)
+    selected(sys::tinyjson_select, text.as_ref(), query, depth)
 }
 
 /// The normalized path of each value that a JSONPath query (RFC 9535) selects in a text.
@@ -283,15 +283,23 @@ pub fn select_paths(
     query: &str,
     depth: usize,
 ) -> Result<Vec<String>, Error> {
-    selected(text.as_ref(), query, true, depth)
+    selected(sys::tinyjson_select_paths, text.as_ref(), query, depth)
 }
 
-fn selected(text: &[u8], query: &str, paths: bool, depth: usize) -> Result<Vec<String>, Error> {
+fn selected(
+    call: sys::WritesOfTwo,
+    text: &[u8],
+    query: &str,
+    depth: usize,
+) -> Result<Vec<String>, Error> {
     let lines = written(text.len(), |buffer| {
-        sys::select(sys::tinyjson_select, text, query, paths, depth, buffer)
+        sys::write_of_two(call, text, query.as_bytes(), depth, buffer)
     })?;
-    let lines = lines.unwrap_or_default();
-    Ok(lines.split_terminator('\n').map(str::to_owned).collect())
+    Ok(lines_of(&lines.unwrap_or_default()))
+}
+
+fn lines_of(text: &str) -> Vec<String> {
+    text.split_terminator('\n').map(str::to_owned).collect()
 }
 
 /// What [`select`] returns of each line. The last line may lack its line feed.
@@ -306,7 +314,7 @@ pub fn select_lines(
     query: &str,
     depth: usize,
 ) -> Result<Vec<Vec<String>>, Error> {
-    selected_lines(text.as_ref(), query, false, depth)
+    selected_lines(sys::tinyjson_select_lines, text.as_ref(), query, depth)
 }
 
 /// What [`select_paths`] returns of each line. The last line may lack its line feed.
@@ -321,25 +329,23 @@ pub fn select_lines_paths(
     query: &str,
     depth: usize,
 ) -> Result<Vec<Vec<String>>, Error> {
-    selected_lines(text.as_ref(), query, true, depth)
+    selected_lines(
+        sys::tinyjson_select_lines_paths,
+        text.as_ref(),
+        query,
+        depth,
+    )
 }
 
 /// An empty line ends what is selected of a line.
 fn selected_lines(
+    call: sys::WritesOfTwo,
     text: &[u8],
     query: &str,
-    paths: bool,
     depth: usize,
 ) -> Result<Vec<Vec<String>>, Error> {
     let written = written(text.len(), |buffer| {
-        sys::select(
-            sys::tinyjson_select_lines,
-            text,
-            query,
-            paths,
-            depth,
-            buffer,
-        )
+        sys::write_of_two(call, text, query.as_bytes(), depth, buffer)
     })?;
     let (mut found, mut of_line) = (Vec::new(), Vec::new());
     for line in written.unwrap_or_default().split_terminator('\n') {
@@ -365,11 +371,26 @@ fn changed(
     Ok(text.unwrap_or_default())
 }
 
-/// What a call writes, into a buffer that grows to what the call asks for, or nothing if there is no such part.
+/// What a call writes, or nothing if there is no such part.
 fn written(
-    mut room: usize,
+    room: usize,
     call: impl Fn(&mut [u8]) -> (Status, Place),
 ) -> Result<Option<String>, Error> {
+    let (status, place, written) = filled(room, call)?;
+    if status == Status::NOT_FOUND {
+        return Ok(None);
+    }
+    answer(status, &place)?;
+    String::from_utf8(written)
+        .map(Some)
+        .map_err(|_| Error::OutOfMemory)
+}
+
+/// What a call answers, and writes into a buffer that grows to what the call asks for.
+fn filled(
+    mut room: usize,
+    call: impl Fn(&mut [u8]) -> (Status, Place),
+) -> Result<(Status, Place, Vec<u8>), Error> {
     loop {
         let mut buffer = Vec::new();
         buffer
@@ -377,17 +398,11 @@ fn written(
             .map_err(|_| Error::OutOfMemory)?;
         buffer.resize(room, 0);
         let (status, place) = call(&mut buffer);
-        match status {
-            Status::TOO_SMALL => room = place.length,
-            Status::NOT_FOUND => return Ok(None),
-            _ => {
-                answer(status, &place)?;
-                buffer.truncate(place.length);
-                return String::from_utf8(buffer)
-                    .map(Some)
-                    .map_err(|_| Error::OutOfMemory);
-            }
+        if status != Status::TOO_SMALL {
+            buffer.truncate(place.length);
+            return Ok((status, place, buffer));
         }
+        room = place.length;
     }
 }
 

@@ -46,19 +46,6 @@ pub(crate) type WritesOfTwo = unsafe extern "C" fn(
     *mut Place,
 ) -> Status;
 
-/// A call that writes what a query selects.
-pub(crate) type Selects = unsafe extern "C" fn(
-    *const u8,
-    usize,
-    *const u8,
-    usize,
-    bool,
-    usize,
-    *mut u8,
-    usize,
-    *mut Place,
-) -> Status;
-
 extern "C" {
     fn tinyjson_check(text: *const u8, length: usize, depth: usize, place: *mut Place) -> Status;
     pub(crate) fn tinyjson_normal(
@@ -130,7 +117,16 @@ extern "C" {
         length: usize,
         query: *const u8,
         query_length: usize,
-        paths: bool,
+        depth: usize,
+        buffer: *mut u8,
+        room: usize,
+        place: *mut Place,
+    ) -> Status;
+    pub(crate) fn tinyjson_select_paths(
+        text: *const u8,
+        length: usize,
+        query: *const u8,
+        query_length: usize,
         depth: usize,
         buffer: *mut u8,
         room: usize,
@@ -141,7 +137,16 @@ extern "C" {
         length: usize,
         query: *const u8,
         query_length: usize,
-        paths: bool,
+        depth: usize,
+        buffer: *mut u8,
+        room: usize,
+        place: *mut Place,
+    ) -> Status;
+    pub(crate) fn tinyjson_select_lines_paths(
+        text: *const u8,
+        length: usize,
+        query: *const u8,
+        query_length: usize,
         depth: usize,
         buffer: *mut u8,
         room: usize,
@@ -210,33 +215,6 @@ pub(crate) fn write_of_two(
             first.len(),
             front,
             length,
-            depth,
-            target,
-            room,
-            &mut place,
-        )
-    };
-    (status, place)
-}
-
-pub(crate) fn select(
-    call: Selects,
-    text: &[u8],
-    query: &str,
-    paths: bool,
-    depth: usize,
-    buffer: &mut [u8],
-) -> (Status, Place) {
-    let mut place = Place::default();
-    let (front, length) = (query.as_ptr(), query.len());
-    let (room, target) = (buffer.len(), buffer.as_mut_ptr());
-    let status = unsafe {
-        call(
-            text.as_ptr(),
-            text.len(),
-            front,
-            length,
-            paths,
             depth,
             target,
             room,

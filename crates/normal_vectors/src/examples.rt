@@ -55,6 +55,14 @@ fn formatted_to(rt: HostRuntime) -> Result<(), Fail> {
 }
 
 #[test]
+fn into_bytes(rt: HostRuntime) -> Result<(), Fail> {
+    let alloc = rt.alloc();
+    let bytes = NormalText::read(alloc, "[1.50e1, null]")?.into_bytes(alloc)?;
+    assert_eq!(rt; bytes.as_slice(), b"[15,null]".as_slice());
+    Ok(())
+}
+
+#[test]
 fn to_string(rt: HostRuntime) -> Result<(), Fail> {
     let alloc = rt.alloc();
     let normal = NormalText::read(alloc, "[1.50e1, null]")?;

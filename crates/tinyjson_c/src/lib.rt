@@ -3,7 +3,8 @@
 #![tactic(auto)]
 
 ghost use Rattle.std.specs.Char.{IsScalar};
-ghost use Rattle.std.specs.Prelude.{◌≡◌, ◌≢◌, ◌<◌, ◌⊎◌, ◌↔◌, ℕ, IsTrue, List, None, Some, codes};
+ghost use Rattle.std.specs.Prelude.{◌≡◌, ◌≢◌, ◌<◌, ◌⊎◌, ◌↔◌, ℕ, IsTrue, List, None, Some};
+ghost use Rattle.std.specs.Prelude.{codes, false, true};
 ghost use Rattle.std.specs.Prelude.{Ok, encode_utf8_all, length};
 ghost use Rattle.std.specs.Str.{IsUtf8, chars};
 ghost use Rattle.tinyjson.specs.Error.{JsonParseErrorKind};
@@ -288,24 +289,23 @@ pub extern "C" fn tinyjson_patch(
 }
 
 /// Writes a line for each value that a JSONPath query (RFC 9535) selects in a text to the front of a buffer, if
-/// they fit: its normal form, or its normalized path. The query is read first. If it is no query, the length is
-/// how many characters are before the fault, or bytes if it is not UTF-8.
+/// they fit: its normal form. The query is read first. If it is no query, the length is how many characters are before
+/// the fault, or bytes if it is not UTF-8.
 #[unsafe(no_mangle)]
 pub extern "C" fn tinyjson_select(
     alloc: Global,
     text: &[u8],
     query: &[u8],
-    paths: bool,
     depth: usize,
     buffer: &mut [u8],
     place: &mut TinyjsonPlace,
 ) -> u32
     ensures written { result ≡ OK → (ps : List Part)
         × Selects (Some depth) text.now query.now ps
-        × HasWritten (part_lines paths ps) buffer.old buffer.new place.new }
+        × HasWritten (part_lines false ps) buffer.old buffer.new place.new }
     ensures too_small { result ≡ TOO_SMALL → (ps : List Part)
         × Selects (Some depth) text.now query.now ps
-        × LacksRoom (part_lines paths ps) buffer.old place.new }
+        × LacksRoom (part_lines false ps) buffer.old place.new }
     ensures bad_query { result ≡ BAD_QUERY → (n : ℕ) × IsBadQuery query.now n
         × (place.new ≡ length_place 1 n) }
     ensures limit { result ≡ PATTERN_LIMIT → HasLargePattern (Some depth) text.now query.now
@@ -317,7 +317,40 @@ pub extern "C" fn tinyjson_select(
         × Stops (Some depth) text.now 0 result place.new }
     ensures left { result ≢ OK → buffer.new ≡ buffer.old }
 {
-    match select::selected(alloc, text, query, paths, depth) {
+    match select::selected(alloc, text, query, false, depth) {
+        Ok(written) => put(&written, buffer, place),
+        Err(error) => error.put(0, place),
+    }
+}
+
+/// The same, with the normalized path of each value.
+#[unsafe(no_mangle)]
+pub extern "C" fn tinyjson_select_paths(
+    alloc: Global,
+    text: &[u8],
+    query: &[u8],
+    depth: usize,
+    buffer: &mut [u8],
+    place: &mut TinyjsonPlace,
+) -> u32
+    ensures written { result ≡ OK → (ps : List Part)
+        × Selects (Some depth) text.now query.now ps
+        × HasWritten (part_lines true ps) buffer.old buffer.new place.new }
+    ensures too_small { result ≡ TOO_SMALL → (ps : List Part)
+        × Selects (Some depth) text.now query.now ps
+        × LacksRoom (part_lines true ps) buffer.old place.new }
+    ensures bad_query { result ≡ BAD_QUERY → (n : ℕ) × IsBadQuery query.now n
+        × (place.new ≡ length_place 1 n) }
+    ensures limit { result ≡ PATTERN_LIMIT → HasLargePattern (Some depth) text.now query.now
+        × (place.new ≡ length_place 0 0) }
+    ensures memory { result ≡ OUT_OF_MEMORY → place.new ≡ memory_place 0 }
+    ensures stopped { result ≢ OK → result ≢ TOO_SMALL → result ≢ BAD_QUERY
+        → result ≢ PATTERN_LIMIT → result ≢ OUT_OF_MEMORY
+        → ((q : Query) × IsQueryOf query.now q)
+        × Stops (Some depth) text.now 0 result place.new }
+    ensures left { result ≢ OK → buffer.new ≡ buffer.old }
+{
+    match select::selected(alloc, text, query, true, depth) {
         Ok(written) => put(&written, buffer, place),
         Err(error) => error.put(0, place),
     }
@@ -331,16 +364,15 @@ pub extern "C" fn tinyjson_select_lines(
     alloc: Global,
     text: &[u8],
     query: &[u8],
-    paths: bool,
     depth: usize,
     buffer: &mut [u8],
     place: &mut TinyjsonPlace,
 ) -> u32
     ensures written { result ≡ OK → (bs : List ℕ)
-        × SelectsLines (Some depth) text.now query.now paths bs
+        × SelectsLines (Some depth) text.now query.now false bs
         × HasWritten bs buffer.old buffer.new place.new }
     ensures too_small { result ≡ TOO_SMALL → (bs : List ℕ)
-        × SelectsLines (Some depth) text.now query.now paths bs
+        × SelectsLines (Some depth) text.now query.now false bs
         × LacksRoom bs buffer.old place.new }
     ensures bad_query { result ≡ BAD_QUERY → (n : ℕ) × IsBadQuery query.now n
         × (place.new ≡ length_place 1 n) }
@@ -354,7 +386,41 @@ pub extern "C" fn tinyjson_select_lines(
         × StopsAtLine (Some depth) text.now result place.new }
     ensures left { result ≢ OK → buffer.new ≡ buffer.old }
 {
-    match select_lines::select_lines(alloc, text, query, paths, depth) {
+    match select_lines::select_lines(alloc, text, query, false, depth) {
+        Ok(written) => put(&written, buffer, place),
+        Err(line) => line.error.put(line.number, place),
+    }
+}
+
+/// The same, with the normalized path of each value.
+#[unsafe(no_mangle)]
+pub extern "C" fn tinyjson_select_lines_paths(
+    alloc: Global,
+    text: &[u8],
+    query: &[u8],
+    depth: usize,
+    buffer: &mut [u8],
+    place: &mut TinyjsonPlace,
+) -> u32
+    ensures written { result ≡ OK → (bs : List ℕ)
+        × SelectsLines (Some depth) text.now query.now true bs
+        × HasWritten bs buffer.old buffer.new place.new }
+    ensures too_small { result ≡ TOO_SMALL → (bs : List ℕ)
+        × SelectsLines (Some depth) text.now query.now true bs
+        × LacksRoom bs buffer.old place.new }
+    ensures bad_query { result ≡ BAD_QUERY → (n : ℕ) × IsBadQuery query.now n
+        × (place.new ≡ length_place 1 n) }
+    ensures limit { result ≡ PATTERN_LIMIT → (n : ℕ) × (line : List ℕ)
+        × IsLineAt (Some depth) text.now n line
+        × HasLargePattern (Some depth) line query.now × (place.new ≡ length_place n 0) }
+    ensures memory { result ≡ OUT_OF_MEMORY → (n : ℕ) × (place.new ≡ memory_place n) }
+    ensures stopped { result ≢ OK → result ≢ TOO_SMALL → result ≢ BAD_QUERY
+        → result ≢ PATTERN_LIMIT → result ≢ OUT_OF_MEMORY
+        → ((q : Query) × IsQueryOf query.now q)
+        × StopsAtLine (Some depth) text.now result place.new }
+    ensures left { result ≢ OK → buffer.new ≡ buffer.old }
+{
+    match select_lines::select_lines(alloc, text, query, true, depth) {
         Ok(written) => put(&written, buffer, place),
         Err(line) => line.error.put(line.number, place),
     }

@@ -51,9 +51,8 @@ pub(crate) fn normal(alloc: Global, bytes: &[u8], depth: usize) -> Result<Vec<u8
         Ok(text) => text,
         Err(stop) => return Err(stop),
     };
-    let mut written = Vec::new(alloc);
-    match text.write_to(alloc, &mut written) {
-        Ok(()) => Ok(written),
+    match text.into_bytes(alloc) {
+        Ok(written) => Ok(written),
         Err(_) => Err(Stop::OutOfMemory),
     }
 }

@@ -9,7 +9,7 @@ ghost use Rattle.tinyjson.specs.Text.{compact, indented, text};
 ghost use Rattle.tinyjson.specs.Tree.{Tree};
 ghost use Rattle.tinyjson.specs.Written.{WritesPrefix, WritesText};
 ghost use Rattle.tinyjson_grammar.specs.Soundness.{IsTree};
-ghost use Rattle.tinyjson_normal.specs.Normal.{HasTree, IsNormal};
+ghost use Rattle.tinyjson_normal.specs.Normal.{HasTree, IsKept, IsNormal};
 
 use crate::reader::NormalReader;
 use std::alloc::{AllocError, Global};
@@ -146,6 +146,23 @@ impl NormalText {
         self.write(alloc, Some(INDENT), b"\n", out)
     }
 
+    /// The compact text in UTF-8: the bytes that [`NormalText::write_to`] writes. If the tree is kept as compact
+    /// text, they are not copied. The only error is out of memory.
+    ///
+    /// ```
+    /// let bytes = NormalText::read(alloc, "[1.50e1, null]")?.into_bytes(alloc)?;
+    /// assert_eq!(rt; bytes.as_slice(), b"[15,null]".as_slice());
+    /// ```
+    pub fn into_bytes(self, alloc: Global) -> Result<Vec<u8>, AllocError>
+        ensures { (t : Tree) → HasTree self t →
+            IfOk result (λ v. v.items ≡ encode_utf8_all (compact t)) }
+    {
+        match self.content {
+            Content::Text(bytes) => Ok(bytes),
+            Content::Arena(arena) => arena_bytes(alloc, &arena),
+        }
+    }
+
     /// The compact text: what `JsonValue::stringify` returns for the text's value.
     ///
     /// ```
@@ -217,6 +234,18 @@ impl NormalText {
             Ok(written) => Ok(written.as_str() == text),
             Err(_) => Err(AllocError),
         }
+    }
+}
+
+/// The compact text of an arena.
+fn arena_bytes(alloc: Global, arena: &Arena) -> Result<Vec<u8>, AllocError>
+    ensures { (t : Tree) → IsKept (Content.Arena arena.now) t →
+        IfOk result (λ v. v.items ≡ encode_utf8_all (compact t)) }
+{
+    let mut bytes = Vec::new(alloc);
+    match arena.write_to(alloc, None, b"", &mut bytes) {
+        Ok(()) => Ok(bytes),
+        Err(_) => Err(AllocError),
     }
 }
 

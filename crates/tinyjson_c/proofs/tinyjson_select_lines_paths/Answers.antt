@@ -1,0 +1,7 @@
+use Rattle.tinyjson_c.proofs.SelectingLines.{unselected_line_stops}
+use Rattle.tinyjson_c.proofs.tinyjson_select_lines_paths.Goals as goal
+
+pub returns-in-Err-clause-stopped : goal.returns-in-Err-clause-stopped
+returns-in-Err-clause-stopped c = λ ok room bad large memory.
+    unselected_line_stops _ _ _ _ _ _ c.in-Err.line.error c.in-Err.ensures c.put-in-Err.ensures.status c.put-in-Err.ensures.place bad large
+    memory
