@@ -3,8 +3,8 @@ ghost use Rattle.std.specs.IoError.{error_kind};
 ghost use Rattle.std.specs.Prelude.{◌≡◌, ◌∷◌, [], Some, encode_utf8_all};
 ghost use Rattle.std.specs.Str.{chars};
 ghost use Rattle.tinyjson.specs.Characters.{line_feed};
-ghost use Rattle.tinyjson.specs.View.{view};
 ghost use Rattle.tinyjson.specs.Written.{WritesPrefix};
+ghost use Rattle.tinyjson_document.specs.Document.{tree};
 ghost use Rattle.json_path.specs.Lines.{path_error_message, form_text, line_of, lines_of};
 ghost use Rattle.json_path.specs.Lines.{IsFailedWrite, WritesNodes, WritesOfText, WritesOfQuery, WritesSelected};
 ghost use Rattle.tinyjson_path.specs.Nodes.{path_view, part_view, parts_view};
@@ -14,10 +14,11 @@ ghost use Rattle.tinyjson_path.specs.Patterns.{judged};
 use std::alloc::Global;
 use std::fmt;
 use std::io::{self, ErrorKind, Write};
-use tinyjson::{JsonParseError, JsonValue};
+use tinyjson::JsonParseError;
+use tinyjson_document::Document;
 use tinyjson_lines::write_all;
 use tinyjson_path::{
-    FindError, Location, Node, ParseError, ParseErrorKind, PatternLimit, Query, find, path_text,
+    FindError, Location, Node, ParseError, ParseErrorKind, PatternLimit, Query, find_in, path_text,
 };
 
 /// What is written for a node.
@@ -113,12 +114,8 @@ fn write_of_text<W: Write>(
     ensures { WritesOfText judged form query.now (chars text.now)
         (W.contents output.old) (W.contents output.new) result }
 {
-    match JsonValue::from_str(alloc, text) {
-        Ok(value) => {
-            let answer = write_found(alloc, query, &value, form, output);
-            value.dismantle();
-            answer
-        }
+    match Document::read(alloc, text) {
+        Ok(document) => write_found(alloc, query, document.root(), form, output),
         Err(error) => {
             if error.is_out_of_memory() {
                 return Err(PathError::OutOfMemory);
@@ -131,14 +128,14 @@ fn write_of_text<W: Write>(
 fn write_found<W: Write>(
     alloc: Global,
     query: &Query,
-    value: &JsonValue,
+    root: tinyjson_document::Node,
     form: Form,
     output: &mut W,
 ) -> Result<(), PathError>
-    ensures { WritesNodes judged form query.now (view value.now)
+    ensures { WritesNodes judged form query.now (tree root.entry)
         (W.contents output.old) (W.contents output.new) result }
 {
-    match find(query, alloc, value) {
+    match find_in(query, alloc, root) {
         Ok(nodes) => {
             if nodes.is_empty() {
                 return Err(PathError::NoNode);

@@ -1,19 +1,20 @@
 //! What a query selects in a text (JSONPath, RFC 9535), a line each.
 ghost use Rattle.std.specs.Prelude.{◌≡◌, ◌++◌, List, MatchResult, OnOk, Some, encode_utf8_all};
+ghost use Rattle.tinyjson.specs.Text.{compact};
 ghost use Rattle.tinyjson.specs.View.{view};
 ghost use Rattle.tinyjson_c.specs.Select.{FindsIn, FindsInText, IsReadQuery, IsUnselected, Selects};
 ghost use Rattle.tinyjson_c.specs.Select.{part_line, part_lines, unselected_place, unselected_status};
-ghost use Rattle.tinyjson_path.specs.Nodes.{Part, part_view, parts_view, path_view};
+ghost use Rattle.tinyjson_path.specs.Nodes.{Part, part_view, parts_view, path_view, tree_of};
 ghost use Rattle.tinyjson_path.specs.Paths.{path_text};
 
 use crate::place::TinyjsonPlace;
 use crate::status::{BAD_QUERY, PATTERN_LIMIT};
 use crate::stop::Stop;
-use crate::value::{push_value, read};
+use crate::value::read;
 use std::alloc::{AllocError, Global};
 use std::str;
 use tinyjson::JsonValue;
-use tinyjson_path::{FindError, Location, Node, ParseErrorKind, Query, find, path_text};
+use tinyjson_path::{FindError, Location, Node, NodeValue, ParseErrorKind, Query, find, path_text};
 
 /// Why nothing is selected.
 #[derive(Clone, Copy)]
@@ -157,9 +158,20 @@ fn push_line(
     if paths {
         push_path(alloc, &node.location, written)?;
     } else {
-        push_value(alloc, node.value, written)?;
+        push_value(alloc, &node.value, written)?;
     }
     Ok(written.push(b'\n')?)
+}
+
+/// Appends the normal form of the value of a node.
+fn push_value(alloc: Global, value: &NodeValue, written: &mut Vec<u8>) -> Result<(), AllocError>
+    ensures { OnOk result (written.new.items
+        ≡ written.old.items ++ encode_utf8_all (compact (tree_of value.now))) }
+{
+    match value.write_to(alloc, written) {
+        Ok(()) => Ok(()),
+        Err(_) => Err(AllocError),
+    }
 }
 
 /// Appends a normalized path.

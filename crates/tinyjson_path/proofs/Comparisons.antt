@@ -1,34 +1,97 @@
--- Values that are compared, beside trees.
-use Rattle.std.proofs.Common.{◌≡◌, ℕ, suc, List, [], ◌∷◌, Some, length, Vec, Global, Bor, String, string_bytes, refl, sym, ap, ap₂, ◌∙◌}
-use Rattle.std.proofs.lemmas.Str.{encodes-chars, IsUtf8-string_bytes}
+-- What is known of a tree by its kind, and by its number or its string.
+use Rattle.std.proofs.Common.{◌≡◌, ◌≢◌, ℕ, Bool, true, false, List, [], Option, Some, None, length, refl, sym, ap, ap₂, ◌∙◌}
+use Rattle.std.proofs.lemmas.Str.{encodes-chars}
 use Rattle.std.specs.Cmp.Lexicographic.{slice_cmp}
 use Rattle.std.specs.Ordering.{nat_cmp, is_lt}
-use Rattle.tinyjson.proofs.Callers.{view_Array, view_Object, view_String, item_count_view}
-use Rattle.tinyjson.specs.Access.{JsonMap}
-use Rattle.tinyjson.specs.View.{view, text, members_view, members_listed}
+use Rattle.std.specs.Str.{IsUtf8, chars}
+use Rattle.tinyjson.specs.Equality.{tree_eq, tree_eq_Decides}
+use Rattle.tinyjson.specs.Tree.{Tree, null, boolean, number, string, array, object, key_cmp, Items, no_items, Members, no_members}
+use Rattle.tinyjson.specs.View.{view}
 use Rattle.tinyjson.specs.declared.value.JsonValue.{JsonValue}
 use Rattle.tinyjson.specs.declared.value.JsonValue.TheVariants as is
-use Rattle.tinyjson_path.specs.Comparing.{member_count, size_of, is_tree_less}
+use Rattle.tinyjson.specs.Kind.{kind_of}
+use Rattle.tinyjson.specs.JsonKind.TheVariants as kind
+use Rattle.tinyjson_document.specs.Parts.{number_in, string_in, members_in, items_in as listed_items, size}
+use Rattle.tinyjson_path.specs.Comparing.{size_of, is_tree_less}
+use Rattle.tinyjson_path.specs.Nodes.{Step, Part, items_from, members_at, children}
+use Rattle.tinyjson_path.specs.Seen.{numbers_less, texts_less}
+use Rattle.tinyjson_path.specs.Selecting.{items_in}
 
-listed_count : (ps : List (Bor (String Global) × Bor JsonValue)) → member_count (members_listed ps) ≡ length ps
-listed_count [] = refl
-listed_count (p ∷ ps) = ap suc (listed_count ps)
+-- ---- equality
 
-pub members_counted : (v : JsonValue) (m : JsonMap) (ps : List (Bor (String Global) × Bor JsonValue)) (n : ℕ) → v ≡ is.Object m
-    → members_listed ps ≡ members_view m.entries → n ≡ length ps → Some n ≡ size_of (view v)
-members_counted v m ps n e h g =
-    ap Some (g ∙ (sym (listed_count ps) ∙ ap member_count h)) ∙ ap size_of (sym (ap view e ∙ view_Object m))
+pub tree_eq_sym : (t u : Tree) → tree_eq t u ≡ tree_eq u t
+tree_eq_sym t u = by (tree_eq t u) (tree_eq u t) refl refl
+  where
+    by : (a b : Bool) → tree_eq t u ≡ a → tree_eq u t ≡ b → a ≡ b
+    by true true e h = refl
+    by false false e h = refl
+    by true false e h = sym ((tree_eq_Decides u t).1 (sym ((tree_eq_Decides t u).0 e))) ∙ h
+    by false true e h = sym e ∙ (tree_eq_Decides t u).1 (sym ((tree_eq_Decides u t).0 h))
 
-pub items_counted : (v : JsonValue) (l : Vec JsonValue Global) (n : ℕ) → v ≡ is.Array l → n ≡ length l.items → Some n ≡ size_of (view v)
-items_counted v l n e h = ap Some (h ∙ sym (item_count_view l.items)) ∙ ap size_of (sym (ap view e ∙ view_Array l))
+-- ---- the order
 
-pub characters_counted : (v : JsonValue) (s : String Global) (n : ℕ) → v ≡ is.String s → n ≡ length (text s) → Some n ≡ size_of (view v)
-characters_counted v s n e h = ap Some h ∙ ap size_of (sym (ap view e ∙ view_String s))
+pub by_numbers : (t u : Tree) → kind.Number ≡ kind_of t → numbers_less (number_in t) (number_in u) ≡ is_tree_less t u
+by_numbers (number d) (number e) h = refl
+by_numbers (number d) _ h = refl
+by_numbers _ u h = absurd cc
+
+pub by_strings : (t u : Tree) → kind.String ≡ kind_of t → texts_less (string_in t) (string_in u) ≡ is_tree_less t u
+by_strings (string k) (string l) h = refl
+by_strings (string k) _ h = refl
+by_strings _ u h = absurd cc
+
+pub by_neither : (t u : Tree) → kind.Number ≢ kind_of t → kind.String ≢ kind_of t → false ≡ is_tree_less t u
+by_neither (number d) u n s = absurd (n refl)
+by_neither (string k) u n s = absurd (s refl)
+by_neither _ u n s = refl
 
 -- strings are ordered by their bytes
-pub strings_less : (v w : JsonValue) (s t : String Global) (a b : List ℕ) → v ≡ is.String s → w ≡ is.String t → a ≡ string_bytes s
-    → b ≡ string_bytes t → is_lt (slice_cmp nat_cmp a b) ≡ is_tree_less (view v) (view w)
-strings_less v w s t a b e f g h =
-    ap₂ (λ x y. is_lt (slice_cmp nat_cmp x y)) (g ∙ sym (encodes-chars (string_bytes s) (IsUtf8-string_bytes s)))
-    (h ∙ sym (encodes-chars (string_bytes t) (IsUtf8-string_bytes t)))
-    ∙ ap₂ is_tree_less (sym (ap view e ∙ view_String s)) (sym (ap view f ∙ view_String t))
+pub strings_less : (a b : List ℕ) → IsUtf8 a → IsUtf8 b → is_lt (slice_cmp nat_cmp a b) ≡ is_lt (key_cmp (chars a) (chars b))
+strings_less a b u w = ap₂ (λ x y. is_lt (slice_cmp nat_cmp x y)) (sym (encodes-chars a u)) (sym (encodes-chars b w))
+
+-- ---- sizes
+
+pub characters_counted : (t : Tree) (cs : List ℕ) (n : ℕ) → Some cs ≡ string_in t → n ≡ length cs → Some n ≡ size_of t
+characters_counted (string ds) cs n e h = let same : cs ≡ ds = cc in ap Some (h ∙ ap length same)
+characters_counted _ cs n e h = absurd cc
+
+pub string_there : {A : Type 0} (t : Tree) → kind.String ≡ kind_of t → None ≡ string_in t → A
+string_there (string ds) k e = absurd cc
+string_there _ k e = absurd cc
+
+pub array_size : (t : Tree) → kind.Array ≡ kind_of t → Some (size t) ≡ size_of t
+array_size (array ts) k = refl
+array_size _ k = absurd cc
+
+pub object_size : (t : Tree) → kind.Object ≡ kind_of t → Some (size t) ≡ size_of t
+object_size (object ms) k = refl
+object_size _ k = absurd cc
+
+pub no_size : (t : Tree) → kind.String ≢ kind_of t → kind.Array ≢ kind_of t → kind.Object ≢ kind_of t → None ≡ size_of t
+no_size (string cs) s a o = absurd (s refl)
+no_size (array ts) s a o = absurd (a refl)
+no_size (object ms) s a o = absurd (o refl)
+no_size _ s a o = refl
+
+pub array_items : (t : Tree) → kind.Array ≡ kind_of t → size t ≡ items_in t
+array_items (array ts) k = refl
+array_items _ k = absurd cc
+
+pub no_array : (t : Tree) → kind.Array ≢ kind_of t → 0 ≡ items_in t
+no_array (array ts) k = absurd (k refl)
+no_array _ k = refl
+
+-- ---- children
+
+pub array_children : (path : List Step) (t : Tree) → kind.Array ≡ kind_of t → items_from path 0 (listed_items t) ≡ children path t
+array_children path (array ts) k = refl
+array_children path _ k = absurd cc
+
+pub object_children : (path : List Step) (t : Tree) → kind.Object ≡ kind_of t → members_at path (members_in t) ≡ children path t
+object_children path (object ms) k = refl
+object_children path _ k = absurd cc
+
+pub no_children : (path : List Step) (t : Tree) → kind.Array ≢ kind_of t → kind.Object ≢ kind_of t → [] ≡ children path t
+no_children path (array ts) a o = absurd (a refl)
+no_children path (object ms) a o = absurd (o refl)
+no_children path _ a o = refl

@@ -1,25 +1,23 @@
 -- What an error of a part of a query says of the whole.
 use Rattle.std.proofs.Common.{◌≡◌, ℕ, ◌<◌, ◌==◌, false, not, List, [], ◌∷◌, ◌++◌, map, length, get_or, refl, sym, ap}
-use Rattle.std.proofs.Common.{◌∙◌, subst, Bor}
+use Rattle.std.proofs.Common.{◌∙◌, subst}
 use Rattle.std.proofs.Common.{rules, Result, Option, suc, arith}
 use Rattle.std.proofs.lemmas.Bool.Decides.{nat_tests}
 use Rattle.std.specs.Prelude.{IsErrAnd, IfErr}
 use Rattle.tinyjson.specs.Tree.{Tree}
-use Rattle.tinyjson.specs.View.{view}
-use Rattle.tinyjson.specs.declared.value.JsonValue.{JsonValue}
 use Rattle.tinyjson_path.specs.Comparing.{origin_tree}
-use Rattle.tinyjson_path.specs.Nodes.{Part, part_view, parts_view}
-use Rattle.tinyjson_path.specs.Queries.{holds_of, found_by, is_some_part, comparable_value}
+use Rattle.tinyjson_path.specs.Nodes.{Part, part_view, parts_view, tree_of}
+use Rattle.tinyjson_path.specs.Queries.{found_by, filter_parts, is_some_part, comparable_value}
 use Rattle.tinyjson_path.specs.Strings.{Texts, joined, strings_in, strings_at, strings_of, comparable_strings, IsFrom, IsFromAny}
 use Rattle.tinyjson_path.specs.declared.node.Node.{Node}
+use Rattle.tinyjson_path.specs.declared.value.NodeValue.{NodeValue}
 use Rattle.tinyjson_path.specs.declared.patterns.FindError.{FindError}
 use Rattle.tinyjson_path.proofs.Stated.{comparable_keeps}
 use Rattle.tinyjson_path.proofs.Selected.{AreWithin, are_within, is_origin}
 use Rattle.tinyjson_path.proofs.Within.{Within, within_same, within_left, within_right, within_trans, within_each, within_both}
 use Rattle.tinyjson_path.proofs.Within.{from_within, from_error, from_result, of_query, of_here, of_all}
 use Rattle.tinyjson_path_query.specs.declared.query.Comparable.{Comparable}
-use Rattle.tinyjson_path_query.specs.declared.query.Expression.{Expression, the_lemmas}
-use Rattle.tinyjson_path_query.specs.declared.query.Expression.TheVariants as expression
+use Rattle.tinyjson_path_query.specs.declared.query.Expression.{the_lemmas}
 use Rattle.tinyjson_path_query.specs.declared.query.FilterQuery.{FilterQuery}
 use Rattle.tinyjson_path_query.specs.declared.query.Origin.{Origin}
 
@@ -68,11 +66,10 @@ error_of whole part here below root d r h w v k =
     (of_all whole here root part below w (within_trans below here (whole ++ (strings_in root ++ here)) v (of_here whole here root))) k
 
 -- of a query in a filter
-pub error_from : {T : Type 0} (whole part : Texts) (o : Origin) (root here start : Tree) (d : FindError) (r : Result T FindError)
-    → IsErrAnd r (λ e. e ≡ d) → whole ≡ part → start ≡ origin_tree o root here → IsFromAny part root (strings_in start) d
-    → IfErr r (IsFromAny whole root (strings_in here))
-error_from whole part o root here start d r h e s k =
-    from_error (part ++ (strings_in root ++ strings_in start)) (whole ++ (strings_in root ++ strings_in here)) d r h
+pub error_from : {T : Type 0} (whole part : Texts) (o : Origin) (root here start : Tree) (r : Result T FindError) → whole ≡ part
+    → start ≡ origin_tree o root here → IfErr r (IsFromAny part root (strings_in start)) → IfErr r (IsFromAny whole root (strings_in here))
+error_from whole part o root here start r e s k =
+    from_result (part ++ (strings_in root ++ strings_in start)) (whole ++ (strings_in root ++ strings_in here)) r
     (of_all whole (strings_in here) root part (strings_in start) (is_whole whole part (strings_in here) root e)
     (within_trans (strings_in start) (strings_in root ++ strings_in here) (whole ++ (strings_in root ++ strings_in here))
     (subst (λ t. Within (strings_in t) (strings_in root ++ strings_in here)) (sym s) (is_origin o root here))
@@ -105,6 +102,12 @@ same_result whole part here root r e k =
     from_result (part ++ (strings_in root ++ here)) (whole ++ (strings_in root ++ here)) r
     (of_all whole here root part here (is_whole whole part here root e) (of_here whole here root)) k
 
+pub part_result : {T : Type 0} (whole part here : Texts) (root : Tree) (r : Result T FindError)
+    → Within part (whole ++ (strings_in root ++ here)) → IfErr r (IsFromAny part root here) → IfErr r (IsFromAny whole root here)
+part_result whole part here root r w k =
+    from_result (part ++ (strings_in root ++ here)) (whole ++ (strings_in root ++ here)) r
+    (of_all whole here root part here w (of_here whole here root)) k
+
 -- of a query that is asked of the root
 pub error_of_root : {T : Type 0} (whole part : Texts) (root : Tree) (r : Result T FindError) → whole ≡ part
     → IfErr r (IsFromAny part root (strings_in root)) → IfErr r (IsFrom (whole ++ strings_in root))
@@ -117,9 +120,9 @@ error_of_root whole part root r e k =
     k
 
 -- of a root that is the same
-pub error_at : (part below : Texts) (d : FindError) {r s : Bor JsonValue} → r ≡ s → IsFromAny part (view r.now) below d
-    → IsFromAny part (view s.now) below d
-error_at part below d e k = subst (λ x. IsFromAny part (view x.now) below d) e k
+pub error_at : (part below : Texts) (d : FindError) {r s : NodeValue} → r ≡ s → IsFromAny part (tree_of r) below d
+    → IsFromAny part (tree_of s) below d
+error_at part below d e k = subst (λ x. IsFromAny part (tree_of x) below d) e k
 
 -- ---- a test
 
@@ -127,13 +130,12 @@ some_are : (ns : List Node) → not (length ns == 0) ≡ is_some_part (parts_vie
 some_are [] = refl
 some_are (n ∷ ns) = let none : (suc (length ns) == 0) ≡ false = grind (arith, nat_tests) in ap not none
 
-pub test_holds : (x : Expression) (q : FilterQuery) (root here start : Tree) (ns : List Node) → x ≡ expression.Test q
-    → start ≡ origin_tree q.origin root here → parts_view ns ≡ found_by q.segments.items root start
-    → not (length ns == 0) ≡ holds_of x root here
-test_holds x q root here start ns e s p =
-    some_are ns
-    ∙ (ap is_some_part (p ∙ ap (found_by q.segments.items root) s)
-    ∙ sym (ap (λ y. holds_of y root here) e ∙ stated))
-  where
-    stated : holds_of (expression.Test q) root here ≡ is_some_part (found_by q.segments.items root (origin_tree q.origin root here))
-    stated = search (rules, the_lemmas)
+pub test_holds : (q : FilterQuery) (root here : Tree) (ns : List Node) → parts_view ns ≡ filter_parts q root here
+    → not (length ns == 0) ≡ is_some_part (filter_parts q root here)
+test_holds q root here ns p = some_are ns ∙ ap is_some_part p
+
+-- ---- a query in a filter
+
+pub finds_by : (q : FilterQuery) (root here start : Tree) → start ≡ origin_tree q.origin root here
+    → found_by q.segments.items root start ≡ filter_parts q root here
+finds_by q root here start s = ap (found_by q.segments.items root) s ∙ search (rules, the_lemmas)

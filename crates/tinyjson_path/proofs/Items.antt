@@ -1,11 +1,13 @@
--- Loops over the items of an array, by what is left to do. The items are those of values x whose trees are g x.
-use Rattle.std.proofs.Common.{◌≡◌, ℕ, zero, suc, ◌+◌, ◌-◌, ◌<◌, ◌≤◌, Bool, true, false, cond, List, [], ◌∷◌, ◌++◌, reverse, map, take}
-use Rattle.std.proofs.Common.{drop, length, get_or, refl, sym, ap, ◌∙◌, arith, append_assoc, append-nil}
-use Rattle.std.proofs.Math.Seq.{drop-cons, take-suc}
+-- Loops over the items of an array, by what is left to do.
+use Rattle.std.proofs.Common.{◌≡◌, ℕ, zero, suc, ◌+◌, ◌<◌, ◌≤◌, Bool, true, false, cond, List, [], ◌∷◌, ◌++◌, reverse, drop, length, get_or}
+use Rattle.std.proofs.Common.{Option, Some, None, refl, sym, ap, ◌∙◌, arith, append_assoc, append-nil}
+use Rattle.std.proofs.Math.Seq.{drop-cons}
 use Rattle.std.proofs.lemmas.List.{reverse-append}
-use Rattle.tinyjson.specs.Tree.{Tree, items_of}
-use Rattle.tinyjson_path.specs.Nodes.{Step, at_index, Part, below, items_from}
-use Rattle.tinyjson_path.specs.Selecting.{taken}
+use Rattle.tinyjson.specs.Index.{nth, tree_at, item_count}
+use Rattle.tinyjson.specs.Tree.{Tree, null, boolean, number, string, array, object, Items, no_items, item}
+use Rattle.tinyjson_document.specs.Parts.{items_in as listed_items, size}
+use Rattle.tinyjson_path.specs.Nodes.{Step, at_index, Part, items_from}
+use Rattle.tinyjson_path.specs.Selecting.{one_below, taken}
 
 -- the element that a loop is at
 pub drop_at : {A : Type 0} (xs : List A) (i : ℕ) (x : A) → i < length xs → x ≡ get_or xs i x → drop i xs ≡ x ∷ drop (i + 1) xs
@@ -19,84 +21,154 @@ drop_past [] (suc i) h = refl
 drop_past (y ∷ ys) zero h = absurd (omega arith)
 drop_past (y ∷ ys) (suc i) h = drop_past ys i (omega arith)
 
-pub take_at : {A : Type 0} (xs : List A) (i : ℕ) (x : A) → i < length xs → x ≡ get_or xs i x → take (i + 1) xs ≡ take i xs ++ x ∷ []
-take_at xs i x h e =
-    let more : i + 1 ≡ suc i = omega arith in
-    ap (λ j. take j xs) more ∙ (take-suc xs i x h ∙ ap (λ z. take i xs ++ z ∷ []) (sym e))
+-- ---- the items from an index on, and those before it
 
-module _ {A : Type 0} (g : A → Tree) (path : List Step) where
-  abbrev pub items_left : ℕ → List A → List Part
-  items_left i xs = items_from path i (items_of (map g xs))
+abbrev pub dropped : ℕ → Items → Items
+dropped zero ts = ts
+dropped (suc i) no_items = no_items
+dropped (suc i) (item t ts) = dropped i ts
 
-  pub step_items : (acc more goal : List Part) (i : ℕ) (x : A) (rest next : List A) → rest ≡ x ∷ next
-      → more ≡ acc ++ below path (at_index i) (g x) ∷ []
-      → acc ++ items_left i rest ≡ goal → more ++ items_left (i + 1) next ≡ goal
-  step_items acc more goal i x rest next e m h =
-      ap (λ z. z ++ items_left (i + 1) next) m
-      ∙ (append_assoc acc (below path (at_index i) (g x) ∷ []) (items_left (i + 1) next) ∙ (ap (λ z. acc ++ items_left i z) (sym e) ∙ h))
+abbrev pub front : ℕ → Items → Items
+front zero ts = no_items
+front (suc i) no_items = no_items
+front (suc i) (item t ts) = item t (front i ts)
 
-  pub last_items : (acc goal : List Part) (i : ℕ) (rest : List A) → rest ≡ [] → acc ++ items_left i rest ≡ goal → acc ≡ goal
-  last_items acc goal i rest e h = sym (append-nil acc) ∙ (ap (λ z. acc ++ items_left i z) (sym e) ∙ h)
+dropped_past : (ts : Items) (i : ℕ) → item_count ts ≤ i → dropped i ts ≡ no_items
+dropped_past no_items zero h = refl
+dropped_past no_items (suc i) h = refl
+dropped_past (item t ts) zero h = absurd (omega (arith, h))
+dropped_past (item t ts) (suc i) h = dropped_past ts i (omega (arith, h))
+
+front_past : (ts : Items) (i : ℕ) → item_count ts ≤ i → front i ts ≡ ts
+front_past no_items zero h = refl
+front_past no_items (suc i) h = refl
+front_past (item t ts) zero h = absurd (omega (arith, h))
+front_past (item t ts) (suc i) h = ap (item t) (front_past ts i (omega (arith, h)))
+
+counted : (t : Tree) → item_count (listed_items t) ≤ size t
+counted (array ts) = omega arith
+counted (object ms) = omega arith
+counted _ = omega arith
+
+at_item : (t : Tree) (i : ℕ) → tree_at t i ≡ nth (listed_items t) i
+at_item (array ts) i = refl
+at_item _ i = refl
+
+module _ (path : List Step) where
+  items_step : (k i : ℕ) (ts : Items)
+      → items_from path k (dropped i ts) ≡ one_below path (at_index k) (nth ts i) ++ items_from path (k + 1) (dropped (suc i) ts)
+  items_step k zero no_items = refl
+  items_step k zero (item t ts) = refl
+  items_step k (suc i) no_items = refl
+  items_step k (suc i) (item t ts) = items_step k i ts
+
+  module _ (t : Tree) where
+    abbrev one_at : ℕ → List Part
+    one_at i = one_below path (at_index i) (tree_at t i)
+
+    pub step_items : (acc more goal : List Part) (i : ℕ) → more ≡ acc ++ one_at i
+        → acc ++ items_from path i (dropped i (listed_items t)) ≡ goal → more ++ items_from path (i + 1) (dropped (i + 1) (listed_items t)) ≡ goal
+    step_items acc more goal i m h =
+        let next : i + 1 ≡ suc i = omega arith in
+        ap (λ z. z ++ items_from path (i + 1) (dropped (i + 1) (listed_items t))) m
+        ∙ (append_assoc acc (one_at i) (items_from path (i + 1) (dropped (i + 1) (listed_items t)))
+        ∙ (ap (λ j. acc ++ (one_at i ++ items_from path (i + 1) (dropped j (listed_items t)))) next
+        ∙ (ap (λ o. acc ++ (one_below path (at_index i) o ++ items_from path (i + 1) (dropped (suc i) (listed_items t)))) (at_item t i)
+        ∙ (ap (λ z. acc ++ z) (sym (items_step i i (listed_items t))) ∙ h))))
+
+    pub last_items : (acc goal : List Part) (i : ℕ) → size t ≤ i → acc ++ items_from path i (dropped i (listed_items t)) ≡ goal → acc ≡ goal
+    last_items acc goal i l h =
+        let few : item_count (listed_items t) ≤ size t = counted t in
+        sym (append-nil acc)
+        ∙ (ap (λ ts. acc ++ items_from path i ts) (sym (dropped_past (listed_items t) i (omega (arith, few, l)))) ∙ h)
 
   module _ (f : ℕ → Bool) where
-    abbrev pub taken_left : ℕ → List A → List Part
-    taken_left i xs = taken f path i (items_of (map g xs))
+    none_taken : (b : Bool) (ps : List Part) → ps ≡ cond b ps ps
+    none_taken true ps = refl
+    none_taken false ps = refl
 
-    abbrev pub one_taken : ℕ → A → List Part
-    one_taken i x = cond (f i) (below path (at_index i) (g x) ∷ []) []
+    taken_step : (k i : ℕ) (ts : Items)
+        → taken f path k (dropped i ts) ≡ cond (f k) (one_below path (at_index k) (nth ts i)) [] ++ taken f path (k + 1) (dropped (suc i) ts)
+    taken_step k zero no_items = none_taken (f k) [] ∙ sym (append-nil (cond (f k) [] []))
+    taken_step k zero (item t ts) = refl
+    taken_step k (suc i) no_items = none_taken (f k) [] ∙ sym (append-nil (cond (f k) [] []))
+    taken_step k (suc i) (item t ts) = taken_step k i ts
 
-    pub step_taken : (acc more goal : List Part) (i : ℕ) (x : A) (rest next : List A) → rest ≡ x ∷ next → more ≡ acc ++ one_taken i x
-        → acc ++ taken_left i rest ≡ goal → more ++ taken_left (i + 1) next ≡ goal
-    step_taken acc more goal i x rest next e m h =
-        ap (λ z. z ++ taken_left (i + 1) next) m
-        ∙ (append_assoc acc (one_taken i x) (taken_left (i + 1) next) ∙ (ap (λ z. acc ++ taken_left i z) (sym e) ∙ h))
+    front_step : (k i : ℕ) (ts : Items)
+        → taken f path k (front (suc i) ts) ≡ taken f path k (front i ts) ++ cond (f (k + i)) (one_below path (at_index (k + i)) (nth ts i)) []
+    front_step k zero no_items = none_taken (f (k + 0)) []
+    front_step k (suc i) no_items = none_taken (f (k + suc i)) []
+    front_step k zero (item t ts) =
+        let same : k ≡ k + 0 = omega arith in
+        append-nil (cond (f k) (one_below path (at_index k) (Some t)) []) ∙ ap (λ j. cond (f j) (one_below path (at_index j) (Some t)) []) same
+    front_step k (suc i) (item t ts) =
+        let same : k + 1 + i ≡ k + suc i = omega arith in
+        let this : List Part = cond (f k) (one_below path (at_index k) (Some t)) [] in
+        ap (λ z. this ++ z) (front_step (k + 1) i ts)
+        ∙ (ap (λ j. this ++ (taken f path (k + 1) (front i ts) ++ cond (f j) (one_below path (at_index j) (nth ts i)) [])) same
+        ∙ sym (append_assoc this (taken f path (k + 1) (front i ts)) (cond (f (k + suc i)) (one_below path (at_index (k + suc i)) (nth ts i)) [])))
 
-    pub last_taken : (acc goal : List Part) (i : ℕ) (rest : List A) → rest ≡ [] → acc ++ taken_left i rest ≡ goal → acc ≡ goal
-    last_taken acc goal i rest e h = sym (append-nil acc) ∙ (ap (λ z. acc ++ taken_left i z) (sym e) ∙ h)
+    one_reversed : (b : Bool) (i : ℕ) (o : Option Tree)
+        → reverse (cond b (one_below path (at_index i) o) []) ≡ cond b (one_below path (at_index i) o) []
+    one_reversed false i o = refl
+    one_reversed true i None = refl
+    one_reversed true i (Some t) = refl
 
-    -- one more item at the end
-    taken_more : (i : ℕ) (xs : List A) (x : A) → taken_left i (xs ++ x ∷ []) ≡ taken_left i xs ++ one_taken (i + length xs) x
-    taken_more i [] x = append-nil (one_taken i x) ∙ ap (λ j. one_taken j x) (omega arith)
-    taken_more i (y ∷ ys) x =
-        ap (λ z. one_taken i y ++ z) (taken_more (i + 1) ys x)
-        ∙ (ap (λ j. one_taken i y ++ (taken_left (i + 1) ys ++ one_taken j x)) (omega arith)
-        ∙ sym (append_assoc (one_taken i y) (taken_left (i + 1) ys) (one_taken (i + length (y ∷ ys)) x)))
+    module _ (t : Tree) where
+      abbrev pub taken_at : Bool → ℕ → List Part
+      taken_at b i = cond b (one_below path (at_index i) (tree_at t i)) []
 
-    one_reversed : (i : ℕ) (x : A) → reverse (one_taken i x) ≡ one_taken i x
-    one_reversed i x = by (f i)
-      where
-        by : (b : Bool) → reverse (cond b (below path (at_index i) (g x) ∷ []) []) ≡ cond b (below path (at_index i) (g x) ∷ []) []
-        by true = refl
-        by false = refl
+      abbrev pub taken_left : ℕ → List Part
+      taken_left i = taken f path i (dropped i (listed_items t))
 
-    -- from the last item to the first
-    pub step_down : (acc more goal : List Part) (i : ℕ) (x : A) (front rest : List A) → rest ≡ front ++ x ∷ [] → length front ≡ i
-        → more ≡ acc ++ one_taken i x
-        → acc ++ reverse (taken_left 0 rest) ≡ goal → more ++ reverse (taken_left 0 front) ≡ goal
-    step_down acc more goal i x front rest e l m h =
-        ap (λ z. z ++ reverse (taken_left 0 front)) m
-        ∙ (append_assoc acc (one_taken i x) (reverse (taken_left 0 front))
-        ∙ (ap (λ z. acc ++ z) (sym (
-        ap (λ z. reverse (taken_left 0 z)) e
-        ∙ (ap reverse (taken_more 0 front x)
-        ∙ (reverse-append (taken_left 0 front) (one_taken (0 + length front) x)
-        ∙ (ap (λ j. reverse (one_taken j x) ++ reverse (taken_left 0 front)) (let same : 0 + length front ≡ i = omega arith in same)
-        ∙ ap (λ z. z ++ reverse (taken_left 0 front)) (one_reversed i x))))))
-        ∙ h))
+      step_up : (acc more goal : List Part) (i : ℕ) → more ≡ acc ++ taken_at (f i) i → acc ++ taken_left i ≡ goal
+          → more ++ taken_left (i + 1) ≡ goal
+      step_up acc more goal i m h =
+          let next : i + 1 ≡ suc i = omega arith in
+          ap (λ z. z ++ taken_left (i + 1)) m
+          ∙ (append_assoc acc (taken_at (f i) i) (taken_left (i + 1))
+          ∙ (ap (λ j. acc ++ (taken_at (f i) i ++ taken f path (i + 1) (dropped j (listed_items t)))) next
+          ∙ (ap (λ o. acc ++ (cond (f i) (one_below path (at_index i) o) [] ++ taken f path (i + 1) (dropped (suc i) (listed_items t)))) (at_item t i)
+          ∙ (ap (λ z. acc ++ z) (sym (taken_step i i (listed_items t))) ∙ h))))
 
--- whether the test takes it or not
-pub one_is : (b : Bool) (acc more : List Part) (p : Part) → b ≡ true → more ≡ acc ++ p ∷ [] → more ≡ acc ++ cond b (p ∷ []) []
-one_is b acc more p e m = m ∙ ap (λ z. acc ++ cond z (p ∷ []) []) (sym e)
+      pub up_taken : (acc more goal : List Part) (i : ℕ) → f i ≡ true → more ≡ acc ++ one_below path (at_index i) (tree_at t i)
+          → acc ++ taken_left i ≡ goal → more ++ taken_left (i + 1) ≡ goal
+      up_taken acc more goal i e m h = step_up acc more goal i (m ∙ ap (λ b. acc ++ taken_at b i) (sym e)) h
 
-pub none_is : (b : Bool) (acc : List Part) (p : Part) → b ≡ false → acc ≡ acc ++ cond b (p ∷ []) []
-none_is b acc p e = sym (append-nil acc) ∙ ap (λ z. acc ++ cond z (p ∷ []) []) (sym e)
+      pub up_passed : (acc goal : List Part) (i : ℕ) → f i ≡ false → acc ++ taken_left i ≡ goal → acc ++ taken_left (i + 1) ≡ goal
+      up_passed acc goal i e h = step_up acc acc goal i (sym (append-nil acc) ∙ ap (λ b. acc ++ taken_at b i) (sym e)) h
 
--- the item before the last one that was taken
-pub take_before : {A : Type 0} (xs : List A) (i : ℕ) (x : A) → 0 < i → i ≤ length xs → x ≡ get_or xs (i - 1) x
-    → take i xs ≡ take (i - 1) xs ++ x ∷ []
-take_before xs i x some h e = let same : i ≡ i - 1 + 1 = omega arith in ap (λ j. take j xs) same ∙ take_at xs (i - 1) x (omega arith) e
+      pub last_up : (acc goal : List Part) (i : ℕ) → size t ≤ i → acc ++ taken_left i ≡ goal → acc ≡ goal
+      last_up acc goal i l h =
+          let few : item_count (listed_items t) ≤ size t = counted t in
+          sym (append-nil acc)
+          ∙ (ap (λ ts. acc ++ taken f path i ts) (sym (dropped_past (listed_items t) i (omega (arith, few, l)))) ∙ h)
 
-pub length_before : {A : Type 0} (xs : List A) (i : ℕ) → i ≤ length xs → length (take i xs) ≡ i
-length_before xs zero h = refl
-length_before [] (suc i) h = absurd (omega arith)
-length_before (x ∷ xs) (suc i) h = ap suc (length_before xs i (omega arith))
+      -- from the last item to the first
+      abbrev pub taken_down : ℕ → List Part
+      taken_down i = reverse (taken f path 0 (front i (listed_items t)))
+
+      pub first_down : taken_down (size t) ≡ reverse (taken f path 0 (listed_items t))
+      first_down = ap (λ ts. reverse (taken f path 0 ts)) (front_past (listed_items t) (size t) (counted t))
+
+      step_down : (acc more goal : List Part) (i j : ℕ) → j ≡ suc i → more ≡ acc ++ taken_at (f i) i → acc ++ taken_down j ≡ goal
+          → more ++ taken_down i ≡ goal
+      step_down acc more goal i j n m h =
+          let before : List Part = taken f path 0 (front i (listed_items t)) in
+          let this : List Part = cond (f (0 + i)) (one_below path (at_index (0 + i)) (nth (listed_items t) i)) [] in
+          let same : 0 + i ≡ i = omega arith in
+          ap (λ z. z ++ taken_down i) m
+          ∙ (append_assoc acc (taken_at (f i) i) (taken_down i)
+          ∙ (ap (λ o. acc ++ (cond (f i) (one_below path (at_index i) o) [] ++ taken_down i)) (at_item t i)
+          ∙ (ap (λ k. acc ++ (cond (f k) (one_below path (at_index k) (nth (listed_items t) i)) [] ++ taken_down i)) (sym same)
+          ∙ (ap (λ z. acc ++ (z ++ taken_down i)) (sym (one_reversed (f (0 + i)) (0 + i) (nth (listed_items t) i)))
+          ∙ (ap (λ z. acc ++ z) (sym (reverse-append before this))
+          ∙ (ap (λ z. acc ++ reverse z) (sym (front_step 0 i (listed_items t)))
+          ∙ (ap (λ k. acc ++ taken_down k) (sym n) ∙ h)))))))
+
+      pub down_taken : (acc more goal : List Part) (i j : ℕ) → j ≡ suc i → f i ≡ true
+          → more ≡ acc ++ one_below path (at_index i) (tree_at t i) → acc ++ taken_down j ≡ goal → more ++ taken_down i ≡ goal
+      down_taken acc more goal i j n e m h = step_down acc more goal i j n (m ∙ ap (λ b. acc ++ taken_at b i) (sym e)) h
+
+      pub down_passed : (acc goal : List Part) (i j : ℕ) → j ≡ suc i → f i ≡ false → acc ++ taken_down j ≡ goal → acc ++ taken_down i ≡ goal
+      down_passed acc goal i j n e h = step_down acc acc goal i j n (sym (append-nil acc) ∙ ap (λ b. acc ++ taken_at b i) (sym e)) h

@@ -1,6 +1,6 @@
 -- What patterns answer is right.
 use Rattle.std.proofs.Common.{◌≡◌, ◌↔◌, ℕ, Bool, IsTrue, List, Option, Some, None, Global, String, string_bytes, bytes_eq, sym, ap, ap₂}
-use Rattle.std.proofs.Common.{◌∙◌}
+use Rattle.std.proofs.Common.{◌∙◌, false, refl}
 use Rattle.std.proofs.lemmas.Slice.Eq.{bytes_eq-Decides}
 use Rattle.std.specs.Str.{chars}
 use Rattle.i_regexp.proofs.Callers.{matched_as, searched_as, reads_matches, reads_searches, nothing_matches, nothing_searches}
@@ -13,10 +13,9 @@ use Rattle.i_regexp.specs.Regexps.{form_in, IsReading}
 use Rattle.i_regexp.specs.declared.regexp.IRegexp.{IRegexp}
 use Rattle.tinyjson_path.specs.Patterns.{IsRight, judged, answer_of, holds_of_trees}
 use Rattle.tinyjson_path_query.specs.declared.query.PatternFunction.{PatternFunction}
-use Rattle.tinyjson.proofs.Callers.{view_String}
-use Rattle.tinyjson.specs.View.{view, text}
-use Rattle.tinyjson.specs.declared.value.JsonValue.{JsonValue}
-use Rattle.tinyjson.specs.declared.value.JsonValue.TheVariants as is
+use Rattle.tinyjson.specs.Tree.{Tree, null, boolean, number, string, array, object}
+use Rattle.tinyjson.specs.View.{text}
+use Rattle.tinyjson_document.specs.Parts.{string_in}
 use Rattle.tinyjson_path_query.specs.declared.query.PatternFunction.TheVariants.{Match, Search}
 
 pub judged_right : IsRight judged
@@ -56,12 +55,21 @@ searched_right ps cs o x g b k e m h =
     searched_as (form_in x) cs b h
     ∙ (sym (k Search cs ∙ ap (λ q. answer_of q Search cs) e) ∙ ap (λ f. judged f ps cs) (sym m))
 
--- of two strings
-pub strings_judged : (f : PatternFunction) (v w : JsonValue) (s t : String Global) (a b : List ℕ) → v ≡ is.String s → w ≡ is.String t
-    → a ≡ string_bytes s → b ≡ string_bytes t → judged f (chars b) (chars a) ≡ holds_of_trees judged f (view v) (view w)
-strings_judged f v w s t a b e g h k =
-    ap₂ (λ x y. judged f (chars y) (chars x)) h k
-    ∙ ap₂ (holds_of_trees judged f) (sym (ap view e ∙ view_String s)) (sym (ap view g ∙ view_String t))
+-- of two strings, and of other values
+pub strings_judged : (f : PatternFunction) (t u : Tree) (cs ps : List ℕ) → Some cs ≡ string_in t → Some ps ≡ string_in u
+    → judged f ps cs ≡ holds_of_trees judged f t u
+strings_judged f (string ds) (string qs) cs ps e h =
+    let text : cs ≡ ds = cc in let pattern : ps ≡ qs = cc in ap₂ (λ x y. judged f x y) pattern text
+strings_judged f (string ds) _ cs ps e h = absurd cc
+strings_judged f _ u cs ps e h = absurd cc
+
+pub no_text_judged : (f : PatternFunction) (t u : Tree) → None ≡ string_in t → false ≡ holds_of_trees judged f t u
+no_text_judged f (string ds) u e = absurd cc
+no_text_judged f _ u e = refl
+
+pub no_pattern_judged : (f : PatternFunction) (t u : Tree) → None ≡ string_in u → false ≡ holds_of_trees judged f t u
+no_pattern_judged f (string ds) (string qs) e = absurd cc
+no_pattern_judged f _ _ e = refl
 
 -- of a pattern that is kept
 pub kept_judged : (f : PatternFunction) (k : String Global) (bs ps vs : List ℕ) → bs ≡ string_bytes k → IsTrue (bytes_eq bs ps)

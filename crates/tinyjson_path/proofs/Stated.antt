@@ -63,7 +63,7 @@ pub comparison_strings : (x : Expression) (o : ComparisonOperator) (l r : Box Co
     → expression_strings x ≡ comparable_strings (box_value l) ++ comparable_strings (box_value r)
 comparison_strings x o l r e = ap expression_strings e ∙ search (rules, the_lemmas)
 
-pub test_strings : (x : Expression) (q : FilterQuery) → x ≡ expression.Test q → expression_strings x ≡ segments_strings q.segments.items
+pub test_strings : (x : Expression) (q : FilterQuery) → x ≡ expression.Test q → expression_strings x ≡ filter_strings q
 test_strings x q e = ap expression_strings e ∙ search (rules, the_lemmas)
 
 pub pattern_strings : (x : Expression) (f : PatternFunction) (v p : Box Comparable) → x ≡ expression.Pattern f v p
@@ -75,12 +75,15 @@ pub length_strings : (x : Comparable) (f : FunctionExpression) (b : Box Comparab
 length_strings x f b e g = ap comparable_strings (e ∙ ap comparable.Function g) ∙ search (rules, the_lemmas)
 
 pub count_strings : (x : Comparable) (f : FunctionExpression) (q : FilterQuery) → x ≡ comparable.Function f → f ≡ function.Count q
-    → comparable_strings x ≡ segments_strings q.segments.items
+    → comparable_strings x ≡ filter_strings q
 count_strings x f q e g = ap comparable_strings (e ∙ ap comparable.Function g) ∙ search (rules, the_lemmas)
 
 pub value_strings : (x : Comparable) (f : FunctionExpression) (q : FilterQuery) → x ≡ comparable.Function f → f ≡ function.Value q
-    → comparable_strings x ≡ segments_strings q.segments.items
+    → comparable_strings x ≡ filter_strings q
 value_strings x f q e g = ap comparable_strings (e ∙ ap comparable.Function g) ∙ search (rules, the_lemmas)
+
+pub segments_of_query : (q : FilterQuery) → filter_strings q ≡ segments_strings q.segments.items
+segments_of_query q = search (rules, the_lemmas)
 
 -- ---- what is selected from a part is within it
 

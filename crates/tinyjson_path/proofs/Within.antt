@@ -1,18 +1,16 @@
 -- Lists of texts that are within others, and errors that come from one of the texts.
 use Rattle.std.proofs.Common.{◌≡◌, ℕ, zero, suc, ◌<◌, List, [], ◌∷◌, ◌++◌, map, length, get_or, Result, Ok, Err, sym, subst, arith}
-use Rattle.std.proofs.Common.{⊎_elim, ap, ◌∙◌, Option, Some, Bor, String, Global, string_bytes}
+use Rattle.std.proofs.Common.{⊎_elim, ap, ◌∙◌, Option, Some}
 use Rattle.std.proofs.lemmas.List.Elements.{Contains-append_left, Contains-append_right, Contains-append_cases}
 use Rattle.std.specs.Prelude.{Contains, flat_map, IsErrAnd, IfErr}
-use Rattle.std.specs.Str.{chars}
-use Rattle.tinyjson.proofs.Callers.{view_String}
-use Rattle.tinyjson.specs.Tree.{Tree}
-use Rattle.tinyjson.specs.View.{view}
-use Rattle.tinyjson.specs.declared.value.JsonValue.{JsonValue}
-use Rattle.tinyjson.specs.declared.value.JsonValue.TheVariants as is
+use Rattle.tinyjson.specs.Tree.{Tree, null, boolean, number, string, array, object}
+use Rattle.tinyjson_document.specs.Parts.{string_in}
+use Rattle.tinyjson_path.specs.Nodes.{tree_of}
 use Rattle.tinyjson_path.specs.Seen.{value_tree}
 use Rattle.tinyjson_path.specs.Strings.{Texts, strings_in, strings_at, IsFrom}
 use Rattle.tinyjson_path.specs.declared.patterns.FindError.{FindError}
 use Rattle.tinyjson_path.specs.declared.patterns.FindError.TheVariants.{Pattern, OutOfMemory}
+use Rattle.tinyjson_path.specs.declared.value.NodeValue.{NodeValue}
 
 -- each of the first stands among the second
 abbrev pub Within : Texts → Texts → Type 0
@@ -66,6 +64,14 @@ pub from_result : {T : Type 0} (xs ys : Texts) (r : Result T FindError) → With
 from_result xs ys (Ok x) w h = tt
 from_result xs ys (Err e) w h = from_within xs ys e w h
 
+pub from_same : {T : Type 0} (xs : Texts) (d : FindError) (r : Result T FindError) → IsErrAnd r (λ e. e ≡ d) → IsFrom xs d
+    → IfErr r (IsFrom xs)
+from_same xs d r h k = from_error xs xs d r h (within_self xs) k
+
+pub from_memory : {T : Type 0} (xs : Texts) (r : Result T FindError) → IfErr r (λ e. e ≡ OutOfMemory) → IfErr r (IsFrom xs)
+from_memory xs (Ok x) h = tt
+from_memory xs (Err e) h = subst (IsFrom xs) (sym h) tt
+
 -- ---- of the query, the root and what is looked at
 
 module _ (query here : Texts) (root : Tree) where
@@ -92,14 +98,12 @@ module _ (query here : Texts) (root : Tree) where
 
 -- ---- of a value
 
--- the text of a string
-pub text_within : (v : JsonValue) (s : String Global) (bs : List ℕ) → v ≡ is.String s → bs ≡ string_bytes s
-    → Within (chars bs ∷ []) (strings_in (view v))
-text_within v s bs e h =
-    within_same (chars bs ∷ []) (strings_in (view v))
-    (ap (λ x. chars x ∷ []) h ∙ ap strings_in (sym (ap view e ∙ view_String s)))
+-- the characters of a string
+pub text_within : (t : Tree) (cs : List ℕ) → Some cs ≡ string_in t → Within (cs ∷ []) (strings_in t)
+text_within (string ds) cs e = within_same (cs ∷ []) (ds ∷ []) (let same : cs ≡ ds = cc in ap (λ x. x ∷ []) same)
+text_within _ cs e = absurd cc
 
 -- a value that there is
-pub value_within : (o : Option (Bor JsonValue)) (t : Option Tree) (v : Bor JsonValue) → value_tree o ≡ t → o ≡ Some v
-    → Within (strings_in (view v.now)) (strings_at t)
-value_within o t v h e = within_same (strings_in (view v.now)) (strings_at t) (ap strings_at (sym (ap value_tree e) ∙ h))
+pub value_within : (o : Option NodeValue) (t : Option Tree) (v : NodeValue) → value_tree o ≡ t → o ≡ Some v
+    → Within (strings_in (tree_of v)) (strings_at t)
+value_within o t v h e = within_same (strings_in (tree_of v)) (strings_at t) (ap strings_at (sym (ap value_tree e) ∙ h))

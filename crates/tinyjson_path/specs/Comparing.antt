@@ -1,13 +1,14 @@
 -- What filters compare (RFC 9535, 2.3.5.2.2), and what their functions return (2.4): a value, or nothing.
-use Rattle.std.specs.Prelude.{ℕ, suc, pos, Bool, true, false, ◌||◌, not}
+use Rattle.std.specs.Prelude.{ℕ, pos, Bool, true, false, ◌||◌, not}
 use Rattle.std.specs.Prelude.{List, [], ◌∷◌, length, Option, Some, None, option_and_then, option_map}
 use Rattle.std.specs.Ordering.{is_lt}
 use Rattle.tinyjson_compare.specs.Order.{is_less}
 use Rattle.tinyjson.specs.Equality.{tree_eq}
 use Rattle.tinyjson.specs.Index.{item_count, tree_at_key}
 use Rattle.tinyjson.specs.Number.{integer_decimal}
-use Rattle.tinyjson.specs.Tree.{Tree, null, boolean, number, string, array, object, Members, no_members, member, key_cmp}
+use Rattle.tinyjson.specs.Tree.{Tree, null, boolean, number, string, array, object, key_cmp}
 use Rattle.tinyjson.specs.View.{text}
+use Rattle.tinyjson_document.specs.Parts.{member_count}
 use Rattle.tinyjson_path.specs.Nodes.{Part}
 use Rattle.tinyjson_path.specs.Selecting.{items_in, tree_at_place}
 use Rattle.tinyjson_path.specs.Slices.{place_of}
@@ -77,10 +78,6 @@ one_tree q root here = one_at q.segments.items (origin_tree q.origin root here)
 
 abbrev pub whole : ℕ → Tree
 whole n = number (integer_decimal (pos n))
-
-abbrev pub member_count : Members → ℕ
-member_count no_members = 0
-member_count (member k t ms) = suc (member_count ms)
 
 -- the number of characters of a string, of items of an array, or of members of an object
 abbrev pub size_of : Tree → Option ℕ

@@ -1,9 +1,13 @@
 -- Nodes: parts of a tree with their normalized paths (RFC 9535, 2.7); children and descendants in order.
 use Rattle.std.specs.Prelude.{ℕ, ◌+◌, List, [], ◌∷◌, ◌++◌, map}
 use Rattle.tinyjson.specs.Tree.{Tree, null, boolean, number, string, array, object, Items, no_items, item, Members, no_members, member}
-use Rattle.tinyjson.specs.View.{view, text}
+use Rattle.std.specs.Str.{chars}
+use Rattle.tinyjson.specs.View.{view}
+use Rattle.tinyjson_document.specs.Document.{tree as node_tree}
 use Rattle.tinyjson_path.specs.declared.node.Location.{Location, fold-Location, Location-F}
 use Rattle.tinyjson_path.specs.declared.node.Node.{Node}
+use Rattle.tinyjson_path.specs.declared.value.NodeValue.{NodeValue}
+use Rattle.tinyjson_path.specs.declared.value.NodeValue.TheVariants.{InDocument, InValue}
 
 -- a step to a member or to an item
 pub data Step : Type 0 where
@@ -55,9 +59,14 @@ abbrev mutual
 
 -- ---- the view of the code's nodes
 
+-- the tree of a node's value
+abbrev pub tree_of : NodeValue → Tree
+tree_of (InDocument n) = node_tree n
+tree_of (InValue v) = view v.now
+
 abbrev pub path_step : Location-F (List Step) → List Step
 path_step Location-F.Root = []
-path_step (Location-F.Member up k) = up.value ++ at_key (text k.now) ∷ []
+path_step (Location-F.Member up k) = up.value ++ at_key (chars k.now) ∷ []
 path_step (Location-F.Item up i) = up.value ++ at_index i ∷ []
 
 abbrev pub path_view : Location → List Step
@@ -67,7 +76,7 @@ abbrev pub path_of : Node → List Step
 path_of n = path_view n.location.value
 
 abbrev pub part_view : Node → Part
-part_view n = record { path = path_of n; tree = view n.value.now }
+part_view n = record { path = path_of n; tree = tree_of n.value }
 
 abbrev pub parts_view : List Node → List Part
 parts_view ns = map part_view ns

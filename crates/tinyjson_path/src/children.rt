@@ -1,10 +1,12 @@
 //! The children of a node: those that a name, an index or a slice selects, and all of them.
-ghost use Rattle.std.specs.Prelude.{◌≡◌, ◌++◌, reverse, OnOk, IfOk};
-ghost use Rattle.std.specs.Prelude.{option_map, MatchOption, None, Some};
+ghost use Rattle.std.specs.Prelude.{◌≡◌, ◌++◌, reverse, OnOk, IfOk, option_map, Some};
 ghost use Rattle.std.specs.Str.{chars};
-ghost use Rattle.tinyjson.specs.Index.{tree_at, tree_at_key};
-ghost use Rattle.tinyjson.specs.View.{view, text, items_view, members_listed};
-ghost use Rattle.tinyjson_path.specs.Nodes.{at_key, at_index, path_of, part_view, parts_view};
+ghost use Rattle.tinyjson.specs.Index.{tree_at};
+ghost use Rattle.tinyjson.specs.View.{members_listed};
+ghost use Rattle.tinyjson_document.specs.Document.{members_left};
+ghost use Rattle.tinyjson_document.specs.Parts.{items_in as items_of, members_in};
+ghost use Rattle.tinyjson_path.specs.Comparing.{one_child};
+ghost use Rattle.tinyjson_path.specs.Nodes.{at_key, at_index, path_of, parts_view, tree_of};
 ghost use Rattle.tinyjson_path.specs.Nodes.{items_from, members_at, children};
 ghost use Rattle.tinyjson_path.specs.Selecting.{one_below, by_name, by_index, by_slice, taken};
 ghost use Rattle.tinyjson_path.specs.Selecting.{items_in, tree_at_place};
@@ -12,13 +14,16 @@ ghost use Rattle.tinyjson_path.specs.Slices.{place_of, is_up, is_down};
 
 use crate::node::Node;
 use crate::slice::{Bounds, Steps, bound, bound_after, is_down, is_up, place, steps_of};
+use crate::value::NodeValue;
 use std::alloc::{AllocError, Global};
-use tinyjson::{JsonValue, sorted_members};
+use tinyjson::{JsonKind, JsonValue, sorted_members};
+use tinyjson_document::{JsonView, Members};
+use tinyjson_path_query::SingularSegment;
 
 /// The children of the node: the items in order, or the members in the order of their keys' bytes.
 pub(crate) fn children<'v>(alloc: Global, node: &Node<'v>) -> Result<Vec<Node<'v>>, AllocError>
     ensures { IfOk result (λ v. parts_view v.items
-        ≡ children (path_of node.now) (view node.now.value.now)) }
+        ≡ children (path_of node.now) (tree_of node.now.value)) }
 {
     let mut nodes = Vec::new(alloc);
     push_children(alloc, node, &mut nodes)?;
@@ -31,19 +36,51 @@ pub(crate) fn push_children<'v>(
     nodes: &mut Vec<Node<'v>>,
 ) -> Result<(), AllocError>
     ensures { OnOk result (parts_view nodes.new.items ≡ parts_view nodes.old.items
-        ++ children (path_of node.now) (view node.now.value.now)) }
+        ++ children (path_of node.now) (tree_of node.now.value)) }
 {
-    match node.value {
-        JsonValue::Array(items) => push_items(alloc, node, items.as_slice(), nodes),
-        JsonValue::Object(members) => {
-            let sorted = sorted_members(alloc, members)?;
-            push_members(alloc, node, sorted.as_slice(), nodes)
-        }
+    match node.value.kind() {
+        JsonKind::Array => push_items(alloc, node, nodes),
+        JsonKind::Object => push_members(alloc, node, nodes),
         _ => Ok(()),
     }
 }
 
 fn push_members<'v>(
+    alloc: Global,
+    node: &Node<'v>,
+    nodes: &mut Vec<Node<'v>>,
+) -> Result<(), AllocError>
+    ensures { OnOk result (parts_view nodes.new.items ≡ parts_view nodes.old.items
+        ++ members_at (path_of node.now) (members_in (tree_of node.now.value))) }
+{
+    match node.value {
+        NodeValue::InDocument(value) => push_ordered(alloc, node, value.members(), nodes),
+        NodeValue::InValue(JsonValue::Object(members)) => {
+            let sorted = sorted_members(alloc, members)?;
+            push_sorted(alloc, node, sorted.as_slice(), nodes)
+        }
+        NodeValue::InValue(_) => Ok(()),
+    }
+}
+
+/// The members of a document.
+fn push_ordered<'v>(
+    alloc: Global,
+    node: &Node<'v>,
+    members: Members<'v>,
+    nodes: &mut Vec<Node<'v>>,
+) -> Result<(), AllocError>
+    ensures { OnOk result (parts_view nodes.new.items ≡ parts_view nodes.old.items
+        ++ members_at (path_of node.now) (members_left members.entry)) }
+{
+    for (name, value) in members {
+        push_member(alloc, node, name, NodeValue::InDocument(value), nodes)?;
+    }
+    Ok(())
+}
+
+/// The members of a `JsonValue`.
+fn push_sorted<'v>(
     alloc: Global,
     node: &Node<'v>,
     members: &[(&'v String, &'v JsonValue)],
@@ -53,7 +90,13 @@ fn push_members<'v>(
         ++ members_at (path_of node.now) (members_listed members.now)) }
 {
     for member in members {
-        push_member(alloc, node, member.0, member.1, nodes)?;
+        push_member(
+            alloc,
+            node,
+            member.0.as_str(),
+            NodeValue::InValue(member.1),
+            nodes,
+        )?;
     }
     Ok(())
 }
@@ -62,12 +105,12 @@ fn push_members<'v>(
 fn push_member<'v>(
     alloc: Global,
     node: &Node<'v>,
-    name: &'v String,
-    value: &'v JsonValue,
+    name: &'v str,
+    value: NodeValue<'v>,
     nodes: &mut Vec<Node<'v>>,
 ) -> Result<(), AllocError>
     ensures { OnOk result (parts_view nodes.new.items ≡ parts_view nodes.old.items
-        ++ one_below (path_of node.now) (at_key (text name.now)) (Some (view value.now))) }
+        ++ one_below (path_of node.now) (at_key (chars name.now)) (Some (tree_of value.entry))) }
 {
     Ok(nodes.push(node.member(alloc, name, value)?)?)
 }
@@ -75,45 +118,46 @@ fn push_member<'v>(
 fn push_items<'v>(
     alloc: Global,
     node: &Node<'v>,
-    items: &'v [JsonValue],
     nodes: &mut Vec<Node<'v>>,
 ) -> Result<(), AllocError>
     ensures { OnOk result (parts_view nodes.new.items ≡ parts_view nodes.old.items
-        ++ items_from (path_of node.now) 0 (items_view items.now)) }
+        ++ items_from (path_of node.now) 0 (items_of (tree_of node.now.value))) }
 {
-    for (index, item) in items.iter().enumerate() {
-        push_item(alloc, node, index, item, nodes)?;
+    for index in 0..node.value.len() {
+        push_item(alloc, node, index, nodes)?;
     }
     Ok(())
 }
 
-/// Appends an item of the node.
+/// Appends the item at the index, if there is one.
 fn push_item<'v>(
     alloc: Global,
     node: &Node<'v>,
     index: usize,
-    value: &'v JsonValue,
     nodes: &mut Vec<Node<'v>>,
 ) -> Result<(), AllocError>
     ensures { OnOk result (parts_view nodes.new.items ≡ parts_view nodes.old.items
-        ++ one_below (path_of node.now) (at_index index) (Some (view value.now))) }
+        ++ one_below (path_of node.now) (at_index index) (tree_at (tree_of node.now.value) index)) }
 {
-    Ok(nodes.push(node.item(alloc, index, value)?)?)
+    match node.value.item(index) {
+        None => Ok(()),
+        Some(item) => Ok(nodes.push(node.item(alloc, index, item)?)?),
+    }
 }
 
 /// The member that the name selects (RFC 9535, 2.3.1), if there is one.
 pub(crate) fn push_named<'v>(
     alloc: Global,
     node: &Node<'v>,
-    name: &str,
+    name: &'v str,
     nodes: &mut Vec<Node<'v>>,
 ) -> Result<(), AllocError>
     ensures { OnOk result (parts_view nodes.new.items ≡ parts_view nodes.old.items
-        ++ by_name (path_of node.now) (chars name.now) (view node.now.value.now)) }
+        ++ by_name (path_of node.now) (chars name.now) (tree_of node.now.value)) }
 {
-    match child_named(node.value, name) {
+    match node.value.member(name) {
         None => Ok(()),
-        Some((name, value)) => push_member(alloc, node, name, value, nodes),
+        Some(value) => push_member(alloc, node, name, value, nodes),
     }
 }
 
@@ -125,45 +169,44 @@ pub(crate) fn push_indexed<'v>(
     nodes: &mut Vec<Node<'v>>,
 ) -> Result<(), AllocError>
     ensures { OnOk result (parts_view nodes.new.items ≡ parts_view nodes.old.items
-        ++ by_index (path_of node.now) index (view node.now.value.now)) }
+        ++ by_index (path_of node.now) index (tree_of node.now.value)) }
 {
-    match child_at(node.value, index) {
+    match place(index, item_count(node.value)) {
         None => Ok(()),
-        Some((place, value)) => push_item(alloc, node, place, value, nodes),
+        Some(at) => push_item(alloc, node, at, nodes),
     }
 }
 
-pub(crate) fn child_named<'v>(
-    value: &'v JsonValue,
-    name: &str,
-) -> Option<(&'v String, &'v JsonValue)>
-    ensures { MatchOption result
-        (tree_at_key (view value.now) (chars name.now) ≡ None)
-        (λ m. (text m.0.now ≡ chars name.now)
-        × (tree_at_key (view value.now) (chars name.now) ≡ Some (view m.1.now))) }
+/// The number of items of an array; 0 for other values.
+fn item_count<'v>(value: NodeValue<'v>) -> usize
+    ensures { result ≡ items_in (tree_of value.entry) }
 {
-    match value {
-        JsonValue::Object(members) => members.get_key_value(name),
-        _ => None,
+    match value.kind() {
+        JsonKind::Array => value.len(),
+        _ => 0,
     }
 }
 
-pub(crate) fn child_at<'v>(value: &'v JsonValue, index: i64) -> Option<(usize, &'v JsonValue)>
-    ensures { MatchOption result
-        (tree_at_place (view value.now) (place_of index (items_in (view value.now))) ≡ None)
-        (λ m. (place_of index (items_in (view value.now)) ≡ Some m.0)
-        × (tree_at (view value.now) m.0 ≡ Some (view m.1.now))) }
+/// The child that a segment of a singular query selects, if there is one.
+pub(crate) fn one_child<'v>(
+    segment: &SingularSegment,
+    value: NodeValue<'v>,
+) -> Option<NodeValue<'v>>
+    ensures { option_map tree_of result ≡ one_child segment.now (tree_of value.entry) }
 {
-    let JsonValue::Array(items) = value else {
-        return None;
-    };
-    let items = items.as_slice();
-    let Some(place) = place(index, items.len()) else {
-        return None;
-    };
-    match items.get(place) {
+    match segment {
+        SingularSegment::Name(name) => value.member(name.as_str()),
+        SingularSegment::Index(index) => child_at(value, *index),
+    }
+}
+
+fn child_at<'v>(value: NodeValue<'v>, index: i64) -> Option<NodeValue<'v>>
+    ensures { option_map tree_of result
+        ≡ tree_at_place (tree_of value.entry) (place_of index (items_in (tree_of value.entry))) }
+{
+    match place(index, item_count(value)) {
         None => None,
-        Some(item) => Some((place, item)),
+        Some(at) => value.item(at),
     }
 }
 
@@ -177,23 +220,19 @@ pub(crate) fn push_slice<'v>(
     nodes: &mut Vec<Node<'v>>,
 ) -> Result<(), AllocError>
     ensures { OnOk result (parts_view nodes.new.items ≡ parts_view nodes.old.items
-        ++ by_slice (path_of node.now) start end step (view node.now.value.now)) }
+        ++ by_slice (path_of node.now) start end step (tree_of node.now.value)) }
 {
-    let JsonValue::Array(items) = node.value else {
-        return Ok(());
-    };
-    let items = items.as_slice();
-    let len = items.len();
+    let len = item_count(node.value);
     match steps_of(step) {
         Steps::Up(step) => {
             let low = bound(start, len, 0);
             let high = bound(end, len, len);
-            push_up(alloc, node, items, Bounds { low, high, step }, nodes)
+            push_up(alloc, node, Bounds { low, high, step }, nodes)
         }
         Steps::Down(step) => {
             let low = bound_after(end, len, 0);
             let high = bound_after(start, len, len);
-            push_down(alloc, node, items, Bounds { low, high, step }, nodes)
+            push_down(alloc, node, Bounds { low, high, step }, nodes)
         }
     }
 }
@@ -202,17 +241,16 @@ pub(crate) fn push_slice<'v>(
 fn push_up<'v>(
     alloc: Global,
     node: &Node<'v>,
-    items: &'v [JsonValue],
     bounds: Bounds,
     nodes: &mut Vec<Node<'v>>,
 ) -> Result<(), AllocError>
     ensures { OnOk result (parts_view nodes.new.items ≡ parts_view nodes.old.items
         ++ taken (is_up bounds.low bounds.high bounds.step) (path_of node.now) 0
-        (items_view items.now)) }
+        (items_of (tree_of node.now.value))) }
 {
-    for (index, item) in items.iter().enumerate() {
+    for index in 0..node.value.len() {
         if is_up(bounds, index) {
-            push_item(alloc, node, index, item, nodes)?;
+            push_item(alloc, node, index, nodes)?;
         }
     }
     Ok(())
@@ -222,20 +260,18 @@ fn push_up<'v>(
 fn push_down<'v>(
     alloc: Global,
     node: &Node<'v>,
-    items: &'v [JsonValue],
     bounds: Bounds,
     nodes: &mut Vec<Node<'v>>,
 ) -> Result<(), AllocError>
     ensures { OnOk result (parts_view nodes.new.items ≡ parts_view nodes.old.items
         ++ reverse (taken (is_down bounds.low bounds.high bounds.step) (path_of node.now) 0
-        (items_view items.now))) }
+        (items_of (tree_of node.now.value)))) }
 {
-    let mut index = items.len();
+    let mut index = node.value.len();
     while index > 0 {
         index -= 1;
-        let item = &items[index];
         if is_down(bounds, index) {
-            push_item(alloc, node, index, item, nodes)?;
+            push_item(alloc, node, index, nodes)?;
         }
     }
     Ok(())

@@ -1,8 +1,9 @@
-//! JSONPath (RFC 9535): the nodes that a query selects in a JSON value, with their normalized paths.
+//! JSONPath (RFC 9535): the nodes that a query selects in a JSON value or in a document, with their normalized paths.
 //!
 //! ```
 //! let query = Query::parse(alloc, "$.a[?@ > 1]")?;
 //! let nodes = find(&query, alloc, &value)?;
+//! let nodes = find_in(&query, alloc, document.root())?;
 //! ```
 #![tactic(auto)]
 
@@ -13,9 +14,11 @@ mod path;
 mod patterns;
 mod select;
 mod slice;
+mod value;
 
 pub use node::{Location, Node};
 pub use path::path_text;
 pub use patterns::{FindError, PatternLimit};
-pub use select::find;
+pub use select::{find, find_in};
 pub use tinyjson_path_query::{ParseError, ParseErrorKind, Query};
+pub use value::NodeValue;

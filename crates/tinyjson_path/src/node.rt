@@ -1,17 +1,18 @@
 //! The nodes of a value, each with its location.
 ghost use Rattle.std.specs.Prelude.{◌≡◌, ◌++◌, ◌∷◌, [], IfOk};
-ghost use Rattle.tinyjson.specs.View.{view, text};
+ghost use Rattle.std.specs.Str.{chars};
 ghost use Rattle.tinyjson_path.specs.Nodes.{at_key, at_index, path_of, part_view, root_part, below};
+ghost use Rattle.tinyjson_path.specs.Nodes.{tree_of};
 
+use crate::value::NodeValue;
 use std::alloc::{AllocError, Global};
 use std::rc::Rc;
-use tinyjson::JsonValue;
 
 /// The place of a node in the queried value, as its normalized path (RFC 9535, 2.7). It shares the path of its
 /// parent.
 pub enum Location<'v> {
     Root,
-    Member(Rc<Location<'v>>, &'v String),
+    Member(Rc<Location<'v>>, &'v str),
     Item(Rc<Location<'v>>, usize),
 }
 
@@ -36,12 +37,12 @@ impl Drop for Location<'_> {
 #[derive(Drop)]
 pub struct Node<'v> {
     pub location: Rc<Location<'v>>,
-    pub value: &'v JsonValue,
+    pub value: NodeValue<'v>,
 }
 
 impl<'v> Node<'v> {
-    pub(crate) fn root(alloc: Global, value: &'v JsonValue) -> Result<Node<'v>, AllocError>
-        ensures { IfOk result (λ n. part_view n ≡ root_part (view value.now)) }
+    pub(crate) fn root(alloc: Global, value: NodeValue<'v>) -> Result<Node<'v>, AllocError>
+        ensures { IfOk result (λ n. part_view n ≡ root_part (tree_of value.entry)) }
     {
         Ok(Node {
             location: Rc::new(alloc, Location::Root)?,
@@ -53,11 +54,11 @@ impl<'v> Node<'v> {
     pub(crate) fn member(
         &self,
         alloc: Global,
-        name: &'v String,
-        value: &'v JsonValue,
+        name: &'v str,
+        value: NodeValue<'v>,
     ) -> Result<Node<'v>, AllocError>
         ensures { IfOk result (λ n. part_view n
-            ≡ below (path_of self.now) (at_key (text name.now)) (view value.now)) }
+            ≡ below (path_of self.now) (at_key (chars name.now)) (tree_of value.entry)) }
     {
         Ok(Node {
             location: Rc::new(alloc, Location::Member(self.location.clone()?, name))?,
@@ -70,10 +71,10 @@ impl<'v> Node<'v> {
         &self,
         alloc: Global,
         index: usize,
-        value: &'v JsonValue,
+        value: NodeValue<'v>,
     ) -> Result<Node<'v>, AllocError>
         ensures { IfOk result (λ n. part_view n
-            ≡ below (path_of self.now) (at_index index) (view value.now)) }
+            ≡ below (path_of self.now) (at_index index) (tree_of value.entry)) }
     {
         Ok(Node {
             location: Rc::new(alloc, Location::Item(self.location.clone()?, index))?,

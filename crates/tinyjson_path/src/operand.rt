@@ -1,34 +1,38 @@
 //! What filters compare (RFC 9535, 2.3.5.2.2), and the functions of values.
-ghost use Rattle.std.specs.Prelude.{◌≡◌, ◌<◌, Some, IfOk, option_map};
-ghost use Rattle.tinyjson.specs.View.{view};
+ghost use Rattle.std.specs.Prelude.{◌≡◌, Some, IfOk, IfErr, length, option_map};
+ghost use Rattle.std.specs.Str.{chars};
 ghost use Rattle.tinyjson_path.specs.Comparing.{compares, is_same, is_below, is_tree_less, literal_tree};
-ghost use Rattle.tinyjson_path.specs.Comparing.{one_at, one_child, one_tree, origin_tree};
+ghost use Rattle.tinyjson_path.specs.Comparing.{one_at, one_tree, origin_tree};
 ghost use Rattle.tinyjson_path.specs.Comparing.{length_of, count_of, value_of, size_of, whole};
-ghost use Rattle.tinyjson_path.specs.Nodes.{parts_view};
-ghost use Rattle.tinyjson_path.specs.Seen.{operand_tree, value_tree};
+ghost use Rattle.tinyjson_path.specs.Nodes.{parts_view, tree_of};
+ghost use Rattle.tinyjson_path.specs.declared.patterns.FindError.{FindError};
+ghost use Rattle.tinyjson_path.specs.Seen.{numbers_less, operand_tree, texts_less, value_tree};
 
-use crate::children::{child_at, child_named};
+use crate::children::one_child;
 use crate::node::Node;
+use crate::patterns::FindError;
+use crate::value::NodeValue;
 use std::alloc::{AllocError, Global};
-use tinyjson::{JsonNumber, JsonValue, sorted_members};
+use tinyjson::{JsonKind, JsonNumber, JsonValue};
 use tinyjson_compare::is_less;
+use tinyjson_document::JsonView;
 use tinyjson_path_query::{ComparisonOperator, Literal, Origin, SingularQuery, SingularSegment};
 
 /// A value that is compared: a part of the input, or a value of the filter's own.
 pub(crate) enum Operand<'v> {
-    Part(&'v JsonValue),
+    Part(NodeValue<'v>),
     // In a box, for the stack that a filter in a filter takes.
     Own(Box<JsonValue>),
 }
 
 /// The value, if there is one.
-pub(crate) fn value_of<'a>(operand: &'a Option<Operand>) -> Option<&'a JsonValue>
+pub(crate) fn value_of<'a>(operand: &'a Option<Operand>) -> Option<NodeValue<'a>>
     ensures { value_tree result ≡ option_map operand_tree operand.now }
 {
     match operand {
         None => None,
         Some(Operand::Part(value)) => Some(*value),
-        Some(Operand::Own(value)) => Some(value),
+        Some(Operand::Own(value)) => Some(NodeValue::InValue(value)),
     }
 }
 
@@ -61,11 +65,7 @@ pub(crate) fn compare(
     is_so
 }
 
-fn compares(
-    operator: ComparisonOperator,
-    left: Option<&JsonValue>,
-    right: Option<&JsonValue>,
-) -> bool
+fn compares(operator: ComparisonOperator, left: Option<NodeValue>, right: Option<NodeValue>) -> bool
     ensures { result ≡ compares operator (value_tree left.entry) (value_tree right.entry) }
 {
     match operator {
@@ -78,17 +78,17 @@ fn compares(
     }
 }
 
-fn is_same(left: Option<&JsonValue>, right: Option<&JsonValue>) -> bool
+fn is_same(left: Option<NodeValue>, right: Option<NodeValue>) -> bool
     ensures { result ≡ is_same (value_tree left.entry) (value_tree right.entry) }
 {
     match (left, right) {
         (None, None) => true,
-        (Some(left), Some(right)) => *left == *right,
+        (Some(left), Some(right)) => left.equals(&right),
         _ => false,
     }
 }
 
-fn is_below(left: Option<&JsonValue>, right: Option<&JsonValue>) -> bool
+fn is_below(left: Option<NodeValue>, right: Option<NodeValue>) -> bool
     ensures { result ≡ is_below (value_tree left.entry) (value_tree right.entry) }
 {
     match (left, right) {
@@ -97,21 +97,50 @@ fn is_below(left: Option<&JsonValue>, right: Option<&JsonValue>) -> bool
     }
 }
 
-fn is_value_less(left: &JsonValue, right: &JsonValue) -> bool
-    ensures { result ≡ is_tree_less (view left.now) (view right.now) }
+fn is_value_less(left: NodeValue, right: NodeValue) -> bool
+    ensures { result ≡ is_tree_less (tree_of left.entry) (tree_of right.entry) }
 {
-    match (left, right) {
-        (JsonValue::Number(left), JsonValue::Number(right)) => is_less(left, right),
-        (JsonValue::String(left), JsonValue::String(right)) => left.as_str() < right.as_str(),
+    match left.kind() {
+        JsonKind::Number => is_number_less(left.number(), right.number()),
+        JsonKind::String => is_string_less(left.string(), right.string()),
         _ => false,
     }
 }
 
+fn is_number_less(left: Option<&JsonNumber>, right: Option<&JsonNumber>) -> bool
+    ensures { result ≡ numbers_less (option_map (λ n. n.now.decimal) left.entry)
+        (option_map (λ n. n.now.decimal) right.entry) }
+{
+    match (left, right) {
+        (Some(left), Some(right)) => is_less(left, right),
+        _ => false,
+    }
+}
+
+fn is_string_less(left: Option<&str>, right: Option<&str>) -> bool
+    ensures { result ≡ texts_less (option_map (λ s. chars s.now) left.entry)
+        (option_map (λ s. chars s.now) right.entry) }
+{
+    match (left, right) {
+        (Some(left), Some(right)) => is_text_less(left, right),
+        _ => false,
+    }
+}
+
+fn is_text_less(left: &str, right: &str) -> bool
+    ensures { result ≡ texts_less (Some (chars left.now)) (Some (chars right.now)) }
+{
+    left < right
+}
+
+/// The value of the literal. The only error is out of memory.
+#[inline(never)]
 pub(crate) fn literal_value<'v>(
     alloc: Global,
     literal: &Literal,
-) -> Result<Option<Operand<'v>>, AllocError>
-    ensures { IfOk result (λ o. option_map operand_tree o ≡ Some (literal_tree literal.now)) }
+) -> Result<Option<Operand<'v>>, FindError>
+    ensures ok { IfOk result (λ o. option_map operand_tree o ≡ Some (literal_tree literal.now)) }
+    ensures err { IfErr result (λ e. e ≡ FindError.OutOfMemory) }
 {
     let value = match literal {
         Literal::Null => JsonValue::Null,
@@ -123,22 +152,24 @@ pub(crate) fn literal_value<'v>(
 }
 
 /// Where a query inside a filter begins.
-pub(crate) fn start<'v>(origin: Origin, root: &'v JsonValue, here: &'v JsonValue) -> &'v JsonValue
-    ensures { view result.now ≡ origin_tree origin (view root.now) (view here.now) }
+pub(crate) fn start<'v>(origin: Origin, root: &NodeValue<'v>, here: &NodeValue<'v>) -> NodeValue<'v>
+    ensures { tree_of result ≡ origin_tree origin (tree_of root.now) (tree_of here.now) }
 {
     match origin {
-        Origin::Root => root,
-        Origin::CurrentNode => here,
+        Origin::Root => *root,
+        Origin::CurrentNode => *here,
     }
 }
 
 /// The value of the one node that the query selects, if it selects one.
+#[inline(never)]
 pub(crate) fn singular_value<'v>(
     query: &SingularQuery,
-    root: &'v JsonValue,
-    here: &'v JsonValue,
+    root: &NodeValue<'v>,
+    here: &NodeValue<'v>,
 ) -> Option<Operand<'v>>
-    ensures { option_map operand_tree result ≡ one_tree query.now (view root.now) (view here.now) }
+    ensures { option_map operand_tree result
+        ≡ one_tree query.now (tree_of root.now) (tree_of here.now) }
 {
     match descend_singly(query.segments.as_slice(), start(query.origin, root, here)) {
         Some(value) => Some(Operand::Part(value)),
@@ -146,8 +177,8 @@ pub(crate) fn singular_value<'v>(
     }
 }
 
-fn descend_singly<'v>(segments: &[SingularSegment], value: &'v JsonValue) -> Option<&'v JsonValue>
-    ensures { value_tree result ≡ one_at segments.now (view value.now) }
+fn descend_singly<'v>(segments: &[SingularSegment], value: NodeValue<'v>) -> Option<NodeValue<'v>>
+    ensures { value_tree result ≡ one_at segments.now (tree_of value.entry) }
 {
     let mut here = value;
     for segment in segments {
@@ -159,21 +190,6 @@ fn descend_singly<'v>(segments: &[SingularSegment], value: &'v JsonValue) -> Opt
     Some(here)
 }
 
-fn one_child<'v>(segment: &SingularSegment, value: &'v JsonValue) -> Option<&'v JsonValue>
-    ensures { value_tree result ≡ one_child segment.now (view value.now) }
-{
-    match segment {
-        SingularSegment::Name(name) => match child_named(value, name.as_str()) {
-            Some((_, child)) => Some(child),
-            None => None,
-        },
-        SingularSegment::Index(index) => match child_at(value, *index) {
-            Some((_, child)) => Some(child),
-            None => None,
-        },
-    }
-}
-
 /// `length` (RFC 9535, 2.4.4) of the operand, which is consumed.
 pub(crate) fn length<'v>(
     alloc: Global,
@@ -183,26 +199,34 @@ pub(crate) fn length<'v>(
         ≡ length_of (option_map operand_tree argument.entry)) }
 {
     let size = match value_of(&argument) {
-        Some(value) => size(alloc, value),
-        None => Ok(None),
+        Some(value) => size(value),
+        None => None,
     };
     release(argument);
-    match size? {
+    match size {
         Some(size) => whole(alloc, size),
         None => Ok(None),
     }
 }
 
 /// The number of characters of a string, of items of an array, or of members of an object.
-fn size(alloc: Global, value: &JsonValue) -> Result<Option<usize>, AllocError>
-    ensures { IfOk result (λ n. n ≡ size_of (view value.now)) }
+fn size(value: NodeValue) -> Option<usize>
+    ensures { result ≡ size_of (tree_of value.entry) }
 {
-    match value {
-        JsonValue::String(text) => Ok(Some(text.as_str().chars().count())),
-        JsonValue::Array(items) => Ok(Some(items.len())),
-        JsonValue::Object(members) => Ok(Some(sorted_members(alloc, members)?.len())),
-        _ => Ok(None),
+    match value.kind() {
+        JsonKind::String => match value.string() {
+            Some(text) => Some(character_count(text)),
+            None => None,
+        },
+        JsonKind::Array | JsonKind::Object => Some(value.len()),
+        _ => None,
     }
+}
+
+fn character_count(text: &str) -> usize
+    ensures { result ≡ length (chars text.now) }
+{
+    text.chars().count()
 }
 
 /// A whole number.

@@ -13,7 +13,7 @@ use std::alloc::{AllocError, Global};
 /// The last step of a location.
 #[derive(Clone, Copy)]
 pub(crate) enum Step<'v> {
-    Name(&'v String),
+    Name(&'v str),
     Index(usize),
 }
 
@@ -61,7 +61,7 @@ fn push_step(path: &mut String, alloc: Global, step: Step) -> Result<(), AllocEr
     match step {
         Step::Name(name) => {
             push_words(path, "['")?;
-            push_escaped(path, name.as_str())?;
+            push_escaped(path, name)?;
             push_words(path, "']")
         }
         Step::Index(index) => push_index(path, alloc, index),

@@ -2,8 +2,9 @@
 ghost use Rattle.std.specs.Prelude.{◌≡◌, ◌≤◌, ℕ, Bool, List, [], ◌∷◌, Some, IfOk, IfErr};
 ghost use Rattle.std.specs.Prelude.{option_map, vec_len};
 ghost use Rattle.std.specs.Str.{chars};
-ghost use Rattle.tinyjson.specs.View.{view, text};
+ghost use Rattle.tinyjson.specs.View.{text};
 ghost use Rattle.tinyjson_path.specs.Limits.{limit_message};
+ghost use Rattle.tinyjson_path.specs.Nodes.{tree_of};
 ghost use Rattle.tinyjson_path.specs.Patterns.{judged, answer_of, holds_of_trees, pattern_holds};
 ghost use Rattle.tinyjson_path.specs.Seen.{operand_tree, value_tree};
 ghost use Rattle.tinyjson_path.specs.Strings.{strings_in, strings_at, IsFrom};
@@ -11,10 +12,11 @@ ghost use Rattle.tinyjson_path.specs.declared.patterns.FindError.{FindError};
 ghost use Rattle.tinyjson_path_query.specs.declared.query.PatternFunction.{PatternFunction};
 
 use crate::operand::{Operand, release, value_of};
+use crate::value::NodeValue;
 use i_regexp::{IRegexp, IRegexpErrorKind};
 use std::alloc::{AllocError, AllocFailed, Global};
 use std::fmt;
-use tinyjson::JsonValue;
+use tinyjson_document::JsonView;
 use tinyjson_path_query::PatternFunction;
 
 /// Which limit a regular expression exceeds.
@@ -160,16 +162,16 @@ impl Patterns {
         &mut self,
         function: PatternFunction,
         is_kept: bool,
-        value: &JsonValue,
-        pattern: &JsonValue,
+        value: NodeValue,
+        pattern: NodeValue,
     ) -> Result<bool, FindError>
         ensures ok { IfOk result (λ b. b
-            ≡ holds_of_trees judged function (view value.now) (view pattern.now)) }
-        ensures err { IfErr result (IsFrom (strings_in (view pattern.now))) }
+            ≡ holds_of_trees judged function (tree_of value.entry) (tree_of pattern.entry)) }
+        ensures err { IfErr result (IsFrom (strings_in (tree_of pattern.entry))) }
     {
-        match (value, pattern) {
-            (JsonValue::String(value), JsonValue::String(pattern)) => {
-                Ok(self.of_strings(function, is_kept, value.as_str(), pattern.as_str())?)
+        match (value.string(), pattern.string()) {
+            (Some(value), Some(pattern)) => {
+                Ok(self.of_strings(function, is_kept, value, pattern)?)
             }
             _ => Ok(false),
         }

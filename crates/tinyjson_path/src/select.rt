@@ -1,14 +1,19 @@
 //! The nodes that a query selects.
 ghost use Rattle.std.specs.Prelude.{◌≡◌, ◌++◌, ◌∷◌, [], reverse, OnOk, IfOk, IfErr, option_map};
 ghost use Rattle.tinyjson.specs.View.{view};
+ghost use Rattle.tinyjson_document.specs.Document.{tree};
 ghost use Rattle.tinyjson_path.specs.Nodes.{path_of, part_view, parts_view, root_part, children};
+ghost use Rattle.tinyjson_path.specs.Nodes.{tree_of};
 ghost use Rattle.tinyjson_path.specs.Queries.{query_parts, selector_parts, selected_by};
 ghost use Rattle.tinyjson_path.specs.Queries.{found_by, holds_of, kept, comparable_value};
-ghost use Rattle.tinyjson_path.specs.Patterns.{judged};
+ghost use Rattle.tinyjson_path.specs.Queries.{filter_parts, is_some_part};
+ghost use Rattle.tinyjson_path.specs.Comparing.{compares, length_of, count_of, value_of};
+ghost use Rattle.tinyjson_path.specs.Patterns.{judged, pattern_holds};
 ghost use Rattle.tinyjson_path.specs.Seen.{operand_tree};
 ghost use Rattle.tinyjson_path.specs.Strings.{query_strings, strings_in, IsFrom, IsFromAny};
 ghost use Rattle.tinyjson_path.specs.Strings.{segments_strings, selectors_strings};
 ghost use Rattle.tinyjson_path.specs.Strings.{selector_strings, expression_strings, comparable_strings};
+ghost use Rattle.tinyjson_path.specs.Strings.{filter_strings};
 ghost use Rattle.tinyjson_path.specs.Waiting.{waits_view, waits_at};
 
 use crate::children::{children, push_children, push_indexed, push_named, push_slice};
@@ -17,13 +22,18 @@ use crate::operand::{
     self, Operand, compare, literal_value, only_value, release, singular_value, start,
 };
 use crate::patterns::{FindError, Patterns};
+use crate::value::NodeValue;
 use std::alloc::{AllocError, Global};
 use tinyjson::JsonValue;
-use tinyjson_path_query::{Comparable, Expression, FunctionExpression, Query, Segment, Selector};
+use tinyjson_path_query::{
+    Comparable, ComparisonOperator, Expression, FilterQuery, FunctionExpression, PatternFunction,
+    Query, Segment, Selector,
+};
 
 /// Returns the nodes that the query selects in the value, in the order of RFC 9535, 2.1.2. A node that is selected
 /// twice is returned twice. The members of an object come in the order of their keys' bytes, since the RFC leaves
-/// their order open. The errors are out of memory, and a regular expression that is too deep or too large.
+/// their order open. Nodes borrow the value and the query. The errors are out of memory, and a regular expression that is
+/// too deep or too large.
 ///
 /// A regular expression that is a literal of the query is parsed once, when it is first needed; one from the value is
 /// kept for the next node with the same one. The stack grows with the nesting of the query, not with the depth of the
@@ -40,7 +50,7 @@ use tinyjson_path_query::{Comparable, Expression, FunctionExpression, Query, Seg
 /// assert_eq!(rt; path.as_str(), "$['a'][1]['b']");
 /// ```
 pub fn find<'v>(
-    query: &Query,
+    query: &'v Query,
     alloc: Global,
     value: &'v JsonValue,
 ) -> Result<Vec<Node<'v>>, FindError>
@@ -48,12 +58,44 @@ pub fn find<'v>(
         ≡ query_parts judged query.now (view value.now)) }
     ensures err { IfErr result (IsFrom (query_strings query.now ++ strings_in (view value.now))) }
 {
+    find_below(query, alloc, NodeValue::InValue(value))
+}
+
+/// Returns the nodes that the query selects in a value of a document, as [`find`] does in a `JsonValue`.
+///
+/// ```
+/// let document = Document::read(alloc, r#"{"a": [{"b": 1}, {"b": 2.50}]}"#)?;
+/// let query = Query::parse(alloc, "$.a[?@.b > 1].b")?;
+/// let nodes = find_in(&query, alloc, document.root())?;
+/// assert_eq!(rt; nodes.len(), 1);
+/// ```
+pub fn find_in<'v>(
+    query: &'v Query,
+    alloc: Global,
+    value: tinyjson_document::Node<'v>,
+) -> Result<Vec<Node<'v>>, FindError>
+    ensures ok { IfOk result (λ v. parts_view v.items
+        ≡ query_parts judged query.now (tree value.entry)) }
+    ensures err { IfErr result (IsFrom (query_strings query.now ++ strings_in (tree value.entry))) }
+{
+    find_below(query, alloc, NodeValue::InDocument(value))
+}
+
+fn find_below<'v>(
+    query: &'v Query,
+    alloc: Global,
+    root: NodeValue<'v>,
+) -> Result<Vec<Node<'v>>, FindError>
+    ensures ok { IfOk result (λ v. parts_view v.items
+        ≡ query_parts judged query.now (tree_of root.entry)) }
+    ensures err { IfErr result (IsFrom (query_strings query.now ++ strings_in (tree_of root.entry))) }
+{
     let mut finder = Finder {
         alloc,
-        root: value,
+        root,
         patterns: Patterns::new(alloc),
     };
-    finder.find_from(query.segments.as_slice(), value)
+    finder.find_from(query.segments.as_slice(), root)
 }
 
 /// The state of an evaluation.
@@ -61,7 +103,7 @@ pub fn find<'v>(
 struct Finder<'v> {
     alloc: Global,
     /// The value of `$`.
-    root: &'v JsonValue,
+    root: NodeValue<'v>,
     patterns: Patterns,
 }
 
@@ -71,14 +113,14 @@ impl<'v> Finder<'v> {
     #[cycle(selecting)]
     fn find_from(
         &mut self,
-        segments: &[Segment],
-        value: &'v JsonValue,
+        segments: &'v [Segment],
+        value: NodeValue<'v>,
     ) -> Result<Vec<Node<'v>>, FindError>
         ensures root { self.new.root ≡ self.old.root }
         ensures ok { IfOk result (λ v. parts_view v.items
-            ≡ found_by segments.now (view self.old.root.now) (view value.now)) }
+            ≡ found_by segments.now (tree_of self.old.root) (tree_of value.entry)) }
         ensures err { IfErr result (IsFromAny (segments_strings segments.now)
-            (view self.old.root.now) (strings_in (view value.now))) }
+            (tree_of self.old.root) (strings_in (tree_of value.entry))) }
     {
         let mut found = Vec::new(self.alloc);
         let mut waiting = first(self.alloc, value)?;
@@ -104,7 +146,7 @@ impl<'v> Finder<'v> {
     #[cycle(selecting)]
     fn push_selected(
         &mut self,
-        selectors: &[Selector],
+        selectors: &'v [Selector],
         node: &Node<'v>,
         segment: usize,
         waiting: &mut Vec<Waiting<'v>>,
@@ -112,9 +154,9 @@ impl<'v> Finder<'v> {
         ensures root { self.new.root ≡ self.old.root }
         ensures ok { OnOk result (waits_view waiting.new.items ≡ waits_view waiting.old.items
             ++ reverse (waits_at segment
-            (selected_by selectors.now (view self.old.root.now) (part_view node.now)))) }
+            (selected_by selectors.now (tree_of self.old.root) (part_view node.now)))) }
         ensures err { IfErr result (IsFromAny (selectors_strings selectors.now)
-            (view self.old.root.now) (strings_in (view node.now.value.now))) }
+            (tree_of self.old.root) (strings_in (tree_of node.now.value))) }
     {
         let mut selected = Vec::new(self.alloc);
         self.select_each(selectors, node, &mut selected)?;
@@ -124,15 +166,15 @@ impl<'v> Finder<'v> {
     #[cycle(selecting)]
     fn select_each(
         &mut self,
-        selectors: &[Selector],
+        selectors: &'v [Selector],
         node: &Node<'v>,
         selected: &mut Vec<Node<'v>>,
     ) -> Result<(), FindError>
         ensures root { self.new.root ≡ self.old.root }
         ensures ok { OnOk result (parts_view selected.new.items ≡ parts_view selected.old.items
-            ++ selected_by selectors.now (view self.old.root.now) (part_view node.now)) }
+            ++ selected_by selectors.now (tree_of self.old.root) (part_view node.now)) }
         ensures err { IfErr result (IsFromAny (selectors_strings selectors.now)
-            (view self.old.root.now) (strings_in (view node.now.value.now))) }
+            (tree_of self.old.root) (strings_in (tree_of node.now.value))) }
     {
         for selector in selectors {
             self.select(selector, node, selected)?;
@@ -143,15 +185,15 @@ impl<'v> Finder<'v> {
     #[cycle(selecting)]
     fn select(
         &mut self,
-        selector: &Selector,
+        selector: &'v Selector,
         node: &Node<'v>,
         selected: &mut Vec<Node<'v>>,
     ) -> Result<(), FindError>
         ensures root { self.new.root ≡ self.old.root }
         ensures ok { OnOk result (parts_view selected.new.items ≡ parts_view selected.old.items
-            ++ selector_parts selector.now (view self.old.root.now) (part_view node.now)) }
+            ++ selector_parts selector.now (tree_of self.old.root) (part_view node.now)) }
         ensures err { IfErr result (IsFromAny (selector_strings selector.now)
-            (view self.old.root.now) (strings_in (view node.now.value.now))) }
+            (tree_of self.old.root) (strings_in (tree_of node.now.value))) }
     {
         match selector {
             Selector::Name(name) => push_named(self.alloc, node, name.as_str(), selected)?,
@@ -169,34 +211,35 @@ impl<'v> Finder<'v> {
     #[cycle(selecting)]
     fn push_kept(
         &mut self,
-        expression: &Expression,
+        expression: &'v Expression,
         node: &Node<'v>,
         selected: &mut Vec<Node<'v>>,
     ) -> Result<(), FindError>
         ensures root { self.new.root ≡ self.old.root }
         ensures ok { OnOk result (parts_view selected.new.items ≡ parts_view selected.old.items
-            ++ kept (holds_of expression.now (view self.old.root.now))
-            (children (path_of node.now) (view node.now.value.now))) }
+            ++ kept (holds_of expression.now (tree_of self.old.root))
+            (children (path_of node.now) (tree_of node.now.value))) }
         ensures err { IfErr result (IsFromAny (expression_strings expression.now)
-            (view self.old.root.now) (strings_in (view node.now.value.now))) }
+            (tree_of self.old.root) (strings_in (tree_of node.now.value))) }
     {
         let children = children(self.alloc, node)?;
         for child in children.as_slice() {
-            if self.holds(expression, child.value)? {
+            if self.holds(expression, &child.value)? {
                 selected.push(child.try_clone()?)?;
             }
         }
         Ok(())
     }
 
-    /// Whether the expression holds of the value.
+    /// Whether the expression holds of the value. What only one kind of expression needs is in functions of its own,
+    /// for the stack that a filter in a filter takes.
     #[cycle(selecting)]
-    fn holds(&mut self, expression: &Expression, here: &'v JsonValue) -> Result<bool, FindError>
+    fn holds(&mut self, expression: &'v Expression, here: &NodeValue<'v>) -> Result<bool, FindError>
         ensures root { self.new.root ≡ self.old.root }
         ensures ok { IfOk result (λ b. b
-            ≡ holds_of expression.now (view self.old.root.now) (view here.now)) }
+            ≡ holds_of expression.now (tree_of self.old.root) (tree_of here.now)) }
         ensures err { IfErr result (IsFromAny (expression_strings expression.now)
-            (view self.old.root.now) (strings_in (view here.now))) }
+            (tree_of self.old.root) (strings_in (tree_of here.now))) }
     {
         match expression {
             Expression::Or(expressions) => {
@@ -218,29 +261,64 @@ impl<'v> Finder<'v> {
             Expression::Not(expression) => Ok(!self.holds(expression, here)?),
             Expression::Comparison(operator, left, right) => {
                 let left = self.compared(left, here)?;
-                match self.compared(right, here) {
-                    Ok(right) => Ok(compare(*operator, left, right)),
-                    Err(error) => {
-                        release(left);
-                        Err(error)
-                    }
-                }
+                self.compares(*operator, left, right, here)
             }
-            Expression::Test(query) => {
-                let start = start(query.origin, self.root, here);
-                let nodes = self.find_from(query.segments.as_slice(), start)?;
-                Ok(!nodes.is_empty())
-            }
+            Expression::Test(query) => self.is_found(query, here),
             Expression::Pattern(function, value, pattern) => {
-                let stays = matches!(&**pattern, Comparable::Literal(_));
                 let value = self.compared(value, here)?;
-                match self.compared(pattern, here) {
-                    Ok(pattern) => Ok(self.patterns.test(*function, stays, value, pattern)?),
-                    Err(error) => {
-                        release(value);
-                        Err(error)
-                    }
-                }
+                self.matches(*function, value, pattern, here)
+            }
+        }
+    }
+
+    /// Whether the comparison of the operand with the other holds of the value. The operand is consumed.
+    #[cycle(selecting)]
+    #[inline(never)]
+    fn compares(
+        &mut self,
+        operator: ComparisonOperator,
+        left: Option<Operand<'v>>,
+        right: &'v Comparable,
+        here: &NodeValue<'v>,
+    ) -> Result<bool, FindError>
+        ensures root { self.new.root ≡ self.old.root }
+        ensures ok { IfOk result (λ b. b ≡ compares operator (option_map operand_tree left.entry)
+            (comparable_value right.now (tree_of self.old.root) (tree_of here.now))) }
+        ensures err { IfErr result (IsFromAny (comparable_strings right.now)
+            (tree_of self.old.root) (strings_in (tree_of here.now))) }
+    {
+        match self.compared(right, here) {
+            Ok(right) => Ok(compare(operator, left, right)),
+            Err(error) => {
+                release(left);
+                Err(error)
+            }
+        }
+    }
+
+    /// Whether the function holds of the operand and the pattern. The operand is consumed.
+    #[cycle(selecting)]
+    #[inline(never)]
+    fn matches(
+        &mut self,
+        function: PatternFunction,
+        value: Option<Operand<'v>>,
+        pattern: &'v Comparable,
+        here: &NodeValue<'v>,
+    ) -> Result<bool, FindError>
+        ensures root { self.new.root ≡ self.old.root }
+        ensures ok { IfOk result (λ b. b
+            ≡ pattern_holds judged function (option_map operand_tree value.entry)
+            (comparable_value pattern.now (tree_of self.old.root) (tree_of here.now))) }
+        ensures err { IfErr result (IsFromAny (comparable_strings pattern.now)
+            (tree_of self.old.root) (strings_in (tree_of here.now))) }
+    {
+        let stays = matches!(pattern, Comparable::Literal(_));
+        match self.compared(pattern, here) {
+            Ok(pattern) => Ok(self.patterns.test(function, stays, value, pattern)?),
+            Err(error) => {
+                release(value);
+                Err(error)
             }
         }
     }
@@ -249,34 +327,105 @@ impl<'v> Finder<'v> {
     #[cycle(selecting)]
     fn compared(
         &mut self,
-        comparable: &Comparable,
-        here: &'v JsonValue,
+        comparable: &'v Comparable,
+        here: &NodeValue<'v>,
     ) -> Result<Option<Operand<'v>>, FindError>
         ensures root { self.new.root ≡ self.old.root }
         ensures ok { IfOk result (λ o. option_map operand_tree o
-            ≡ comparable_value comparable.now (view self.old.root.now) (view here.now)) }
+            ≡ comparable_value comparable.now (tree_of self.old.root) (tree_of here.now)) }
         ensures err { IfErr result (IsFromAny (comparable_strings comparable.now)
-            (view self.old.root.now) (strings_in (view here.now))) }
+            (tree_of self.old.root) (strings_in (tree_of here.now))) }
     {
         match comparable {
-            Comparable::Literal(literal) => Ok(literal_value(self.alloc, literal)?),
-            Comparable::SingularQuery(query) => Ok(singular_value(query, self.root, here)),
+            Comparable::Literal(literal) => literal_value(self.alloc, literal),
+            Comparable::SingularQuery(query) => Ok(singular_value(query, &self.root, here)),
             Comparable::Function(function) => match function {
-                FunctionExpression::Length(argument) => {
-                    Ok(operand::length(self.alloc, self.compared(argument, here)?)?)
-                }
-                FunctionExpression::Count(query) => {
-                    let start = start(query.origin, self.root, here);
-                    let nodes = self.find_from(query.segments.as_slice(), start)?;
-                    Ok(operand::count(self.alloc, nodes.as_slice())?)
-                }
-                FunctionExpression::Value(query) => {
-                    let start = start(query.origin, self.root, here);
-                    let nodes = self.find_from(query.segments.as_slice(), start)?;
-                    Ok(only_value(nodes.as_slice()))
-                }
+                FunctionExpression::Length(argument) => self.length(argument, here),
+                FunctionExpression::Count(query) => self.count(query, here),
+                FunctionExpression::Value(query) => self.only_value(query, here),
             },
         }
+    }
+
+    #[cycle(selecting)]
+    #[inline(never)]
+    fn length(
+        &mut self,
+        argument: &'v Comparable,
+        here: &NodeValue<'v>,
+    ) -> Result<Option<Operand<'v>>, FindError>
+        ensures root { self.new.root ≡ self.old.root }
+        ensures ok { IfOk result (λ o. option_map operand_tree o ≡ length_of
+            (comparable_value argument.now (tree_of self.old.root) (tree_of here.now))) }
+        ensures err { IfErr result (IsFromAny (comparable_strings argument.now)
+            (tree_of self.old.root) (strings_in (tree_of here.now))) }
+    {
+        Ok(operand::length(self.alloc, self.compared(argument, here)?)?)
+    }
+
+    #[cycle(selecting)]
+    #[inline(never)]
+    fn count(
+        &mut self,
+        query: &'v FilterQuery,
+        here: &NodeValue<'v>,
+    ) -> Result<Option<Operand<'v>>, FindError>
+        ensures root { self.new.root ≡ self.old.root }
+        ensures ok { IfOk result (λ o. option_map operand_tree o
+            ≡ count_of (filter_parts query.now (tree_of self.old.root) (tree_of here.now))) }
+        ensures err { IfErr result (IsFromAny (filter_strings query.now)
+            (tree_of self.old.root) (strings_in (tree_of here.now))) }
+    {
+        let nodes = self.find_by(query, here)?;
+        Ok(operand::count(self.alloc, nodes.as_slice())?)
+    }
+
+    #[cycle(selecting)]
+    #[inline(never)]
+    fn only_value(
+        &mut self,
+        query: &'v FilterQuery,
+        here: &NodeValue<'v>,
+    ) -> Result<Option<Operand<'v>>, FindError>
+        ensures root { self.new.root ≡ self.old.root }
+        ensures ok { IfOk result (λ o. option_map operand_tree o
+            ≡ value_of (filter_parts query.now (tree_of self.old.root) (tree_of here.now))) }
+        ensures err { IfErr result (IsFromAny (filter_strings query.now)
+            (tree_of self.old.root) (strings_in (tree_of here.now))) }
+    {
+        let nodes = self.find_by(query, here)?;
+        Ok(only_value(nodes.as_slice()))
+    }
+
+    /// Whether the query selects a node.
+    #[cycle(selecting)]
+    #[inline(never)]
+    fn is_found(&mut self, query: &'v FilterQuery, here: &NodeValue<'v>) -> Result<bool, FindError>
+        ensures root { self.new.root ≡ self.old.root }
+        ensures ok { IfOk result (λ b. b ≡ is_some_part
+            (filter_parts query.now (tree_of self.old.root) (tree_of here.now))) }
+        ensures err { IfErr result (IsFromAny (filter_strings query.now)
+            (tree_of self.old.root) (strings_in (tree_of here.now))) }
+    {
+        let nodes = self.find_by(query, here)?;
+        Ok(!nodes.is_empty())
+    }
+
+    /// What a query in a filter selects.
+    #[cycle(selecting)]
+    fn find_by(
+        &mut self,
+        query: &'v FilterQuery,
+        here: &NodeValue<'v>,
+    ) -> Result<Vec<Node<'v>>, FindError>
+        ensures root { self.new.root ≡ self.old.root }
+        ensures ok { IfOk result (λ v. parts_view v.items
+            ≡ filter_parts query.now (tree_of self.old.root) (tree_of here.now)) }
+        ensures err { IfErr result (IsFromAny (filter_strings query.now)
+            (tree_of self.old.root) (strings_in (tree_of here.now))) }
+    {
+        let start = start(query.origin, &self.root, here);
+        self.find_from(query.segments.as_slice(), start)
     }
 }
 
@@ -288,8 +437,8 @@ struct Waiting<'v> {
 }
 
 /// What waits at first: the node of the value, for all segments.
-fn first<'v>(alloc: Global, value: &'v JsonValue) -> Result<Vec<Waiting<'v>>, AllocError>
-    ensures { IfOk result (λ v. waits_view v.items ≡ (0, root_part (view value.now)) ∷ []) }
+fn first<'v>(alloc: Global, value: NodeValue<'v>) -> Result<Vec<Waiting<'v>>, AllocError>
+    ensures { IfOk result (λ v. waits_view v.items ≡ (0, root_part (tree_of value.entry)) ∷ []) }
 {
     let mut waiting = Vec::new(alloc);
     let node = Node::root(alloc, value)?;

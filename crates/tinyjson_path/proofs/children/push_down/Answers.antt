@@ -1,38 +1,34 @@
-use Rattle.std.proofs.Common.{◌-◌, ◌≤◌, take, length, arith, sym}
-use Rattle.tinyjson.specs.View.{view}
-use Rattle.tinyjson_path.specs.Nodes.{at_index, below, path_of, parts_view}
+use Rattle.std.proofs.Common.{◌≡◌, ◌-◌, ◌++◌, ◌∙◌, suc, ap, append-nil, arith, sym}
+use Rattle.tinyjson_path.specs.Nodes.{path_of, parts_view, tree_of}
 use Rattle.tinyjson_path.specs.Slices.{is_down}
-use Rattle.tinyjson_path.proofs.Items.{step_down, take_before, length_before, one_is, none_is}
+use Rattle.tinyjson_path.proofs.Items.{down_taken, down_passed, first_down, taken_down}
 use Rattle.tinyjson_path.proofs.children.push_down.Goals as goal
+
+pub loop-index-init : goal.loop-index-init
+loop-index-init c =
+    let path = path_of c.args.node.now in
+    let f = is_down c.args.bounds.low c.args.bounds.high c.args.bounds.step in
+    let t = tree_of c.args.node.now.value in
+    ap (λ z. parts_view c.args.nodes.now.items ++ z) (ap (taken_down path f t) c.len-index.ensures ∙ first_down path f t)
 
 pub loop-index-preserved : goal.loop-index-preserved
 loop-index-preserved c =
-    let xs = c.args.items.now in
-    let i = c.loop-index.index - 1 in
-    let x = c.index-items-index.result in
-    let path = path_of c.args.node.now in
-    let f = is_down c.args.bounds.low c.args.bounds.high c.args.bounds.step in
-    let acc = parts_view c.loop-index.nodes.items in
-    let within : i ≤ length xs = omega arith in (
-      within,
-      step_down view path f acc acc _ i x (take i xs) (take c.loop-index.index xs)
-          (take_before xs c.loop-index.index x (omega arith) (omega arith) c.index-items-index.is) (length_before xs i within)
-          (none_is (f i) acc (below path (at_index i) (view x)) (sym c.if-is_down.ensures)) c.loop-index.invariant.1,
-    )
+    let before : c.loop-index.index ≡ suc (c.loop-index.index - 1) = omega (arith, c.loop-index-test.true) in
+    down_passed (path_of c.args.node.now) (is_down c.args.bounds.low c.args.bounds.high c.args.bounds.step)
+    (tree_of c.args.node.now.value) (parts_view c.loop-index.nodes.items) _ (c.loop-index.index - 1) c.loop-index.index before
+    (sym c.if-is_down.ensures) c.loop-index.invariant
 
 pub loop-index-preserved-in-Continue-1 : goal.loop-index-preserved-in-Continue-1
 loop-index-preserved-in-Continue-1 c =
-    let xs = c.args.items.now in
-    let i = c.loop-index.index - 1 in
-    let x = c.index-items-index.result in
+    let before : c.loop-index.index ≡ suc (c.loop-index.index - 1) = omega (arith, c.loop-index-test.true) in
+    down_taken (path_of c.args.node.now) (is_down c.args.bounds.low c.args.bounds.high c.args.bounds.step)
+    (tree_of c.args.node.now.value) (parts_view c.loop-index.nodes.items) (parts_view c.push_item.new.nodes.items) _
+    (c.loop-index.index - 1) c.loop-index.index before (sym c.if-is_down.ensures) c.in_ok-push_item.ensures c.loop-index.invariant
+
+pub returns : goal.returns
+returns c =
+    let acc = parts_view c.loop-index.nodes.items in
     let path = path_of c.args.node.now in
     let f = is_down c.args.bounds.low c.args.bounds.high c.args.bounds.step in
-    let acc = parts_view c.loop-index.nodes.items in
-    let more = parts_view c.push_item.new.nodes.items in
-    let within : i ≤ length xs = omega arith in (
-      within,
-      step_down view path f acc more _ i x (take i xs) (take c.loop-index.index xs)
-          (take_before xs c.loop-index.index x (omega arith) (omega arith) c.index-items-index.is) (length_before xs i within)
-          (one_is (f i) acc more (below path (at_index i) (view x)) (sym c.if-is_down.ensures) c.in_ok-push_item.ensures)
-          c.loop-index.invariant.1,
-    )
+    let none : 0 ≡ c.loop-index.index = omega (arith, c.loop-index-test.false) in
+    sym (append-nil acc) ∙ (ap (λ k. acc ++ taken_down path f (tree_of c.args.node.now.value) k) none ∙ c.loop-index.invariant)

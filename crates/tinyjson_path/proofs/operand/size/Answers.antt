@@ -1,24 +1,20 @@
-use Rattle.std.proofs.Common.{◌∙◌, length, string_bytes, sym, ap, arith}
-use Rattle.std.proofs.lemmas.Str.{Chars-Drains, encodes-chars, IsUtf8-string_bytes}
-use Rattle.tinyjson.specs.View.{text}
-use Rattle.tinyjson_path.proofs.Comparisons.{characters_counted, items_counted, members_counted}
+use Rattle.std.proofs.Common.{◌≡◌, ◌∙◌, Some, chars, option_map, sym, ap, ⊎_elim}
+use Rattle.tinyjson_path.specs.Nodes.{tree_of}
+use Rattle.tinyjson_path.proofs.Comparisons.{characters_counted, array_size, object_size, no_size}
 use Rattle.tinyjson_path.proofs.operand.size.Goals as goal
 
-pub returns-in-String : goal.returns-in-String
-returns-in-String c =
-    let s = c.in-String.text in
-    let ran = c.count.ensures.ran in
-    let rest = c.chars.ensures.rest ∙ c.as_str.ensures.value in
-    let whole = encodes-chars (string_bytes s) (IsUtf8-string_bytes s) ∙ sym rest in
-    characters_counted c.args.value.now s c.count.result c.in-String.is
-    (ran.2 ∙ ap length (Chars-Drains (text s) ran.0 c.chars.result whole ran.1))
+pub returns-in-Some : goal.returns-in-Some
+returns-in-Some c =
+    characters_counted (tree_of c.args.value) (chars c.in-Some.text.now) c.character_count.result
+    (sym (ap (option_map (λ s. chars s.now)) c.in-Some.is) ∙ c.string.ensures) c.character_count.ensures
 
 pub returns-in-Array : goal.returns-in-Array
-returns-in-Array c = items_counted c.args.value.now c.in-Array.items c.len.result c.in-Array.is
-    (omega (arith, c.len.ensures, c.in-Array.items.ok))
+returns-in-Array c =
+    ap Some c.len.ensures
+    ∙ ⊎_elim (λ e. array_size (tree_of c.args.value) (sym e ∙ c.kind.ensures))
+    (λ e. object_size (tree_of c.args.value) (sym e ∙ c.kind.ensures)) c.in-Array.is
 
-pub returns-in_ok-sorted_members-in-Object : goal.returns-in_ok-sorted_members-in-Object
-returns-in_ok-sorted_members-in-Object c = members_counted c.args.value.now c.in-Object.members
-    c.in_ok-sorted_members-in-Object.field-0.items
-    c.len-in-Object.result c.in-Object.is c.in_ok-sorted_members-in-Object.ensures
-    (omega (arith, c.len-in-Object.ensures, c.in_ok-sorted_members-in-Object.field-0.ok))
+pub returns-in_default : goal.returns-in_default
+returns-in_default c =
+    no_size (tree_of c.args.value) (λ e. c.in_default.not-String (c.kind.ensures ∙ sym e))
+    (λ e. c.in_default.not-Array (c.kind.ensures ∙ sym e)) (λ e. c.in_default.not-Object (c.kind.ensures ∙ sym e))

@@ -10,12 +10,10 @@ pub returns-in_ok-push_escaped-in-Name : goal.returns-in_ok-push_escaped-in-Name
 returns-in_ok-push_escaped-in-Name c =
     let r = c.push_words-in-Name.result in
     let begun = c.in_ok-push_words-in-Name.ensures ∙ ap (λ z. text c.args.path.now ++ z) (ascii_chars (codes "['") refl) in
-    let one = c.in_ok-push_escaped-in-Name.ensures ∙ (ap (λ z. z ++ escape (chars c.as_str.result.now)) begun
-    ∙ append_assoc (text c.args.path.now) (codes "['") (escape (chars c.as_str.result.now))) in
-    pushed_as r _ _ _ _
-    (ap (λ bs. codes "['" ++ (escape (chars bs) ++ codes "']")) c.as_str.ensures.value
-    ∙ sym (ap (λ s. step_text (step_view s)) c.in-Name.is))
-    (pushed_after r _ _ _ (codes "['" ++ escape (chars c.as_str.result.now)) (codes "']") one
+    let one = c.in_ok-push_escaped-in-Name.ensures ∙ (ap (λ z. z ++ escape (chars c.in-Name.name.now)) begun
+    ∙ append_assoc (text c.args.path.now) (codes "['") (escape (chars c.in-Name.name.now))) in
+    pushed_as r _ _ _ _ (sym (ap (λ s. step_text (step_view s)) c.in-Name.is))
+    (pushed_after r _ _ _ (codes "['" ++ escape (chars c.in-Name.name.now)) (codes "']") one
     (pushed_as r _ _ _ _ (ascii_chars (codes "']") refl) c.push_words-in-Name.ensures))
 
 pub returns-in-Index : goal.returns-in-Index

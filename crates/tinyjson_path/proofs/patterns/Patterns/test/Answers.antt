@@ -1,5 +1,5 @@
 use Rattle.std.proofs.Common.{false, sym, subst, option_map, IfErr}
-use Rattle.tinyjson.specs.View.{view}
+use Rattle.tinyjson_path.specs.Nodes.{tree_of}
 use Rattle.tinyjson_path.specs.Seen.{operand_tree}
 use Rattle.tinyjson_path.specs.Strings.{strings_in, strings_at, IsFrom}
 use Rattle.tinyjson_path.proofs.Within.{from_none, from_result, value_within}
@@ -12,9 +12,9 @@ returns-clause-err c =
     let answer = c.match-value_of.answer in
     elim c.match-value_of.branch [
       | in-Some-Some w ↦ let pattern = w.in-Some-Some.pattern in
-          from_result (strings_in (view pattern.now)) (strings_at t) answer
+          from_result (strings_in (tree_of pattern)) (strings_at t) answer
           (value_within c.value_of-2.result t pattern c.value_of-2.ensures w.in-Some-Some.is-1)
-          (subst (λ r. IfErr r (IsFrom (strings_in (view pattern.now)))) (sym w.answer-is) w.of_values-answer.ensures.err)
+          (subst (λ r. IfErr r (IsFrom (strings_in (tree_of pattern)))) (sym w.answer-is) w.of_values-answer.ensures.err)
       | in_default w ↦ from_none (strings_at t) false answer w.answer-is
       | in_default-2 w ↦ from_none (strings_at t) false answer w.answer-is
     ]

@@ -1,6 +1,5 @@
 use Rattle.std.proofs.Common.{◌≡◌, ◌++◌, length, map, drop}
-use Rattle.tinyjson.specs.View.{view}
-use Rattle.tinyjson_path.specs.Nodes.{path_of, part_view, parts_view, children}
+use Rattle.tinyjson_path.specs.Nodes.{path_of, part_view, parts_view, children, tree_of}
 use Rattle.tinyjson_path.specs.Queries.{found_by, union, selector_parts, selected_by, holds_of, kept, some_hold, all_hold}
 use Rattle.tinyjson_path.specs.Strings.{strings_in}
 use Rattle.tinyjson_path.proofs.Waits.{pops_of, waits_parts}
@@ -12,21 +11,21 @@ abbrev pub invariant-find_from-loop-node : goal.invariant-find_from-loop-node
 invariant-find_from-loop-node l = record {
   root : l.self.root ≡ l.fn.self.root;
   left :
-      parts_view l.found.items ++ waits_left l.segments (view l.fn.self.root.now) (waits_view l.waiting.items)
-      ≡ found_by l.segments (view l.fn.self.root.now) (view l.value);
-  within : AreWithin (strings_in (view l.value)) (waits_parts (waits_view l.waiting.items));
+      parts_view l.found.items ++ waits_left l.segments (tree_of l.fn.self.root) (waits_view l.waiting.items)
+      ≡ found_by l.segments (tree_of l.fn.self.root) (tree_of l.value);
+  within : AreWithin (strings_in (tree_of l.value)) (waits_parts (waits_view l.waiting.items));
 }
 
 abbrev pub decreases-find_from-loop-node : goal.decreases-find_from-loop-node
-decreases-find_from-loop-node l = pops_of l.segments (view l.fn.self.root.now) (waits_view l.waiting.items)
+decreases-find_from-loop-node l = pops_of l.segments (tree_of l.fn.self.root) (waits_view l.waiting.items)
 
 abbrev pub invariant-select_each-loop-selector : goal.invariant-select_each-loop-selector
 invariant-select_each-loop-selector l = record {
   root : l.self.root ≡ l.fn.self.root;
   left :
       parts_view l.selected.items
-      ++ union (map selector_parts (drop l.selector-index l.selectors)) (view l.fn.self.root.now) (part_view l.node)
-      ≡ parts_view l.fn.selected.items ++ selected_by l.selectors (view l.fn.self.root.now) (part_view l.node);
+      ++ union (map selector_parts (drop l.selector-index l.selectors)) (tree_of l.fn.self.root) (part_view l.node)
+      ≡ parts_view l.fn.selected.items ++ selected_by l.selectors (tree_of l.fn.self.root) (part_view l.node);
 }
 
 abbrev pub invariant-push_kept-loop-child : goal.invariant-push_kept-loop-child
@@ -34,23 +33,23 @@ invariant-push_kept-loop-child l = record {
   root : l.self.root ≡ l.fn.self.root;
   left :
       parts_view l.selected.items
-      ++ kept (holds_of l.expression (view l.fn.self.root.now)) (parts_view (drop l.child-index l.child-items))
+      ++ kept (holds_of l.expression (tree_of l.fn.self.root)) (parts_view (drop l.child-index l.child-items))
       ≡ parts_view l.fn.selected.items
-      ++ kept (holds_of l.expression (view l.fn.self.root.now)) (children (path_of l.node) (view l.node.value.now));
+      ++ kept (holds_of l.expression (tree_of l.fn.self.root)) (children (path_of l.node) (tree_of l.node.value));
 }
 
 abbrev pub invariant-holds-loop-choice : goal.invariant-holds-loop-choice
 invariant-holds-loop-choice l = record {
   root : l.self.root ≡ l.fn.self.root;
   left :
-      some_hold (map holds_of (drop l.choice-index l.choice-items)) (view l.fn.self.root.now) (view l.here)
-      ≡ holds_of l.expression (view l.fn.self.root.now) (view l.here);
+      some_hold (map holds_of (drop l.choice-index l.choice-items)) (tree_of l.fn.self.root) (tree_of l.here)
+      ≡ holds_of l.expression (tree_of l.fn.self.root) (tree_of l.here);
 }
 
 abbrev pub invariant-holds-loop-condition : goal.invariant-holds-loop-condition
 invariant-holds-loop-condition l = record {
   root : l.self.root ≡ l.fn.self.root;
   left :
-      all_hold (map holds_of (drop l.condition-index l.condition-items)) (view l.fn.self.root.now) (view l.here)
-      ≡ holds_of l.expression (view l.fn.self.root.now) (view l.here);
+      all_hold (map holds_of (drop l.condition-index l.condition-items)) (tree_of l.fn.self.root) (tree_of l.here)
+      ≡ holds_of l.expression (tree_of l.fn.self.root) (tree_of l.here);
 }

@@ -1,7 +1,7 @@
 use Rattle.std.proofs.Common.{◌≡◌, ◌++◌, drop}
 use Rattle.tinyjson_path.specs.Nodes.{path_of, parts_view, members_at}
 use Rattle.tinyjson.specs.View.{members_listed}
-use Rattle.tinyjson_path.proofs.children.push_members.Given as goal
+use Rattle.tinyjson_path.proofs.children.push_sorted.Given as goal
 
 abbrev pub invariant-loop-member : goal.invariant-loop-member
 invariant-loop-member l =

@@ -1,10 +1,10 @@
 use Rattle.std.proofs.Common.{ap, sym}
-use Rattle.tinyjson.specs.View.{view}
 use Rattle.tinyjson_path.proofs.Errors.{error_of_root}
+use Rattle.tinyjson_path.specs.Nodes.{tree_of}
 use Rattle.tinyjson_path.specs.Strings.{query_strings, segments_strings}
-use Rattle.tinyjson_path.proofs.select.find.Goals as goal
+use Rattle.tinyjson_path.proofs.select.find_below.Goals as goal
 
 pub returns-clause-err : goal.returns-clause-err
 returns-clause-err c =
-    error_of_root (query_strings c.args.query.now) (segments_strings c.as_slice.result.now) (view c.args.value.now) c.find_from.result
+    error_of_root (query_strings c.args.query.now) (segments_strings c.as_slice.result.now) (tree_of c.args.root) c.find_from.result
     (ap segments_strings (sym c.as_slice.ensures.value)) c.find_from.ensures.err
