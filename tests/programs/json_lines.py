@@ -3,11 +3,13 @@
 Many texts of one line each are given to it at once, which it reads and writes as `jsonnorm` does.
 """
 
+import resource
+
 import texts
 import whole
 from checks import shared
 from faults import BROKEN, FOLDER, FULL, Faults
-from long_lines import LongLines
+from long_lines import LENGTH, MEMORY, LongLines
 from padding import padded_lines, padded_rows
 from pages import Page, misused
 from running import program, printed, reported, run_of
@@ -122,7 +124,54 @@ def limited(is_going):
 
 def check_long_lines(checks):
     for words, is_going in (([], False), (["-k"], True)):
-        LongLines("json_lines", words, limited(is_going), is_going, unlimited=([], ["-d", "1"])).check(checks)
+        LongLines("json_lines", words, limited(is_going), is_going).check(checks)
+
+
+# The length at which the beginning of a line is first checked, and what follows beyond the next check.
+BORDER, MORE = 65_536, b"x" * 400_000
+CLEF = "\U0001d11e".encode()
+TOO_DEEP, NO_UTF8 = b", col %d: Nesting is too deep at '['", b": not UTF-8"
+
+# The limit of nesting, a line, and what is printed for it, or why it is refused.
+BEGINNINGS = [
+    (64, b"[" * 500_000, None, TOO_DEEP % 64),
+    (1, b"[[" + MORE, None, TOO_DEEP % 1),
+    (1, b"[[" + MORE + b"\r", None, TOO_DEEP % 1),
+    (9, b"[1,}" + MORE, None, b", col 3: Invalid character: }"),
+    # The error of the whole line counts: it may not be UTF-8 behind the beginning.
+    (1, b"[[" + MORE + b"\xff", None, NO_UTF8),
+    (1, b"[[" + MORE + b"\xff" + MORE, None, NO_UTF8),
+    (1, b"[[" + MORE + b"\xc3", None, NO_UTF8),
+    (1, b"[[" + b"\x80" * 400_000, None, NO_UTF8),
+    (1, b"\xff" + MORE, None, NO_UTF8),
+    # Characters that the ends of what is read cut.
+    *[(1, b"[[" + b"x" * n + CLEF * 100_000, None, TOO_DEEP % 1) for n in range(4)],
+    *[(1, b"[[" + b"x" * n + CLEF * 100_000 + CLEF[:3], None, NO_UTF8) for n in range(4)],
+    *[(9, b'"' + b"x" * n + CLEF * 100_000 + b'"', b'"' + b"x" * n + CLEF * 100_000 + b'"', None) for n in range(4)],
+    # Errors about the first check's last characters, and texts that it cuts.
+    *[(9, b"1" + b" " * n + b"2" + b" " * 400_000, None, b", col %d: Expected EOF but got character '2'" % (n + 2)) for n in range(BORDER - 4, BORDER + 2)],
+    *[(9, b"1" + b" " * n + b"," + MORE, None, b", col %d: Expected EOF but got character ','" % (n + 2)) for n in range(BORDER - 4, BORDER + 2)],
+    (9, b"[1." + b"1" * 400_000 + b"]", b"[1." + b"1" * 400_000 + b"]", None),
+    (9, b"[" + b"1," * 200_000 + b"x", None, b", col 400001: Invalid character: x"),
+    *[(9, b'"' + b"x" * n + rb"\ud834\udd1e" + MORE + b'"', b'"' + b"x" * n + CLEF + MORE + b'"', None) for n in range(BORDER - 14, BORDER)],
+]
+
+
+def check_beginnings(checks):
+    """Long lines whose beginning is refused under -d, the second of three and the last of two."""
+    for row in BEGINNINGS:
+        limit, line, output, words = row
+        for given, after in ((b"0\n" + line + b"\n1\n", b"1\n"), (b"0\n" + line, b"")):
+            expected = printed(b"0", output) if words is None else told(b"0\n", b"2" + words)
+            expected = (expected[0], expected[1] + after, expected[2])
+            name = f"json_lines: -k -d {limit}, {line[:8]} .. {line[-8:]}, {len(given)} bytes"
+            checks.row(name, expected, run_of, program("json_lines"), ["-k", "-d", str(limit)], given, at=row)
+    limited = lambda: resource.setrlimit(resource.RLIMIT_AS, (MEMORY, MEMORY))
+    brackets, refused = b"[" * LENGTH, TOO_DEEP % 64
+    for given, expected in ((brackets + b"\n1\n", told(b"1\n", b"1" + refused)), (b"1\n" + brackets, told(b"1\n", b"2" + refused))):
+        name = f"json_lines: -k -d 64, a line of {LENGTH} brackets, {given[:2]}"
+        if checks.needs_memory(name):
+            checks.check(name, run_of(program("json_lines"), ["-k", "-d", "64"], given, preexec_fn=limited), expected)
 
 
 def check_rows(checks):
@@ -188,4 +237,4 @@ def check_memory(checks):
 PAGE = Page("json_lines", [], is_lines=True)
 
 
-PARTS = (PAGE.check, check_groups, check_rows, check_long_lines, check_padded, check_deep, check_faults, *shared(check_memory))
+PARTS = (PAGE.check, check_groups, check_rows, check_long_lines, check_beginnings, check_padded, check_deep, check_faults, *shared(check_memory))

@@ -8,11 +8,10 @@ use Rattle.std.specs.declared.io.Error.{Error}
 use Rattle.tinyjson.proofs.Callers.{Appends_keeps, Appends_written, begins, stop, written_same}
 use Rattle.tinyjson.specs.Written.{Written, WrittenPart}
 use Rattle.json_lines.specs.Lines.{telling_of}
-use Rattle.json_lines.specs.Run.{Handles, WritesGiven, WritesLine}
+use Rattle.json_lines.specs.Run.{Handles, IsGiven, WritesGiven, WritesLine}
 use Rattle.json_lines.specs.declared.lines.Options.{Options}
 use Rattle.json_lines.specs.declared.lines.Outcome.{Outcome}
 use Rattle.json_lines.specs.declared.lines.Outcome.TheVariants.{AllWritten, SomeRefused}
-use Rattle.tinyjson_lines.specs.Within.{IsGiven}
 use Rattle.tinyjson_lines.specs.declared.refusal.Cause.{Cause}
 use Rattle.tinyjson_lines.specs.declared.refusal.Cause.TheVariants.{NotUtf8, NotJson, TooLong}
 
@@ -20,7 +19,7 @@ use Rattle.tinyjson_lines.specs.declared.refusal.Cause.TheVariants.{NotUtf8, Not
 
 -- a line within the limit is written, or refused by its text
 pub within_written : (limit max : Option ℕ) (line xs : List ℕ) (held holds : Option (List ℕ)) (r : Result (Option Cause) Error)
-    → IsGiven max line (Ok xs) → WritesLine limit xs held holds r → WritesGiven limit max line held holds r
+    → IsGiven limit max line (Ok xs) → WritesLine limit xs held holds r → WritesGiven limit max line held holds r
 within_written limit max line xs held holds r g h = of r (subst (λ l. WritesLine limit l held holds r) g.0 h)
   where
     of : (q : Result (Option Cause) Error) → WritesLine limit line held holds q → WritesGiven limit max line held holds q
@@ -30,10 +29,10 @@ within_written limit max line xs held holds r g h = of r (subst (λ l. WritesLin
     of (Ok (Some (TooLong m))) k = absurd k.0
     of (Err e) k = ⊎_elim (λ l. inl l) (λ l. inr (l.0, (g.1, l.1), l.2)) k
 
--- a longer one is refused
-pub long_written : (limit max : Option ℕ) (line : List ℕ) (held : Option (List ℕ)) (m : ℕ) → IsGiven max line (Err m)
-    → WritesGiven limit max line held held (Ok (Some (TooLong m)))
-long_written limit max line held m g = (g, Keeps-refl held)
+-- one that was passed over is refused
+pub passed_written : (limit max : Option ℕ) (line : List ℕ) (held : Option (List ℕ)) (c : Cause) → IsGiven limit max line (Err c)
+    → WritesGiven limit max line held held (Ok (Some c))
+passed_written limit max line held c g = (g, Keeps-refl held)
 
 -- ---- a line that was written, refused and told, or cut off
 

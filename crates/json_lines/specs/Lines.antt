@@ -9,6 +9,8 @@ use Rattle.tinyjson.specs.Tree.{Tree}
 use Rattle.tinyjson.specs.declared.parser.error.JsonParseError.{JsonParseError}
 use Rattle.tinyjson_cli.specs.Refusals.{refusal_line}
 use Rattle.tinyjson_lines.specs.Line.{line_of}
+-- the characters are no text, and this is the parser's error; the text of a line is rejected for this cause
+pub use Rattle.tinyjson_lines.specs.Checked.{IsRefused, IsRejected}
 -- the lines of the bytes, and a line without its line feed
 pub use Rattle.tinyjson_lines.specs.Lines.{lines, onto_first, content}
 -- the line has no more bytes than the limit; it has more
@@ -23,16 +25,10 @@ use Rattle.tinyjson_lines.specs.declared.refusal.Cause.TheVariants.{NotUtf8, Not
 abbrev pub Fate : Type 0
 Fate = Result Tree Cause
 
--- the characters are no text, and this is the parser's error
-abbrev pub IsRefused : Option ℕ → List ℕ → JsonParseError → Type 0
-IsRefused limit xs e = ParsesText limit xs (Err e) × ¬ (error_kind e ≡ kind.OutOfMemory) × ¬ IsAccepted limit xs
-
 -- The text of the line gives this, under the limit of nesting.
 abbrev pub TextGives : Option ℕ → List ℕ → Fate → Type 0
 TextGives limit line (Ok t) = IsUtf8 (content line) × IsText limit (chars (content line)) t
-TextGives limit line (Err NotUtf8) = ¬ IsUtf8 (content line)
-TextGives limit line (Err (NotJson e)) = IsUtf8 (content line) × IsRefused limit (chars (content line)) e
-TextGives limit line (Err (TooLong m)) = ⊥
+TextGives limit line (Err c) = IsRejected limit line c
 
 -- The line gives this, under the limits of nesting and of its length.
 abbrev pub HasFate : Option ℕ → Option ℕ → List ℕ → Fate → Type 0

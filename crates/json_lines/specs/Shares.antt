@@ -15,5 +15,6 @@ LinesOfShares = (xs ys : List ℕ) → lines (ended xs ++ ys) ≡ lines (ended x
 abbrev pub OutputOfShares : Type 0
 OutputOfShares =
     (limit max : Option ℕ) (xs ys : List ℕ) (whole first rest : List Fate) →
-    HaveFates limit max (lines (ended xs ++ ys)) whole → HaveFates limit max (lines (ended xs)) first → HaveFates limit max (lines ys) rest →
+    HaveFates limit max (lines (ended xs ++ ys)) whole → HaveFates limit max (lines (ended xs)) first →
+    HaveFates limit max (lines ys) rest →
     outputs_of whole ≡ outputs_of first ++ outputs_of rest

@@ -5,14 +5,15 @@ ghost use Rattle.tinyjson.specs.Tree.{Tree};
 ghost use Rattle.tinyjson.specs.Written.{WritesPrefix};
 ghost use Rattle.tinyjson_normal.specs.Normal.{HasTree};
 ghost use Rattle.tinyjson_lines.specs.Line.{line_of};
-ghost use Rattle.tinyjson_lines.specs.Within.{IsGiven};
-ghost use Rattle.json_lines.specs.Run.{Runs, Handles, WritesGiven, WritesLine};
+ghost use Rattle.json_lines.specs.Run.{IsGiven, ReadsNext, Runs, Handles, WritesGiven, WritesLine};
 
 use std::alloc::Global;
 use std::io::{self, BufRead, ErrorKind, Write};
 use std::str;
 use tinyjson_cli::{RefusedLine, tell};
-use tinyjson_lines::{Cause, LineRead, Refusal, content, read_line_within, write_all};
+use tinyjson_lines::{
+    Cause, CheckedRead, LineRead, Refusal, content, read_line_checked, read_line_within, write_all,
+};
 use tinyjson_normal::{NormalReader, NormalText};
 
 /// How lines are read.
@@ -43,7 +44,8 @@ pub enum Outcome {
 /// A line ends after its line feed, and the last one where the input ends. One that is not UTF-8, no
 /// JSON text, or beyond a limit is rejected: nothing is written for it, and the message
 /// has its number, where in it the parser stopped, and why. The run goes on after it if the options
-/// ask for that, and otherwise ends. A line that is too long is passed over and not kept in memory.
+/// ask for that, and otherwise ends. A line that is too long is passed over and not kept in memory, and where
+/// only the nesting is limited, so is a long one whose beginning is rejected.
 ///
 /// Memory that runs out, a read or a write that fails is an error. Then a prefix was written of the
 /// output for the lines so far, and a prefix of the messages.
@@ -67,8 +69,8 @@ pub fn run<R: BufRead, W: Write, E: Write>(
     let mut reader = NormalReader::new(alloc);
     let mut outcome = Outcome::AllWritten;
     for number in 1..u64::MAX {
-        let read = read_line_within(input, &mut line, options.max_line)?;
-        if let LineRead::End = read {
+        let read = read_next(alloc, options, input, &mut line)?;
+        if let CheckedRead::End = read {
             output.flush()?;
             return Ok(outcome);
         }
@@ -85,18 +87,39 @@ pub fn run<R: BufRead, W: Write, E: Write>(
     Err(io::Error::new(ErrorKind::InvalidData, "too many lines"))
 }
 
+/// Reads the next line. One that is too long or, where there is a limit of nesting alone, one whose beginning is
+/// rejected is passed over.
+fn read_next<R: BufRead>(
+    alloc: Global,
+    options: Options<'_>,
+    input: &mut R,
+    line: &mut Vec<u8>,
+) -> io::Result<CheckedRead>
+    ensures { ReadsNext options.entry.limit options.entry.max_line
+        (R.remaining input.old) (R.remaining input.new) line.new.items result }
+{
+    if let (Some(limit), None) = (options.limit, options.max_line) {
+        return read_line_checked(alloc, input, line, limit);
+    }
+    match read_line_within(input, line, options.max_line)? {
+        LineRead::Whole => Ok(CheckedRead::Whole),
+        LineRead::TooLong(max) => Ok(CheckedRead::Rejected(Cause::TooLong(max))),
+        LineRead::End => Ok(CheckedRead::End),
+    }
+}
+
 /// Writes the normal form of one line that is given, or a message about it.
 fn handle<W: Write, E: Write>(
     reader: &mut NormalReader,
     options: Options<'_>,
     number: u64,
-    given: Result<&[u8], usize>,
+    given: Result<&[u8], Cause>,
     output: &mut W,
     errors: &mut E,
 ) -> io::Result<Outcome>
     ensures { (line : List ℕ) →
-        IsGiven options.entry.max_line line
-        (result_map_both (λ s. s.now) (λ m. m) given.entry) →
+        IsGiven options.entry.limit options.entry.max_line line
+        (result_map_both (λ s. s.now) (λ c. c) given.entry) →
         Handles options.entry number line (W.contents output.old) (W.contents output.new)
         (E.contents errors.old) (E.contents errors.new) result }
 {
@@ -117,16 +140,16 @@ fn handle<W: Write, E: Write>(
 fn write_given<W: Write>(
     reader: &mut NormalReader,
     limit: Option<usize>,
-    given: Result<&[u8], usize>,
+    given: Result<&[u8], Cause>,
     output: &mut W,
 ) -> io::Result<Option<Cause>>
     ensures { (max : Option ℕ) → (line : List ℕ) →
-        IsGiven max line (result_map_both (λ s. s.now) (λ m. m) given.entry) →
+        IsGiven limit max line (result_map_both (λ s. s.now) (λ c. c) given.entry) →
         WritesGiven limit max line (W.contents output.old) (W.contents output.new) result }
 {
     match given {
         Ok(line) => write_line(reader, limit, line, output),
-        Err(max) => Ok(Some(Cause::TooLong(max))),
+        Err(cause) => Ok(Some(cause)),
     }
 }
 

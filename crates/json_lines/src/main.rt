@@ -26,7 +26,8 @@ space, sorted keys, one spelling for each number.
 
 The lines are those of the files, or of standard input where none is named; '-'
 is standard input, too. Options may come anywhere; after '--' all are operands.
-A line is read whole, also one that -d refuses: -m bounds the memory it takes.
+A line is kept whole, but with -m only up to N bytes, and with -d alone only
+until it is refused.
 
 Options:
   -k, --keep-going  go on after a line that is refused

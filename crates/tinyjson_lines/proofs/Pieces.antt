@@ -1,15 +1,15 @@
 -- A line that is read in pieces.
-use Rattle.std.proofs.Common.{◌≡◌, ◌<◌, ◌≤◌, ◌≢◌, ◌==◌, ℕ, zero, suc, ◌+◌, ◌-◌, Bool, true, false, cond, not, List, [], ◌∷◌, ◌++◌, All, map}
-use Rattle.std.proofs.Common.{length, take, drop, get_or, Option, None, Some, IfSome, Result, Ok, Err, refl, sym, ap, ◌∙◌, subst, arith}
+use Rattle.std.proofs.Common.{◌≡◌, ◌<◌, ◌≤◌, ◌≢◌, ◌==◌, ℕ, suc, ◌+◌, ◌-◌, Bool, true, false, cond, not, List, [], ◌∷◌, ◌++◌, All}
+use Rattle.std.proofs.Common.{length, take, drop, get_or, Option, None, Some, IfSome, Ok, refl, sym, ap, ◌∙◌, subst, arith}
 use Rattle.std.proofs.Common.{append_assoc, append-nil, length-append, ne_eqb, eq-eqb, nat_lt, take-append-drop}
-use Rattle.std.proofs.BufReadLemmas.{drop_through-append, take_through-append}
+use Rattle.std.proofs.BufReadLemmas.{drop_through-append}
 use Rattle.std.proofs.KnownBytes.{Consumes-nil, Consumes-trans, starts_with_rest}
 use Rattle.std.proofs.Math.Seq.{take-append_seam}
-use Rattle.std.proofs.lemmas.Bool.{eqb-true, false≢true, le-ltb, lt-ltb}
-use Rattle.std.proofs.lemmas.List.{get_or_push, length-take, length-take-le, take_all, take_more}
+use Rattle.std.proofs.lemmas.Bool.{eqb-true, false≢true, lt-ltb}
+use Rattle.std.proofs.lemmas.List.{get_or_push, length-take-le, take_all, take_more}
 use Rattle.std.proofs.lemmas.List.Elements.{All-append, All-cons, All-head, All-nil, All-tail}
 use Rattle.std.proofs.lemmas.List.Sums.{prefix_len_stops}
-use Rattle.std.specs.Io.BufRead.{take_through, drop_through, DropsThrough, ends_with_byte, strip_last}
+use Rattle.std.specs.Io.BufRead.{take_through, drop_through, DropsThrough, ends_with_byte}
 use Rattle.std.specs.Io.{StartsWith}
 use Rattle.std.specs.Io.KnownBytes.{Consumes, Keeps}
 use Rattle.std.specs.List.{prefix_len}
@@ -18,22 +18,22 @@ use Rattle.tinyjson_lines.proofs.Callers.{first_line}
 use Rattle.tinyjson_lines.specs.Lines.{content, lines, onto_first, LinesRead, AllRead}
 use Rattle.tinyjson_lines.specs.Within.{IsLonger, PassesOver, ReadsWithin}
 use Rattle.tinyjson_lines.specs.declared.within.LineRead.{LineRead}
-use Rattle.tinyjson_lines.specs.declared.within.LineRead.TheVariants.{Whole, TooLong, End}
-use Rattle.tinyjson_lines.specs.private.Pieces.{IsPart, TakesPiece, end_read}
+use Rattle.tinyjson_lines.specs.declared.within.LineRead.TheVariants.{Whole}
+use Rattle.tinyjson_lines.specs.private.Pieces.{IsPart, end_read}
 
-abbrev IsInLine : ℕ → Type 0
+abbrev pub IsInLine : ℕ → Type 0
 IsInLine x = x ≢ 10
 
 -- ---- the line that a part without a line feed begins
 
-part_first : (part rest line : List ℕ) (more : List (List ℕ)) → All IsInLine part → lines rest ≡ line ∷ more
+pub part_first : (part rest line : List ℕ) (more : List (List ℕ)) → All IsInLine part → lines rest ≡ line ∷ more
     → lines (part ++ rest) ≡ (part ++ line) ∷ more
 part_first [] rest line more h e = e
 part_first (x ∷ xs) rest line more h e =
     ap (λ b. cond b ((x ∷ []) ∷ lines (xs ++ rest)) (onto_first x (lines (xs ++ rest)))) (ne_eqb x 10 (All-head IsInLine x xs h))
     ∙ ap (onto_first x) (part_first xs rest line more (All-tail IsInLine x xs h) e)
 
-part_alone : (x : ℕ) (xs : List ℕ) → All IsInLine (x ∷ xs) → lines (x ∷ xs) ≡ (x ∷ xs) ∷ []
+pub part_alone : (x : ℕ) (xs : List ℕ) → All IsInLine (x ∷ xs) → lines (x ∷ xs) ≡ (x ∷ xs) ∷ []
 part_alone x [] h =
     ap (λ b. cond b ((x ∷ []) ∷ []) ((x ∷ []) ∷ [])) (ne_eqb x 10 (All-head IsInLine x [] h))
 part_alone x (y ∷ ys) h =
@@ -68,7 +68,7 @@ content_ended part =
     ap (λ b. cond b (take (length line - 1) line) line) is ∙ ap (λ n. take n line) (sym before) ∙ take-append_seam part (10 ∷ [])
 
 -- a part without a line feed counts whole
-content_part : (part : List ℕ) → All IsInLine part → content part ≡ part
+pub content_part : (part : List ℕ) → All IsInLine part → content part ≡ part
 content_part [] h = refl
 content_part (x ∷ xs) h =
     let part : List ℕ = x ∷ xs in
@@ -193,7 +193,7 @@ more_part max n unread left after part shown line e most all w is taken p =
       within = omega (arith, w, n_is, ap length is, length-append part shown);
     }
 
-some_taken : (y : ℕ) (ys : List ℕ) → 0 < length (take_through 10 (y ∷ ys))
+pub some_taken : (y : ℕ) (ys : List ℕ) → 0 < length (take_through 10 (y ∷ ys))
 some_taken y ys = by (y == 10)
   where
     by : (b : Bool) → 0 < length (cond b (y ∷ []) (y ∷ take_through 10 ys))

@@ -8,7 +8,7 @@ use Rattle.std.specs.Result.{IsErr}
 use Rattle.std.specs.declared.io.Error.{Error}
 use Rattle.tinyjson.proofs.Callers.{stop, stops_then, written_same}
 use Rattle.tinyjson_lines.specs.Each.{Handles, HandlesLine, Step, Handled, go_on, lines_of, written_of, reported_of}
-use Rattle.tinyjson_lines.specs.Each.{Reaches, HandlesAll, StopsAmongSteps, RunsOver, given_by}
+use Rattle.tinyjson_lines.specs.Each.{HandlesAll, StopsAmongSteps, RunsOver, given_by}
 use Rattle.tinyjson_lines.specs.Lines.{content, LinesRead, AllRead}
 use Rattle.tinyjson_lines.specs.Within.{IsWithin, LinesGiven, AllGiven, PassesOver, ReadsWithin, given_line, given_lines}
 use Rattle.tinyjson.specs.Written.{Written, WrittenPart}

@@ -1,5 +1,6 @@
 -- Lines that are read up to a limit.
-use Rattle.std.specs.Prelude.{◌≡◌, ◌<◌, ◌≤◌, ℕ, List, [], ◌∷◌, ◌++◌, cond, length, map, nat_lt, Option, None, Some, IfSome, Result, Ok, Err, ⊤}
+use Rattle.std.specs.Prelude.{◌≡◌, ◌<◌, ◌≤◌, ℕ, List, [], ◌∷◌, ◌++◌, cond, length, map, nat_lt, Option, None, Some, IfSome}
+use Rattle.std.specs.Prelude.{Result, Ok, Err, ⊤}
 use Rattle.std.specs.declared.io.Error.{Error}
 use Rattle.tinyjson_lines.specs.Lines.{content, lines, LinesRead, AllRead}
 use Rattle.tinyjson_lines.specs.declared.within.LineRead.{LineRead}

@@ -1,2 +1,3 @@
 -- What only private contracts cite.
+pub mod Beginnings
 pub mod Pieces

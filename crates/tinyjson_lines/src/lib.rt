@@ -5,12 +5,14 @@
 //! ```
 #![tactic(auto)]
 
+mod checked;
 mod each;
 mod line;
 mod lines;
 mod refusal;
 mod within;
 
+pub use checked::{CheckedRead, read_line_checked};
 pub use each::{LineHandler, for_each_line};
 pub use line::write_line;
 pub use lines::{content, read_line};

@@ -2,7 +2,7 @@
 ghost use Rattle.std.specs.Prelude.{◌≡◌, ◌+◌, ◌≤◌, ℕ, List, Option, Some, IfSome, length};
 ghost use Rattle.std.specs.Result.{result_map_both};
 ghost use Rattle.tinyjson_lines.specs.Within.{ReadsWithin, given_as};
-ghost use Rattle.tinyjson_lines.specs.private.Pieces.{IsPart, TakesPiece, end_read};
+ghost use Rattle.tinyjson_lines.specs.private.Pieces.{Extends, IsPart, TakesPiece, end_read};
 
 use crate::lines::read_line;
 use std::io::{self, BufRead, ErrorKind};
@@ -83,7 +83,7 @@ fn gather_line<R: BufRead>(input: &mut R, line: &mut Vec<u8>, max: usize) -> io:
 }
 
 /// Takes what the reader shows of a line, of which a part is read. `None` where more may follow.
-fn take_piece<R: BufRead>(
+pub(crate) fn take_piece<R: BufRead>(
     input: &mut R,
     line: &mut Vec<u8>,
     max: usize,
@@ -92,6 +92,7 @@ fn take_piece<R: BufRead>(
         IsPart max unread (R.remaining input.old) line.old.items →
         TakesPiece max unread (R.remaining input.new) line.new.items result }
     ensures held { length line.old.items ≤ max → length line.new.items ≤ max + 1 }
+    ensures extends { Extends line.old.items line.new.items result }
 {
     let available = match input.fill_buf() {
         Ok(available) => available,

@@ -1,5 +1,5 @@
 -- The pieces of a line that is read up to a limit. For private contracts.
-use Rattle.std.specs.Prelude.{ℕ, List, [], ◌∷◌, length, ◌≤◌, ◌≢◌, Option, None, Some, Result, Ok, Err, ⊤}
+use Rattle.std.specs.Prelude.{◌≡◌, ◌++◌, ℕ, List, [], ◌∷◌, length, ◌≤◌, ◌≢◌, Option, None, Some, Result, Ok, Err, ⊤}
 use Rattle.std.specs.Io.KnownBytes.{Consumes}
 use Rattle.std.specs.List.{All}
 use Rattle.std.specs.declared.io.Error.{Error}
@@ -18,6 +18,12 @@ abbrev pub TakesPiece : ℕ → Option (List ℕ) → Option (List ℕ) → List
 TakesPiece max unread left line (Ok None) = IsPart max unread left line
 TakesPiece max unread left line (Ok (Some r)) = ReadsWithin (Some max) unread left line (Ok r)
 TakesPiece max unread left line (Err e) = ⊤
+
+-- What was read of the line stays. At the end of the input nothing was.
+abbrev pub Extends : List ℕ → List ℕ → Result (Option LineRead) Error → Type 0
+Extends old new (Ok (Some End)) = (old ≡ []) × (new ≡ [])
+Extends old new (Ok r) = (more : List ℕ) × (new ≡ old ++ more)
+Extends old new (Err e) = ⊤
 
 -- what is read at the end of the input, after a part of a line
 abbrev pub end_read : List ℕ → LineRead

@@ -1,7 +1,6 @@
-use Rattle.std.proofs.Common.{◌≡◌, ◌∷◌, [], true, false, Ok, subst}
+use Rattle.std.proofs.Common.{[], Ok, subst}
 use Rattle.std.proofs.KnownBytes.{Keeps-refl}
 use Rattle.tinyjson_lines.proofs.Steps.{at_error, begun, ended, failed, given_read, last, next, none_left, stopped}
-use Rattle.tinyjson_lines.specs.Each.{HandlesLine}
 use Rattle.tinyjson_lines.specs.Lines.{AllRead}
 use Rattle.tinyjson_lines.specs.Within.{ReadsWithin}
 use Rattle.tinyjson_lines.proofs.each.for_each_line.Goals as goal

@@ -1,4 +1,4 @@
-use Rattle.std.proofs.Common.{◌≡◌, ◌<◌, length, ap, sym, ◌∙◌, arith}
+use Rattle.std.proofs.Common.{◌≡◌, ◌<◌, length, ap, arith}
 use Rattle.std.specs.Prelude.{Ok, true, false, []}
 use Rattle.tinyjson_lines.proofs.Callers.{line_read, none_read, reads_kept}
 use Rattle.tinyjson_lines.proofs.lines.read_line.Goals as goal

@@ -1,4 +1,4 @@
-use Rattle.std.proofs.Common.{◌≡◌, ◌+◌, ◌<◌, length, subst, rules, arith}
+use Rattle.std.proofs.Common.{◌+◌, ◌<◌, length, subst, arith}
 use Rattle.std.specs.Io.BufRead.{FillKeeps}
 use Rattle.std.proofs.BufReadLemmas.{Consumes_shown}
 use Rattle.tinyjson_lines.proofs.Callers.{line_shown}
