@@ -3,6 +3,7 @@
 import os
 
 from faults import BROKEN, FOLDER, FULL, NO_TEXT, Faults
+from long_lines import LongLines, reports_each
 from padding import padded_merge, padded_rows
 from pages import Page, misused
 from places import TOP
@@ -180,6 +181,8 @@ def check_lines(checks):
             answer = told(result + b"\n" + result + b"\n", b"2, col 1: Invalid character: ,")
             name = f"json_merge -l: {patch[-60:]} {given[:60]} {len(given)}"
             checks.row(name, answer, merged_by, checks.folder, ["-l"], [patch], lines, at=row)
+    answer = printed(b"{%s}" % ADDED)
+    checks.row("json_merge: --max-line without -l", answer, run_of, program("json_merge"), ["-m2", PATCH], b"[1,\n2]")
 
 
 def check_padded(checks):
@@ -209,5 +212,7 @@ def check_deep(checks):
 
 PAGE = Page("json_merge", [PATCH])
 
+LONG_LINES = LongLines("json_merge", ["-l", PATCH], reports_each("json_merge", lambda line: b"{%s}" % ADDED), is_going=True)
 
-PARTS = (PAGE.check, check_rows, check_lines, check_padded, check_deep, check_faults)
+
+PARTS = (PAGE.check, check_rows, check_lines, LONG_LINES.check, check_padded, check_deep, check_faults)

@@ -8,6 +8,7 @@ import json
 import whole
 from checks import shared
 from faults import BROKEN, FOLDER, FULL, NO_TEXT, Faults
+from long_lines import LongLines, reports_each
 from padding import padded_part, padded_rows
 from pages import Page, misused
 from running import printed, program, reported, run_of
@@ -171,6 +172,9 @@ def check_rows(checks):
         checks.row(name, expected, run_of, program("json_part"), words, given, at=row)
 
 
+LONG_LINES = LongLines("json_part", ["-l", ""], reports_each("json_part"), is_going=True)
+
+
 def in_files(checks):
     """The answer for files of lines: one with lines that are refused, one that is not there, and a good one."""
     words = ["-l", "/a", "bad", "none", "good"]
@@ -195,6 +199,9 @@ def check_lines(checks):
     words = b"bad:2: the pointer names no part\nbad:3:1: Invalid character: ,\nbad:4: not UTF-8\n"
     answer = (4, b"1\n2\n", words + b"none: No such file or directory (os error 2)\n")
     checks.row("json_part -l: files", answer, in_files, checks)
+    checks.row("json_part: --max-line without -l", printed(b"[1,2]"), run_of, program("json_part"), ["-m2", ""], b"[1,\n2]")
+    checks.row("json_part: -l, --max-line without a number", misused("json_part", "no number of 1 to 9 digits after -m"), run_of,
+        program("json_part"), ["-lm", ""], b"1")
 
 
 def check_groups(checks):
@@ -240,6 +247,7 @@ PARTS = (
     check_groups,
     check_rows,
     check_lines,
+    LONG_LINES.check,
     check_pipes,
     check_padded,
     check_deep,

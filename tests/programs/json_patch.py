@@ -6,6 +6,7 @@ import resource
 
 from checks import shared
 from faults import BROKEN, FOLDER, FULL, NO_TEXT, Faults
+from long_lines import LongLines, reports_each
 from pages import Page, misused
 from places import TOP
 from padding import padded_failure, padded_mistake, padded_patch, padded_rows
@@ -548,6 +549,15 @@ def check_lines(checks):
             answer = told_of_lines(result + b"\n" + result + b"\n", b"2, col 1: Invalid character: ,")
             name = f"json_patch -l: {operations[-60:]} {given[:60]} {len(given)}"
             checks.row(name, answer, patched_by, checks.folder, ["-l"], operations.decode(), lines, at=row)
+    checks.row("json_patch: --max-line without -l", printed(b"[1,2]"), patched_by, checks.folder, ["-m2"], "[]", b"[1,\n2]")
+
+
+def check_long_lines(checks):
+    """By a patch without operations, lines of which some are longer than a limit."""
+    path = os.path.join(checks.folder, "nothing")
+    with open(path, "wb") as file:
+        file.write(b"[]")
+    LongLines("json_patch", ["-l", path], reports_each("json_patch"), is_going=True).check(checks)
 
 
 def answers():
@@ -637,4 +647,4 @@ def check_faults(checks):
 PAGE = Page("json_patch", [OPERATIONS], PATCHED)
 
 
-PARTS = (PAGE.check, *shared(check_rows), check_lines, check_padded, check_many, check_deep, check_faults)
+PARTS = (PAGE.check, *shared(check_rows), check_lines, check_long_lines, check_padded, check_many, check_deep, check_faults)

@@ -39,6 +39,16 @@ ROWS = [
 ]
 
 
+def reports_each(name, shown=lambda line: line):
+    """The answer of a program that prints this for each line, and reports each that is longer than a limit."""
+    def answer(lines):
+        output = b"".join(shown(line) + b"\n" for line in lines if not isinstance(line, int))
+        long = [(at, line) for at, line in enumerate(lines, 1) if isinstance(line, int)]
+        return int(bool(long)), output, b"".join(b"%s: line %d: longer than %d bytes\n" % (name.encode(), at, line) for at, line in long)
+
+    return answer
+
+
 class LongLines:
     """The rows of one program.
 

@@ -3,6 +3,8 @@ use Rattle.std.proofs.Common.{◌≡◌, ◌≤◌, ◌-◌, ℕ, Bool, cond, Li
 use Rattle.std.proofs.lemmas.List.{drop-map, length-map, take-map, take_rest}
 use Rattle.std.specs.Prelude.{unwrap_or}
 use Rattle.tinyjson_cli.specs.Arguments.{Given, is_given, last_number}
+use Rattle.tinyjson_cli.specs.Texts.{texts_given}
+use Rattle.tinyjson_cli.specs.declared.texts.Texts.{Texts}
 use Rattle.json_merge.specs.Options.{asks, split_operands}
 
 module _ {X : Type 0} (n : ℕ) (xs : List X) (f : X → List ℕ) (h : n ≤ length xs) where
@@ -12,11 +14,11 @@ module _ {X : Type 0} (n : ℕ) (xs : List X) (f : X → List ℕ) (h : n ≤ le
       ∙ (ap (λ ws. Some (ws, drop n (map f xs))) (take-map f n xs)
       ∙ ap (λ ws. Some (map f (take n xs), ws)) (drop-map f n xs ∙ ap (map f) (sym (take_rest xs n))))
 
-  pub asked : (a : Given) (l i : Bool) → l ≡ is_given 108 a → i ≡ is_given 105 a → n ≡ unwrap_or (last_number 112 None a.numbers) 1
+  pub asked : (a : Given) (l : Texts) (i : Bool) → l ≡ texts_given a → i ≡ is_given 105 a → n ≡ unwrap_or (last_number 112 None a.numbers) 1
       → map f xs ≡ a.operands → Some ((l, i), (map f (take n xs), map f (take (length xs - n) (drop n xs)))) ≡ asks a
   asked a l i el ei en ex =
       ap (option_map (λ o. ((l, i), o))) (sym split)
       ∙ (ap (λ b. option_map (λ o. ((b, i), o)) (split_operands n (map f xs))) el
-      ∙ (ap (λ b. option_map (λ o. ((is_given 108 a, b), o)) (split_operands n (map f xs))) ei
-      ∙ (ap (λ k. option_map (λ o. ((is_given 108 a, is_given 105 a), o)) (split_operands k (map f xs))) en
-      ∙ ap (λ ws. option_map (λ o. ((is_given 108 a, is_given 105 a), o)) (split_operands (unwrap_or (last_number 112 None a.numbers) 1) ws)) ex)))
+      ∙ (ap (λ b. option_map (λ o. ((texts_given a, b), o)) (split_operands n (map f xs))) ei
+      ∙ (ap (λ k. option_map (λ o. ((texts_given a, is_given 105 a), o)) (split_operands k (map f xs))) en
+      ∙ ap (λ ws. option_map (λ o. ((texts_given a, is_given 105 a), o)) (split_operands (unwrap_or (last_number 112 None a.numbers) 1) ws)) ex)))

@@ -11,15 +11,15 @@ use options::{PATCHES, Request, requested};
 use reading::read_patches;
 use std::process::ExitCode;
 use tinyjson_cli::{
-    HELP, INDENT, LINES, Misuse, Program, Status, VERSION, answer_texts, argument_words,
+    HELP, INDENT, LINES, MAX_LINE, Misuse, Program, Status, VERSION, answer_texts, argument_words,
     arguments_of, misused, report,
 };
 
 const PROGRAM: Program<'static> = Program {
     name: "json_merge",
-    options: &[LINES, INDENT, PATCHES, HELP, VERSION],
+    options: &[LINES, MAX_LINE, INDENT, PATCHES, HELP, VERSION],
     help: "\
-Usage: json_merge [-l] [-i] [-p N] PATCH.. [FILE..]
+Usage: json_merge [-l] [-m N] [-i] [-p N] PATCH.. [FILE..]
 
 Applies a JSON Merge Patch (RFC 7396) to each JSON text, and prints the result as
 compact text with sorted keys. PATCH is the name of the patch's file.
@@ -28,13 +28,15 @@ The texts are those of the files, or standard input where none is named; '-' is
 standard input, too. Options may come anywhere; after '--' all are operands.
 
 Options:
-  -l, --lines      take each line of an input as a text; where one is refused,
-                   report its number and go on
-  -i, --indent     indent by two spaces
-  -p, --patches N  the first N names are patches, applied in order; if not
-                   given, the first one is
-  -h, --help       print this page
-  -V, --version    print the version
+  -l, --lines       take each line of an input as a text; where one is refused,
+                    report its number and go on
+  -m, --max-line N  with -l: refuse a line of more than N bytes, and do not keep
+                    it in memory
+  -i, --indent      indent by two spaces
+  -p, --patches N   the first N names are patches, applied in order; if not
+                    given, the first one is
+  -h, --help        print this page
+  -V, --version     print the version
 
 Exit status:
   0  each result was printed
@@ -63,7 +65,7 @@ fn run(rt: &HostRuntime) -> Result<Status, Status> {
     let arguments = arguments_of(rt, PROGRAM, words.as_slice())?;
     let Some(
         Request {
-            by_lines,
+            texts,
             is_indented,
             patches,
             files,
@@ -78,7 +80,7 @@ fn run(rt: &HostRuntime) -> Result<Status, Status> {
                 patches: patches.as_slice(),
                 is_indented,
             };
-            Ok(answer_texts(rt, PROGRAM, by_lines, files, asked))
+            Ok(answer_texts(rt, PROGRAM, texts, files, asked))
         }
         Err(failure) => Err(report(rt, PROGRAM, None, &failure)),
     }

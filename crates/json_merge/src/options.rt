@@ -3,7 +3,7 @@ ghost use Rattle.std.specs.Prelude.{◌≡◌, option_map, map};
 ghost use Rattle.tinyjson_cli.specs.Arguments.{given_of};
 ghost use Rattle.json_merge.specs.Options.{asks};
 
-use tinyjson_cli::{Arguments, Known};
+use tinyjson_cli::{Arguments, Known, Texts, texts_asked};
 
 /// `-p` and `--patches`.
 pub const PATCHES: Known<'static> = Known {
@@ -15,8 +15,8 @@ pub const PATCHES: Known<'static> = Known {
 /// Patches, and the files with the texts to which they are applied.
 #[derive(Drop)]
 pub struct Request<'w, 'a> {
-    /// Whether each line of an input is a text of its own.
-    pub by_lines: bool,
+    /// How the texts of an input are found.
+    pub texts: Texts,
     /// Whether the results are indented.
     pub is_indented: bool,
     /// The files of the patches.
@@ -25,15 +25,15 @@ pub struct Request<'w, 'a> {
     pub files: &'a [&'w str],
 }
 
-/// Parses the arguments: `[-l] [-i] [-p N] PATCH.. [FILE..]`.
+/// Parses the arguments: `[-l] [-m N] [-i] [-p N] PATCH.. [FILE..]`.
 pub fn requested<'w, 'a>(arguments: &'a Arguments<'w>) -> Option<Request<'w, 'a>>
     ensures { option_map (λ r. (
-      (r.by_lines, r.is_indented),
+      (r.texts, r.is_indented),
       (map (λ p. p.now) r.patches.now, map (λ f. f.now) r.files.now),
     )) result
         ≡ asks (given_of arguments.now) }
 {
-    let by_lines = arguments.has(b'l');
+    let texts = texts_asked(arguments);
     let is_indented = arguments.has(b'i');
     let count = arguments.number(b'p').unwrap_or(1);
     let operands = arguments.operands.as_slice();
@@ -41,7 +41,7 @@ pub fn requested<'w, 'a>(arguments: &'a Arguments<'w>) -> Option<Request<'w, 'a>
         return None;
     }
     Some(Request {
-        by_lines,
+        texts,
         is_indented,
         patches: &operands[..count],
         files: &operands[count..],

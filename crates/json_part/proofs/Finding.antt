@@ -11,7 +11,7 @@ use Rattle.tinyjson.specs.Written.{Written, WrittenPart}
 use Rattle.tinyjson_cli.specs.Layout.{laid_out}
 use Rattle.tinyjson_cli.specs.Texts.{Answers}
 use Rattle.tinyjson_cli.specs.declared.texts.NoAnswer.{NoAnswer}
-use Rattle.tinyjson_cli.specs.declared.texts.NoAnswer.TheVariants.{Refused, No, TooLong}
+use Rattle.tinyjson_cli.specs.declared.texts.NoAnswer.TheVariants.{Refused, No}
 use Rattle.tinyjson_document.specs.Parts.{string_in}
 use Rattle.tinyjson_pointer.specs.Walk.{part_at}
 use Rattle.json_part.specs.Part.{GivesMissing, GivesPart, GivesPartOf, part_or_null, printed, printed_as}
@@ -77,7 +77,6 @@ module _ (form : Form) (ks : List (List ℕ)) (t : Tree) (old new : Option (List
   missing (Ok None) e h = (h.0, (null, null_found form.or_null _ h.1.0 e, h.1.1 ∙ null_text form.is_raw form.is_indented), h.2)
   missing (Ok (Some (Refused c))) e h = absurd h.0
   missing (Ok (Some (No w))) e h = ((none_found form.or_null _ h.0.0 e, h.0.1), h.1)
-  missing (Ok (Some TooLong)) e h = absurd h.0
   missing (Err x) e h =
       ⊎_elim (λ k. inl k) (λ k. inr (k.0, (null, null_found form.or_null _ k.1.0 e, k.1.1 ∙ null_text form.is_raw form.is_indented), k.2)) h
 
@@ -86,5 +85,4 @@ module _ (form : Form) (ks : List (List ℕ)) (t : Tree) (old new : Option (List
   of_text text (Ok None) s w = (w.0, (t, s, w.1), w.2)
   of_text text (Ok (Some (Refused c))) s w = absurd w.0
   of_text text (Ok (Some (No x))) s w = ((t, s, w.0), w.1)
-  of_text text (Ok (Some TooLong)) s w = absurd w.0
   of_text text (Err e) s w = ⊎_elim (λ k. inl k) (λ k. inr (k.0, (t, s, k.1), k.2)) w

@@ -11,15 +11,15 @@ use part::Asked;
 use pointer::read_pointer;
 use std::process::ExitCode;
 use tinyjson_cli::{
-    HELP, INDENT, LINES, Misuse, Program, Status, VERSION, answer_texts, argument_words,
+    HELP, INDENT, LINES, MAX_LINE, Misuse, Program, Status, VERSION, answer_texts, argument_words,
     arguments_of, misused, report,
 };
 
 const PROGRAM: Program<'static> = Program {
     name: "json_part",
-    options: &[LINES, INDENT, RAW, NULL, HELP, VERSION],
+    options: &[LINES, MAX_LINE, INDENT, RAW, NULL, HELP, VERSION],
     help: "\
-Usage: json_part [-l] [-i] [-r] [-n] POINTER [FILE..]
+Usage: json_part [-l] [-m N] [-i] [-r] [-n] POINTER [FILE..]
 
 Prints the part of each JSON text at a JSON Pointer (RFC 6901), as compact text
 with sorted keys.
@@ -28,13 +28,15 @@ The texts are those of the files, or standard input where none is named; '-' is
 standard input, too. Options may come anywhere; after '--' all are operands.
 
 Options:
-  -l, --lines    take each line of an input as a text; where one is refused or
-                 has no part, report its number and go on
-  -i, --indent   indent by two spaces
-  -r, --raw      print a string without quotes and escapes
-  -n, --null     print null where there is no part
-  -h, --help     print this page
-  -V, --version  print the version
+  -l, --lines       take each line of an input as a text; where one is refused
+                    or has no part, report its number and go on
+  -m, --max-line N  with -l: refuse a line of more than N bytes, and do not keep
+                    it in memory
+  -i, --indent      indent by two spaces
+  -r, --raw         print a string without quotes and escapes
+  -n, --null        print null where there is no part
+  -h, --help        print this page
+  -V, --version     print the version
 
 Exit status:
   0  each part was printed
@@ -64,7 +66,7 @@ fn run(rt: &HostRuntime) -> Result<Status, Status> {
     let arguments = arguments_of(rt, PROGRAM, words.as_slice())?;
     let Some(
         Request {
-            by_lines,
+            texts,
             form,
             pointer,
             files,
@@ -79,7 +81,7 @@ fn run(rt: &HostRuntime) -> Result<Status, Status> {
                 pointer: &pointer,
                 form,
             };
-            Ok(answer_texts(rt, PROGRAM, by_lines, files, asked))
+            Ok(answer_texts(rt, PROGRAM, texts, files, asked))
         }
         Err(failure) => Err(report(rt, PROGRAM, None, &failure)),
     }

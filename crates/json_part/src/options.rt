@@ -4,7 +4,7 @@ ghost use Rattle.tinyjson_cli.specs.Arguments.{given_of};
 ghost use Rattle.json_part.specs.Options.{asks};
 
 use crate::part::Form;
-use tinyjson_cli::{Arguments, Known};
+use tinyjson_cli::{Arguments, Known, Texts, texts_asked};
 
 /// `-n` and `--null`.
 pub const NULL: Known<'static> = Known {
@@ -23,8 +23,8 @@ pub const RAW: Known<'static> = Known {
 /// A pointer, how its parts are printed, and the files with the texts.
 #[derive(Drop)]
 pub struct Request<'w, 'a> {
-    /// Whether each line of an input is a text of its own.
-    pub by_lines: bool,
+    /// How the texts of an input are found.
+    pub texts: Texts,
     /// How the parts are printed.
     pub form: Form,
     /// The text of the pointer.
@@ -33,14 +33,14 @@ pub struct Request<'w, 'a> {
     pub files: &'a [&'w str],
 }
 
-/// Parses the arguments: `[-l] [-i] [-r] [-n] POINTER [FILE..]`.
+/// Parses the arguments: `[-l] [-m N] [-i] [-r] [-n] POINTER [FILE..]`.
 pub fn requested<'w, 'a>(arguments: &'a Arguments<'w>) -> Option<Request<'w, 'a>>
     ensures { option_map (λ r. (
-      (r.by_lines, r.form),
+      (r.texts, r.form),
       (r.pointer.now, map (λ f. f.now) r.files.now),
     )) result ≡ asks (given_of arguments.now) }
 {
-    let by_lines = arguments.has(b'l');
+    let texts = texts_asked(arguments);
     let form = Form {
         is_indented: arguments.has(b'i'),
         is_raw: arguments.has(b'r'),
@@ -48,7 +48,7 @@ pub fn requested<'w, 'a>(arguments: &'a Arguments<'w>) -> Option<Request<'w, 'a>
     };
     let (pointer, files) = arguments.first()?;
     Some(Request {
-        by_lines,
+        texts,
         form,
         pointer,
         files,

@@ -10,7 +10,7 @@ use Rattle.tinyjson.specs.Written.{Written, WrittenPart}
 use Rattle.tinyjson_cli.specs.Layout.{laid_out}
 use Rattle.tinyjson_cli.specs.Texts.{Answers}
 use Rattle.tinyjson_cli.specs.declared.texts.NoAnswer.{NoAnswer}
-use Rattle.tinyjson_cli.specs.declared.texts.NoAnswer.TheVariants.{Refused, No, TooLong}
+use Rattle.tinyjson_cli.specs.declared.texts.NoAnswer.TheVariants.{Refused, No}
 use Rattle.tinyjson_patch.specs.Operation.{Action}
 use Rattle.tinyjson_patch.specs.Patch.{all_applied}
 use Rattle.json_patch.specs.Apply.{GivesPatched, GivesPatchedOf}
@@ -30,5 +30,4 @@ module _ (i : Bool) (actions : List Action) (t : Tree) (old new : Option (List �
   of_text text (Ok None) s w = (w.0, (t, s, w.1), w.2)
   of_text text (Ok (Some (Refused c))) s w = absurd w.0
   of_text text (Ok (Some (No x))) s w = ((t, s, w.0), w.1)
-  of_text text (Ok (Some TooLong)) s w = absurd w.0
   of_text text (Err e) s w = ⊎_elim (λ k. inl k) (λ k. inr (k.0, (t, s, k.1), k.2)) w

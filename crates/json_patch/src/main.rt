@@ -11,15 +11,15 @@ use options::{Request, requested};
 use reading::read_patch;
 use std::process::ExitCode;
 use tinyjson_cli::{
-    HELP, INDENT, LINES, Misuse, Program, Status, VERSION, answer_texts, argument_words,
+    HELP, INDENT, LINES, MAX_LINE, Misuse, Program, Status, VERSION, answer_texts, argument_words,
     arguments_of, misused, report,
 };
 
 const PROGRAM: Program<'static> = Program {
     name: "json_patch",
-    options: &[LINES, INDENT, HELP, VERSION],
+    options: &[LINES, MAX_LINE, INDENT, HELP, VERSION],
     help: "\
-Usage: json_patch [-l] [-i] PATCH [FILE..]
+Usage: json_patch [-l] [-m N] [-i] PATCH [FILE..]
 
 Applies a JSON Patch (RFC 6902) to each JSON text, and prints the result as
 compact text with sorted keys. PATCH is the name of the patch's file.
@@ -28,11 +28,13 @@ The texts are those of the files, or standard input where none is named; '-' is
 standard input, too. Options may come anywhere; after '--' all are operands.
 
 Options:
-  -l, --lines    take each line of an input as a text; where one is refused or
-                 the patch can't be applied, report its number and go on
-  -i, --indent   indent by two spaces
-  -h, --help     print this page
-  -V, --version  print the version
+  -l, --lines       take each line of an input as a text; where one is refused
+                    or the patch can't be applied, report its number and go on
+  -m, --max-line N  with -l: refuse a line of more than N bytes, and do not keep
+                    it in memory
+  -i, --indent      indent by two spaces
+  -h, --help        print this page
+  -V, --version     print the version
 
 Exit status:
   0  each result was printed
@@ -64,7 +66,7 @@ fn run(rt: &HostRuntime) -> Result<Status, Status> {
     let arguments = arguments_of(rt, PROGRAM, words.as_slice())?;
     let Some(
         Request {
-            by_lines,
+            texts,
             is_indented,
             patch,
             files,
@@ -79,7 +81,7 @@ fn run(rt: &HostRuntime) -> Result<Status, Status> {
                 patch: &patch,
                 is_indented,
             };
-            Ok(answer_texts(rt, PROGRAM, by_lines, files, asked))
+            Ok(answer_texts(rt, PROGRAM, texts, files, asked))
         }
         Err(failure) => Err(report(rt, PROGRAM, None, &failure)),
     }

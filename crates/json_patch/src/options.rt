@@ -3,13 +3,13 @@ ghost use Rattle.std.specs.Prelude.{◌≡◌, option_map, map};
 ghost use Rattle.tinyjson_cli.specs.Arguments.{given_of};
 ghost use Rattle.json_patch.specs.Options.{asks};
 
-use tinyjson_cli::Arguments;
+use tinyjson_cli::{Arguments, Texts, texts_asked};
 
 /// A patch, and the files with the texts to which it is applied.
 #[derive(Drop)]
 pub struct Request<'w, 'a> {
-    /// Whether each line of an input is a text of its own.
-    pub by_lines: bool,
+    /// How the texts of an input are found.
+    pub texts: Texts,
     /// Whether the results are indented.
     pub is_indented: bool,
     /// The file of the patch.
@@ -18,18 +18,18 @@ pub struct Request<'w, 'a> {
     pub files: &'a [&'w str],
 }
 
-/// Parses the arguments: `[-l] [-i] PATCH [FILE..]`.
+/// Parses the arguments: `[-l] [-m N] [-i] PATCH [FILE..]`.
 pub fn requested<'w, 'a>(arguments: &'a Arguments<'w>) -> Option<Request<'w, 'a>>
     ensures { option_map (λ r. (
-      (r.by_lines, r.is_indented),
+      (r.texts, r.is_indented),
       (r.patch.now, map (λ f. f.now) r.files.now),
     )) result ≡ asks (given_of arguments.now) }
 {
-    let by_lines = arguments.has(b'l');
+    let texts = texts_asked(arguments);
     let is_indented = arguments.has(b'i');
     let (patch, files) = arguments.first()?;
     Some(Request {
-        by_lines,
+        texts,
         is_indented,
         patch,
         files,

@@ -29,26 +29,28 @@ module _ {A : Type 0} (gives : Gives A) (old : TextLines A) (n : ℕ) (line : Op
   at_error new tells (Ok x) i h = absurd (false≢true i)
   at_error new tells (Err x) i h = h x
 
-  pub answered : (o : Option NoAnswer) → o ≡ None → AnswersLine gives old.asked line held holds (Ok o)
+  pub answered : (o : Option NoAnswer) → o ≡ None → AnswersLine gives old.asked old.max_line line held holds (Ok o)
       → HandlesLine (handles_text gives) old old n line held holds told told (Ok true)
   answered (Some why) e h = cc
-  answered None e h = (h.0, [], (Ok h.0, h.1, refl, refl, refl, and_true old.are_answered, refl, refl, refl), h.2, Appends-nil told)
+  answered None e h = (h.0, [], (Ok h.0, h.1, refl, refl, refl, and_true old.are_answered, refl, refl, refl, refl), h.2, Appends-nil told)
 
-  pub unwritten : (new : TextLines A) (e d : Error) → AnswersLine gives old.asked line held holds (Err e)
+  pub unwritten : (new : TextLines A) (e d : Error) → AnswersLine gives old.asked old.max_line line held holds (Err e)
       → HandlesLine (handles_text gives) old new n line held holds told told (Err d)
   unwritten new e d h =
       ⊎_elim (λ k. inl (k.1, Keeps-refl told))
-      (λ w. inr (w.0, [], true, old, (Ok w.0, w.1, refl, refl, refl, and_true old.are_answered, refl, refl, refl), w.2, stop begins)) h
+      (λ w. inr (w.0, [], true, old, (Ok w.0, w.1, refl, refl, refl, and_true old.are_answered, refl, refl, refl, refl), w.2, stop begins)) h
 
 -- A line has no answer. The output is flushed, and that is reported.
 module _ {A : Type 0} (gives : Gives A) (old new : TextLines A) (n : ℕ) (line : Option (List ℕ)) (held mid holds told tells : Option (List ℕ))
-    (o : Option NoAnswer) (why : NoAnswer) (is : o ≡ Some why) (none : AnswersLine gives old.asked line held mid (Ok o)) (flushed : Keeps mid holds)
-    (are : new.are_answered ≡ false) (asked : new.asked ≡ old.asked) (program : new.program ≡ old.program) (file : new.file ≡ old.file) where
-  h : AnswersLine gives old.asked line held mid (Ok (Some why))
-  h = subst (λ x. AnswersLine gives old.asked line held mid (Ok x)) is none
+    (o : Option NoAnswer) (why : NoAnswer) (is : o ≡ Some why) (none : AnswersLine gives old.asked old.max_line line held mid (Ok o))
+    (flushed : Keeps mid holds)
+    (are : new.are_answered ≡ false) (asked : new.asked ≡ old.asked) (program : new.program ≡ old.program) (file : new.file ≡ old.file)
+    (max : new.max_line ≡ old.max_line) where
+  h : AnswersLine gives old.asked old.max_line line held mid (Ok (Some why))
+  h = subst (λ x. AnswersLine gives old.asked old.max_line line held mid (Ok x)) is none
 
   handled : handles_text gives old n line [] (unanswered_line old.program.now (option_map (λ s. s.now) old.file) n why) true new
-  handled = (Err why, h.0, refl, refl, refl, are ∙ and_false old.are_answered, asked, program, file)
+  handled = (Err why, h.0, refl, refl, refl, are ∙ and_false old.are_answered, asked, program, file, max)
 
   pub reported : Written told tells (unanswered_line old.program.now (option_map (λ s. s.now) old.file) n why) []
       → HandlesLine (handles_text gives) old new n line held holds told tells (Ok true)

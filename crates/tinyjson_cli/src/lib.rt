@@ -29,5 +29,7 @@ pub use program::{
 pub use refusal::{RefusedLine, tell};
 pub use shown::Shown;
 pub use status::Status;
-pub use texts::{LINES, NoAnswer, TextAnswer, TextLines, answer_texts, unanswered_failure};
+pub use texts::{
+    LINES, NoAnswer, TextAnswer, TextLines, Texts, answer_texts, texts_asked, unanswered_failure,
+};
 pub use unanswered::{UnansweredLine, tell_unanswered};

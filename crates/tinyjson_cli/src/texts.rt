@@ -1,11 +1,12 @@
 //! Programs that answer texts: whole inputs, or each line of an input.
 ghost use Rattle.std.specs.Prelude.{◌≡◌, ℕ, List, Option, Result, Bool, option_map};
 ghost use Rattle.std.specs.Str.{chars};
-ghost use Rattle.tinyjson_cli.specs.Texts.{AnswersLine, AnswersText, failure_of, handles_text};
+ghost use Rattle.tinyjson_cli.specs.Arguments.{given_of};
+ghost use Rattle.tinyjson_cli.specs.Texts.{AnswersLine, AnswersText, failure_of, handles_text, texts_given};
 ghost use Rattle.tinyjson_cli.specs.declared.texts.NoAnswer.{NoAnswer};
 
 use crate::answer::{Answer, answer_files};
-use crate::arguments::Known;
+use crate::arguments::{Arguments, Known};
 use crate::failure::{Failure, Place};
 use crate::input::writing_error;
 use crate::lines::{AnswerLines, answer_lines};
@@ -31,8 +32,6 @@ pub enum NoAnswer {
     Refused(Cause),
     /// The answer is no, as these words say.
     No(String),
-    /// The text is a line that is longer than the limit.
-    TooLong,
 }
 
 /// What a program answers for a text.
@@ -54,18 +53,38 @@ pub trait TextAnswer {
             (W.contents output.old) (W.contents output.new) result };
 }
 
-/// Answers each file or standard input: as one text, or with `by_lines` each line as a text. The status is the greatest.
+/// How the texts of an input are found.
+#[derive(Clone, Copy)]
+pub struct Texts {
+    /// Whether each line is a text, and not the whole input.
+    pub by_lines: bool,
+    /// How many bytes a line may have before its line feed, if there is a limit.
+    pub max_line: Option<usize>,
+}
+
+/// How the texts are found that `-l` and `-m N` ask for.
+pub fn texts_asked(arguments: &Arguments<'_>) -> Texts
+    ensures { result ≡ texts_given (given_of arguments.now) }
+{
+    Texts {
+        by_lines: arguments.has(b'l'),
+        max_line: arguments.number(b'm'),
+    }
+}
+
+/// Answers the texts of each file, or of standard input. The status is the greatest.
 pub fn answer_texts<A: TextAnswer + Copy>(
     rt: &HostRuntime,
     program: Program<'_>,
-    by_lines: bool,
+    texts: Texts,
     files: &[&str],
     asked: A,
 ) -> Status {
-    if by_lines {
+    if texts.by_lines {
         let mut by_lines = ByLines {
             alloc: rt.alloc(),
             program: program.name,
+            max_line: texts.max_line,
             asked,
         };
         return answer_lines(rt, program, files, &mut by_lines);
@@ -102,7 +121,6 @@ pub fn unanswered_failure(why: NoAnswer) -> Failure
         NoAnswer::Refused(Cause::NotJson(error)) => Failure::NotJson(error),
         NoAnswer::Refused(_) => Failure::NotUtf8(Place { line: 1, column: 0 }),
         NoAnswer::No(words) => Failure::No(words),
-        NoAnswer::TooLong => Failure::Closed,
     }
 }
 
@@ -111,6 +129,7 @@ pub fn unanswered_failure(why: NoAnswer) -> Failure
 struct ByLines<'a, A> {
     alloc: Global,
     program: &'a str,
+    max_line: Option<usize>,
     asked: A,
 }
 
@@ -127,9 +146,10 @@ impl<A: TextAnswer + Copy> AnswerLines for ByLines<'_, A> {
             asked: self.asked,
             program: self.program,
             file,
+            max_line: self.max_line.unwrap_or(usize::MAX),
             are_answered: true,
         };
-        for_each_line(self.alloc, None, &mut lines, input, output, errors)?;
+        for_each_line(self.alloc, self.max_line, &mut lines, input, output, errors)?;
         let status = if lines.are_answered {
             Status::Done
         } else {
@@ -150,6 +170,8 @@ pub struct TextLines<'a, A> {
     pub program: &'a str,
     /// The name of the file with the lines, if it has one, for messages.
     pub file: Option<&'a str>,
+    /// How many bytes a line has at most that is not too long, for messages.
+    pub max_line: usize,
     /// Whether each line so far has an answer.
     pub are_answered: bool,
 }
@@ -164,7 +186,7 @@ impl<A: TextAnswer + Copy> LineHandler for TextLines<'_, A> {
         output: &mut W,
         errors: &mut E,
     ) -> io::Result<bool> {
-        let Some(why) = answer_line(self.alloc, &self.asked, line, output)? else {
+        let Some(why) = answer_line(self.alloc, &self.asked, self.max_line, line, output)? else {
             return Ok(true);
         };
         self.are_answered = false;
@@ -184,14 +206,15 @@ impl<A: TextAnswer + Copy> LineHandler for TextLines<'_, A> {
 fn answer_line<A: TextAnswer, W: Write>(
     alloc: Global,
     asked: &A,
+    max_line: usize,
     line: Option<&[u8]>,
     output: &mut W,
 ) -> io::Result<Option<NoAnswer>>
-    ensures { AnswersLine A.gives asked.now (option_map (λ s. s.now) line.entry)
+    ensures { AnswersLine A.gives asked.now max_line (option_map (λ s. s.now) line.entry)
         (W.contents output.old) (W.contents output.new) result }
 {
     let Some(line) = line else {
-        return Ok(Some(NoAnswer::TooLong));
+        return Ok(Some(NoAnswer::Refused(Cause::TooLong(max_line))));
     };
     let Ok(text) = str::from_utf8(content(line)) else {
         return Ok(Some(NoAnswer::Refused(Cause::NotUtf8)));

@@ -47,8 +47,6 @@ impl fmt::Display for UnansweredLine<'_> {
             }
             (None, NoAnswer::No(words)) => write!(f, "{program}: line {number}: {words}"),
             (Some(file), NoAnswer::No(words)) => write!(f, "{}:{number}: {words}", Shown(file)),
-            (None, NoAnswer::TooLong) => write!(f, "{program}: line {number}: too long"),
-            (Some(file), NoAnswer::TooLong) => write!(f, "{}:{number}: too long", Shown(file)),
         }
     }
 }

@@ -16,9 +16,9 @@ returns-in_err-tell_unanswered g c =
     at_error g.A.TextAnswer.gives c.args.self.now c.args.number _ _ _ _ _ _ c.from_residual-in_err-tell_unanswered.result
     c.from_residual-in_err-tell_unanswered.ensures.0
     (λ e. unreported g.A.TextAnswer.gives c.args.self.now _ c.args.number _ _ _ _ _ _ c.in_ok-why.field-0 c.in-Some.why c.in-Some.is
-    c.in_ok-why.ensures c.flush.ensures.bytes refl refl refl refl e c.in_err-tell_unanswered.ensures)
+    c.in_ok-why.ensures c.flush.ensures.bytes refl refl refl refl refl e c.in_err-tell_unanswered.ensures)
 
 pub returns : goal.returns
 returns g c =
     reported g.A.TextAnswer.gives c.args.self.now _ c.args.number _ _ _ _ _ _ c.in_ok-why.field-0 c.in-Some.why c.in-Some.is
-    c.in_ok-why.ensures c.flush.ensures.bytes refl refl refl refl c.in_ok-tell_unanswered.ensures
+    c.in_ok-why.ensures c.flush.ensures.bytes refl refl refl refl refl c.in_ok-tell_unanswered.ensures
