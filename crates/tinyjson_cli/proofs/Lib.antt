@@ -1,3 +1,4 @@
 pub mod Answering
+pub mod Callers
 pub mod Joining
 pub mod Layouts

@@ -1,6 +1,6 @@
 use Rattle.std.proofs.Common.{◌+◌, ap, sym, ◌∙◌, drop, map}
 use Rattle.tinyjson.specs.View.{view}
-use Rattle.tinyjson_cli.proofs.Joining.{drop_one}
+use Rattle.tinyjson_cli.proofs.Callers.{drop_one}
 use Rattle.json_merge.specs.Apply.{all_merged}
 use Rattle.json_merge.proofs.apply.merge_all.Goals as goal
 
