@@ -1,4 +1,7 @@
 mod Cutting
+mod Faulting
 mod Joining
 mod Leading
+mod Needing
+mod Refusing
 mod Telling

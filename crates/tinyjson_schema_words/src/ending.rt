@@ -93,7 +93,7 @@ fn value_in<'s>(
 }
 
 /// The part of the value that the token names.
-fn step<'s>(
+pub fn step<'s>(
     value: &'s JsonValue,
     token: &String,
     alloc: Global,

@@ -1,4 +1,4 @@
-//! What a value lacks that violates a JSON Schema, in words.
+//! What a value lacks that violates a JSON Schema, and why a schema can't be applied, in words.
 //!
 //! ```
 //! let words = words(violated, &value, walk)?; // must be at most 10, is 12
@@ -8,9 +8,12 @@
 mod brief;
 mod count;
 mod ending;
+mod fault;
 mod keyword;
 mod kind;
 mod missing;
+mod refused;
 mod violated;
 
+pub use refused::{Refusal, refused_words};
 pub use violated::{Places, words};
