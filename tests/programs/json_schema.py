@@ -877,8 +877,9 @@ BY_LINES = [
 # The words of a report are compared in the rows of WORDS; elsewhere these stand for them.
 UNMET = "unmet"
 ERROR = re.compile(rb'"error":"(?:[^"\\]|\\.)*"')
-NOT_APPLIED = "the schema: can't be applied at \"%s\""
-ABOVE_LIMITS = "the schema: the pattern at \"%s\" is too deep or too large"
+# Where a schema can't be applied. The words behind the place are compared in the rows of REASONS, and left out elsewhere.
+NOT_APPLIED = 'the schema: at "%s"'
+REASON = re.compile(rb'(json_schema: the schema: at "(?:[^"\n]|"(?!: ))*"): [^\n]*\n')
 
 # The schema, a value that is not valid, the places in it and of the keyword, and the words.
 WORDS = [
@@ -944,6 +945,65 @@ WORDS = [
     # After a reference the place goes on in the schema to which it leads.
     ('{"$ref":"#/$defs/a","maximum":8,"$defs":{"a":{"maximum":7}}}', "9", "", "/maximum", "must be at most 8, is 9"),
     ('{"items":{"$ref":"#x"},"$defs":{"a":{"$anchor":"x","items":{"$dynamicRef":"#/$defs/b"}},"b":{"maximum":1}}}', "[[2]]", "/0/0", "/items/$ref/items/$dynamicRef/maximum", "must be at most 1, is 2"),
+]
+
+NO_DRAFT = "can't be applied in its draft"
+
+# The arguments, a schema that can't be applied, the place, and the words.
+REASONS = [
+    # The form of each keyword's value (Validation, 6; Core, 8 to 10), and the value.
+    ([], "5", "", "must be an object or a boolean, is 5"),
+    ([], '{"items":[1,{"a":null}]}', "/items", 'must be an object or a boolean, is [1,{"a":null}]'),
+    ([], '{"$comment":1}', "/$comment", "must be a string, is 1"),
+    ([], '{"uniqueItems":"true"}', "/uniqueItems", 'must be a boolean, is "true"'),
+    ([], '{"enum":{}}', "/enum", "must be an array, is {}"),
+    ([], '{"type":"strin"}', "/type", 'must be a type or an array of different types, is "strin"'),
+    ([], '{"type":["null","null"]}', "/type", 'must be a type or an array of different types, is ["null","null"]'),
+    ([], '{"maximum":"10"}', "/maximum", 'must be a number, is "10"'),
+    ([], '{"multipleOf":0}', "/multipleOf", "must be a number above 0 with at most 19 digits, is 0"),
+    ([], '{"properties":{"a":{"minLength":-1.0}}}', "/properties/a/minLength", "must be a non-negative integer, is -1"),
+    ([], '{"maxItems":1.5}', "/maxItems", "must be a non-negative integer, is 1.5"),
+    ([], '{"required":["a","b","a"]}', "/required", 'must be an array of different strings, is ["a","b","a"]'),
+    ([], '{"dependentRequired":{"a":"b"}}', "/dependentRequired", 'must be an object of arrays of different strings, is {"a":"b"}'),
+    ([], '{"not":{"$schema":"https://example.com"}}', "/not/$schema", 'must be "https://json-schema.org/draft/2020-12/schema", is "https://example.com"'),
+    ([], '{"allOf":[]}', "/allOf", "must be an array with a schema, is []"),
+    ([], '{"properties":[]}', "/properties", "must be an object of schemas, is []"),
+    ([], '{"patternProperties":1}', "/patternProperties", "must be an object of schemas, is 1"),
+    ([], '{"$defs":{"a":{"$id":"x#y"}}}', "/$defs/a/$id", 'must be a URI without a fragment, of no other schema, is "x#y"'),
+    ([], '{"$anchor":"1a"}', "/$anchor", 'must be a plain name of no other schema, is "1a"'),
+    ([], '{"$anchor":"a","not":{"$anchor":"a"}}', "/$anchor", 'must be a plain name of no other schema, is "a"'),
+    # Up to 60 characters of a value, as one line.
+    ([], '{"maximum":"%s\\n"}' % ("x" * 58), "/maximum", 'must be a number, is "%s\\...' % ("x" * 58)),
+    ([], '{"maximum":"\\u007f\u202e"}', "/maximum", 'must be a number, is "U+007FU+202E"'),
+    # References that lead nowhere, to a document that is not there, in a circle, and through too many schemas.
+    ([], '{"$ref":"#/$defs/a"}', "/$ref", 'must lead to a schema of the document, is "#/$defs/a"'),
+    ([], '{"$ref":"https://example.com/a.json#/b"}', "/$ref", 'must lead to a schema of the document, is "https://example.com/a.json#/b"'),
+    ([], '{"$id":"https://example.com/a","items":{"$ref":"b"},"$defs":{"a":{"$id":"c"}}}', "/items/$ref", 'must lead to a schema of the document, is "b"'),
+    ([], '{"$dynamicRef":5}', "/$dynamicRef", "must lead to a schema of the document, is 5"),
+    ([], '{"not":{"$ref":"#"}}', "/not/$ref", 'must not lead in a circle or through more than 100 schemas, is "#"'),
+    ([], '{"$dynamicRef":"#a","$anchor":"a"}', "/$dynamicRef", 'must not lead in a circle or through more than 100 schemas, is "#a"'),
+    # What is wrong in a pattern, and where.
+    ([], '{"pattern":5}', "/pattern", "must be a pattern, is 5"),
+    *(([], json.dumps({"pattern": pattern}), "/pattern", f"must be a pattern, is {json.dumps(pattern, ensure_ascii=False)}: {words} at character {place}")
+      for pattern, words, place in (
+          ("^(?=a)", "a look-ahead", 1), ("é(?!a)", "a look-ahead", 1), ("(?<=a)b", "a look-behind", 0), ("b(?<!a)b", "a look-behind", 1),
+          ("(?<year>a)", "a named group", 0), ("(?P<year>a)", "a named group", 0), ("(?i)a", "a flag", 0), ("a(?-i:b)", "a flag", 1), ("(?>a)", "an unknown group", 0),
+          ("\\Aa", "\\A", 0), ("a\\Z", "\\Z", 1), ("\\ba", "a word boundary", 0), ("a\\B", "a word boundary", 1), ("\\p{L}", "a property of characters", 0), ("\\P{L}", "a property of characters", 0),
+          ("(a)\\1", "a back-reference", 3), ("(a)\\9", "a back-reference", 3), ("\\k<a>", "a back-reference", 0), ("\\y", "an unknown escape", 0), ("\\08", "an unknown escape", 0),
+          ("a(", "the end of the text in a group", 2), ("a^", "a ^ inside", 1), ("𝄞$b", "a $ inside", 1), ("[b-a]", "a wrong class", 0), ("a)", "a ) without its (", 1), ("*a", "a wrong sign", 0),
+          ("(?:(?=a))", "a look-ahead", 3), ("[(?=]\\((?=a)", "a look-ahead", 7),
+      )),
+    ([], '{"pattern":"%s"}' % ("(" * 201 + "a" + ")" * 201), "/pattern", 'must be a pattern, is "%s...: more than 200 nested groups at character 200' % ("(" * 59)),
+    ([], '{"pattern":"ba{10001}"}', "/pattern", 'must be a pattern, is "ba{10001}": more than 10,000 parts at character 2'),
+    ([], '{"patternProperties":{"a(?i)":5}}', "/patternProperties/a(?i)", 'must be a pattern, is "a(?i)": a flag at character 1'),
+    ([], '{"patternProperties":{"a":5}}', "/patternProperties/a", "must be an object or a boolean, is 5"),
+    # Of an older draft: the place is that in 2020-12, and a keyword that the draft does not have is not applied.
+    (["-d", "7"], '{"minContains":2}', "/minContains", NO_DRAFT),
+    (["-d", "4"], '{"not":true}', "/not", NO_DRAFT),
+    (["-d", "2019"], '{"maximum":[]}', "/maximum", "must be a number, is []"),
+    ([], '{"$schema":"http://json-schema.org/draft-06/schema#","if":{}}', "/if", NO_DRAFT),
+    (["-d", "7"], '{"$schema":"https://json-schema.org/draft/2020-12/schema","maximum":null}', "/maximum", "must be a number, is null"),
+    ([], '{"maximum":null}', "/maximum", "must be a number, is null"),
 ]
 
 # How many containers of a schema and of a value may be open.
@@ -1113,7 +1173,7 @@ LONG_SCHEMAS = [
     ('{"pattern":"^a{10000}$"}', '"%s"' % ("a" * 10_000), judged(None)),
     ('{"patternProperties":{"%s":true,"a{9999}b":true},"additionalProperties":false}' % grouped(200), '{"a":1,"b":1}', judged(("/b", "/additionalProperties"))),
     ('{"items":' * (LEVELS - 1) + '{"pattern":"%s"}' % grouped(200) + "}" * (LEVELS - 1), "[" * (LEVELS - 1) + '"b"' + "]" * (LEVELS - 1), judged(("/0" * (LEVELS - 1), "/items" * (LEVELS - 1) + "/pattern"))),
-    ('{"items":' * (LEVELS - 1) + '{"pattern":"%s"}' % grouped(201) + "}" * (LEVELS - 1), "1", reported(2, "json_schema", ABOVE_LIMITS % ("/items" * (LEVELS - 1) + "/pattern"))),
+    ('{"items":' * (LEVELS - 1) + '{"pattern":"%s"}' % grouped(201) + "}" * (LEVELS - 1), "1", reported(2, "json_schema", NOT_APPLIED % ("/items" * (LEVELS - 1) + "/pattern"))),
     ('{"patternProperties":{"^k":true,"9$":{"maximum":0}},"additionalProperties":false}', "{%s}" % ",".join(f'"k{i}":0' for i in range(20_000)), judged(None)),
     ('{"uniqueItems":true}', "[%s]" % ",".join(map(str, range(20_000))), judged(None)),
     ('{"uniqueItems":true}', "[%s,0]" % ",".join(map(str, range(20_000))), judged(("", "/uniqueItems"))),
@@ -1135,7 +1195,7 @@ DEEP_FAILURES = [
     ('{"items":' * 100_000 + "{}" + "}" * 100_000, [], b"1", reported(2, "json_schema", "the schema: " + TOO_DEEP % (900, "{"))),
     ('{"$ref":"#%s"}' % ("/items" * 100_000), [], b"1", reported(2, "json_schema", NOT_APPLIED % "/$ref")),
     ('{"$ref":"%s","$defs":{"a":{"$id":"a"}}}' % ("a/../" * 100_000), [], b"1", reported(2, "json_schema", NOT_APPLIED % "/$ref")),
-    ('{"pattern":"%s"}' % grouped(100_000), [], b"1", reported(2, "json_schema", ABOVE_LIMITS % "/pattern")),
+    ('{"pattern":"%s"}' % grouped(100_000), [], b"1", reported(2, "json_schema", NOT_APPLIED % "/pattern")),
 ]
 
 # What the schema of SCHEMA asks of the whole, where that is a number.
@@ -1161,6 +1221,8 @@ ROWS = [
 STREAMS = [
     ([SCHEMA], b"1", (3, NO_TEXT), (4, FOLDER), (4, FULL)),
     (["-l", SCHEMA], b"1", (1, "line 1: not UTF-8"), (4, FOLDER), (4, FULL)),
+    (["-t", SCHEMA], b"1", (3, NO_TEXT), (4, FOLDER), (4, FULL)),
+    (["-lt", SCHEMA], b"1", (1, "line 1: not UTF-8"), (4, FOLDER), (4, FULL)),
 ]
 
 # The arguments, an input, what is printed of it, and the statuses and words where a read and where a write fails.
@@ -1168,6 +1230,7 @@ LINES, REPORTS = b"1\n" * 5_000, b"".join(unit_of("", "/type", NO_OBJECT, line=i
 FAILING = [
     ([SCHEMA], b"[" + LONG + b"]", unit_of("", "/type", "must be an object, is an array"), (4, BROKEN), (4, BROKEN)),
     (["-l", SCHEMA], LINES, REPORTS, (4, BROKEN), (4, BROKEN)),
+    (["-i", SCHEMA], LINES, LINES, (4, BROKEN), (4, BROKEN)),
 ]
 
 # Where each read is interrupted: what reads by lines reads again.
@@ -1178,6 +1241,9 @@ REFUSED_MEMORY = [
     ([SCHEMA], b'{"id":1,"tags":["x",3]}'),
     (["-l", UNKNOWN_WORDS], b'{"id":1,"tags":["x",3]}\n[1,]\n{"id":1,"tags":[]}\n"\xff\n{}'),
     ([SCOPES_FILE], b'{"x":[1],"y":["a",2]}'),
+    (["-t", SCHEMA, "-"], b'{"id":1,"tags":["x",3]}'),
+    (["-lt", SCHEMA], b'{"id":1,"tags":["x",3]}\n[1,]\n'),
+    (["-i", SCHEMA], b'{"id":1,"tags":["x",3]}\n[1,]\n{"id":1,"tags":[]}\n'),
     ([DRAFT_FILE], b'{"x":[1,2],"y":3}'),
 ]
 
@@ -1188,13 +1254,9 @@ def answers():
         schema, valid, others = row
         yield from ((row, schema, value, judged(None)) for value in valid)
         yield from ((row, schema, value, judged(places)) for value, *places in others)
-    for rows, words in (
-        (REFUSED + REFUSED_REFERENCES + REFUSED_ANCHORS + REFUSED_RESOURCES, NOT_APPLIED),
-        (LARGE_PATTERNS, ABOVE_LIMITS),
-    ):
-        for row in rows:
-            schema, place = row
-            yield row, schema, "1", reported(2, "json_schema", words % place)
+    for row in REFUSED + REFUSED_REFERENCES + REFUSED_ANCHORS + REFUSED_RESOURCES + LARGE_PATTERNS:
+        schema, place = row
+        yield row, schema, "1", reported(2, "json_schema", NOT_APPLIED % place)
     for rows, drafts in ((OLD_DRAFTS, (4, 6, 7)), (BOTH_DRAFTS, (6, 7)), (DRAFT_7, (7,)), (DRAFT_4, (4,)), (DRAFT_2019, (2019,))):
         for row, number in itertools.product(rows, drafts):
             schema, valid, others = row
@@ -1220,9 +1282,9 @@ def checked(folder, schema, words, given):
 
 
 def placed(*checked_by):
-    """The same answer without the words of its reports."""
+    """The same answer without the words of its reports, and of a schema that can't be applied."""
     status, output, errors = checked(*checked_by)
-    return status, ERROR.sub(b'"error":"%s"' % UNMET.encode(), output), errors
+    return status, ERROR.sub(b'"error":"%s"' % UNMET.encode(), output), REASON.sub(rb"\1\n", errors)
 
 
 def check_words(checks):
@@ -1230,6 +1292,13 @@ def check_words(checks):
         schema, value, instance, keyword, words = row
         expected = (1, unit_of(instance, keyword, words), b"")
         checks.row(f"json_schema: words of {schema[:60]} {value[:60]}", expected, checked, checks.folder, schema, [], value.encode(), at=row)
+
+
+def check_reasons(checks):
+    for row in REASONS:
+        words, schema, place, reason = row
+        expected = reported(2, "json_schema", f"{NOT_APPLIED % place}: {reason}")
+        checks.row(f"json_schema: reason of {words} {schema[:60]}", expected, checked, checks.folder, schema, words, b"1", at=row)
 
 
 def check_rows(checks):
@@ -1312,6 +1381,48 @@ def check_files(checks):
     checks.row("json_schema: too many schemas", answer, run, ["schema"], deep)
 
 
+# By {"properties":{"a":{"maximum":10},"b\u001b/":false},"type":"object"}: the options, the names of files, what standard input has, and what is
+# printed, with nothing on standard error but what is told. The files are these.
+TEXT_SCHEMA = b'{"properties":{"a":{"maximum":10},"b\\u001b/":false},"type":"object"}'
+TEXT_FILES = [("good", b'{"a":10}'), ("bad", b'{"a":12}'), ("lines", b'{"a":12}\n{}\r\n[1,]\n[]\n {"a": 1}'), ("large", b'{"a":12,"z":"' + b"x" * 90 + b'"}\n{}\n"\xff"\n')]
+TOLD_OF_LINES, TOLD_OF_LARGE = b"lines:3:3: Invalid character: ]\n", b"large:3: not UTF-8\n"
+TEXTS = [
+    # The name of a file, the place and the words; of the whole value, and of standard input, the place is empty.
+    (["-t"], ["good"], b"", 0, b"", b""),
+    (["-t"], ["bad", "good", "bad"], b"", 1, b"bad:/a must be at most 10, is 12\n" * 2, b""),
+    (["--text"], [], b'{"a":11}', 1, b"/a must be at most 10, is 11\n", b""),
+    (["-t"], ["-", "bad"], b"[]", 1, b"must be an object, is an array\nbad:/a must be at most 10, is 12\n", b""),
+    (["-t"], ["-"], b'{"b\\u001b/":1}', 1, b"/bU+001B~1 is not allowed\n", b""),
+    (["-t"], ["none", "bad"], b"", 4, b"bad:/a must be at most 10, is 12\n", b"none: No such file or directory (os error 2)\n"),
+    # Of lines with the number.
+    (["-lt"], ["lines"], b"", 1, b"lines:1:/a must be at most 10, is 12\nlines:4: must be an object, is an array\n", TOLD_OF_LINES),
+    (["-l", "--text"], [], b'{}\n{"a":99}', 1, b"2:/a must be at most 10, is 99\n", b""),
+    (["-lt"], ["-"], b"[]", 1, b"1: must be an object, is an array\n", b""),
+    # The lines that are valid, or the others; each ends with a line feed.
+    (["-v"], ["lines", "good"], b"", 1, b'{}\r\n {"a": 1}\n{"a":10}\n', TOLD_OF_LINES),
+    (["-l", "--valid"], [], b'{}\n\n{"a":11}\n{"a":1}', 1, b'{}\n{"a":1}\n', b"json_schema: line 2, col 0: Unexpected EOF\n"),
+    (["-i"], ["lines", "good"], b"", 1, b'{"a":12}\n[1,]\n[]\n', TOLD_OF_LINES),
+    (["--invalid"], [], b"{}\n[]", 1, b"[]\n", b""),
+    (["-i"], ["good"], b"", 0, b"", b""),
+    # What is too long is not there any more.
+    (["-i", "-m", "80"], ["large"], b"", 1, b'"\xff"\n', b"large:1: longer than 80 bytes\n" + TOLD_OF_LARGE),
+    (["-v", "-m", "80"], ["large"], b"", 1, b"{}\n", b"large:1: longer than 80 bytes\n" + TOLD_OF_LARGE),
+    # Of several of them `-v` counts first, then `-i`.
+    (["-i", "-t"], ["lines"], b"", 1, b'{"a":12}\n[1,]\n[]\n', TOLD_OF_LINES),
+    (["-t", "-i", "-v"], ["lines"], b"", 1, b'{}\r\n {"a": 1}\n', TOLD_OF_LINES),
+]
+
+
+def check_texts(checks):
+    """Reports for people, and the lines that are valid or are not."""
+    for name, text in (("schema", TEXT_SCHEMA), *TEXT_FILES):
+        with open(os.path.join(checks.folder, name), "wb") as file:
+            file.write(text)
+    for row in TEXTS:
+        words, names, given, *answer = row
+        checks.row(f"json_schema: {words} {names}", tuple(answer), run_small, program("json_schema"), [*words, "schema", *names], given, cwd=checks.folder, at=row)
+
+
 def check_padded(checks):
     """The same with 40 schemas more in each list, 40 names in each object of them, 40 members in each object that no pattern asks of,
     and 40 items in each array whose items no schema judges. The values of a schema are the lines of one input."""
@@ -1326,7 +1437,7 @@ def check_padded(checks):
     rows = [(row, row[0]) for row in REFUSED + REFUSED_REFERENCES + REFUSED_ANCHORS + REFUSED_RESOURCES]
     for row, schema in padded_rows(checks, "json_schema, refused", rows, padded_refused, UNPADDED_REFUSED):
         name, expected = f"json_schema: padded {row[0][:60]}", reported(2, "json_schema", NOT_APPLIED % row[1])
-        checks.row(name, expected, checked, checks.folder, schema, [], b"1", at=row)
+        checks.row(name, expected, placed, checks.folder, schema, [], b"1", at=row)
     for row, schema in padded_rows(checks, "json_schema, unknown", [(row, row[0]) for row in UNKNOWN], padded_refused, {}):
         name, expected = f"json_schema: padded {row[0][:60]}", (0, b"", told(f'the schema: "{word}" is no keyword' for word in row[1]))
         checks.row(name, expected, checked, checks.folder, schema, [], b"1", at=row)
@@ -1345,7 +1456,7 @@ def check_deep(checks):
     for row in DEEP_FAILURES:
         schema, words, given, expected = row
         name = f"json_schema: deep, {schema[:60]} {words} {given[:20]}"
-        checks.row(name, expected, checked, checks.folder, schema, words, given, at=row)
+        checks.row(name, expected, placed, checks.folder, schema, words, given, at=row)
 
 
 def in_one_file(folder, words, given):
@@ -1375,4 +1486,4 @@ def check_memory(checks):
 
 PAGE, LINES_PAGE = Page("json_schema", [SCHEMA], b"[1]"), Page("json_schema", ["-l", SCHEMA], b"[1]", is_lines=True)
 
-PARTS = (PAGE.check, LINES_PAGE.check_pipes, *shared(check_rows), check_words, check_drafts, check_lines, check_long_lines, check_files, check_padded, check_padded_lines, check_deep, check_order, check_faults, *shared(check_memory))
+PARTS = (PAGE.check, LINES_PAGE.check_pipes, *shared(check_rows), check_words, check_reasons, check_drafts, check_lines, check_long_lines, check_files, check_texts, check_padded, check_padded_lines, check_deep, check_order, check_faults, *shared(check_memory))

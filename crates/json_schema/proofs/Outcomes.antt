@@ -1,9 +1,8 @@
 -- The outcome of texts, one after the other.
 use Rattle.std.proofs.Common.{◌≡◌, List, [], ◌∷◌, ◌++◌, refl, sym, ap, ◌∙◌}
-use Rattle.json_schema.specs.Run.{both, outcome_of, outcome_of_all}
+use Rattle.json_schema.specs.Run.{Checked, both, outcome_of, outcome_of_all}
 use Rattle.json_schema.specs.declared.lines.Outcome.{Outcome}
 use Rattle.json_schema.specs.declared.lines.Outcome.TheVariants.{AllValid, SomeInvalid, SomeRefused}
-use Rattle.json_schema.specs.declared.verdict.Verdict.{Verdict}
 
 both_valid : (o : Outcome) → both o AllValid ≡ o
 both_valid AllValid = refl
@@ -19,6 +18,7 @@ both_assoc SomeInvalid SomeInvalid SomeRefused = refl
 both_assoc SomeInvalid SomeRefused c = refl
 both_assoc SomeRefused b c = refl
 
-pub outcome_next : (vs : List Verdict) (v : Verdict) → both (outcome_of_all vs) (outcome_of v) ≡ outcome_of_all (vs ++ v ∷ [])
-outcome_next [] v = sym (both_valid (outcome_of v))
-outcome_next (w ∷ vs) v = both_assoc (outcome_of w) (outcome_of_all vs) (outcome_of v) ∙ ap (both (outcome_of w)) (outcome_next vs v)
+pub outcome_next : (fs : List Checked) (f : Checked) → both (outcome_of_all fs) (outcome_of f.verdict) ≡ outcome_of_all (fs ++ f ∷ [])
+outcome_next [] f = sym (both_valid (outcome_of f.verdict))
+outcome_next (g ∷ fs) f =
+    both_assoc (outcome_of g.verdict) (outcome_of_all fs) (outcome_of f.verdict) ∙ ap (both (outcome_of g.verdict)) (outcome_next fs f)

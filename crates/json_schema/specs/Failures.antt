@@ -1,16 +1,21 @@
 -- The failures of the program.
 use Rattle.std.specs.Fmt.{decimal}
 use Rattle.std.specs.Prelude.{◌≡◌, ℕ, ◌⊎◌, List, ◌++◌, Option, Some, codes}
+use Rattle.std.specs.Str.{chars}
 use Rattle.tinyjson.specs.Error.{error_kind, error_message}
 use Rattle.tinyjson.specs.JsonParseErrorKind.TheVariants as kind
-use Rattle.tinyjson.specs.View.{text}
+use Rattle.tinyjson.specs.View.{view, text}
 use Rattle.tinyjson.specs.declared.parser.error.JsonParseError.{JsonParseError}
+use Rattle.tinyjson_pointer.specs.Text.{pointer_text}
+use Rattle.tinyjson_pointer.specs.Tokens.{tokens_of}
 use Rattle.tinyjson_cli.specs.Failures.{failure_message, failure_status}
 use Rattle.tinyjson_cli.specs.Shown.{shown}
 use Rattle.tinyjson_cli.specs.declared.failure.Failure.{Failure}
 use Rattle.tinyjson_cli.specs.declared.failure.Failure.TheVariants as failure
 use Rattle.tinyjson_cli.specs.declared.status.Status.{Status}
 use Rattle.tinyjson_cli.specs.declared.status.Status.TheVariants.{Misused, Refused}
+use Rattle.tinyjson_schema_words.specs.Refused.{TellsRefused}
+use Rattle.tinyjson_schema_words.specs.declared.refused.Refusal.{Refusal}
 use Rattle.json_schema.specs.Told.{too_deep, too_much}
 use Rattle.json_schema.specs.declared.failure.SchemaFailure.{SchemaFailure}
 use Rattle.json_schema.specs.declared.failure.SchemaFailure.TheVariants as is
@@ -19,9 +24,8 @@ use Rattle.json_schema.specs.declared.verdict.Cause.TheVariants as cause
 
 abbrev pub schema_message : SchemaFailure → List ℕ
 schema_message (is.Text e) = codes "the schema: " ++ error_message e
-schema_message (is.Refused place) = codes "the schema: can't be applied at \"" ++ (shown (text place) ++ codes "\"")
-schema_message (is.PatternLimit place) =
-    codes "the schema: the pattern at \"" ++ (shown (text place) ++ codes "\" is too deep or too large")
+schema_message (is.Refused place words) =
+    codes "the schema: at \"" ++ (shown (text place) ++ (codes "\": " ++ shown (text words)))
 schema_message (is.NoDraft n) = codes "no draft " ++ (decimal n ++ codes ": the drafts are 4, 6, 7, 2019 and 2020")
 
 -- a failure with this status and this message
@@ -31,6 +35,13 @@ Is status words f = (failure_status f ≡ status) × (failure_message f ≡ Some
 -- Status 2 and the message for a schema; or out of memory.
 abbrev pub TellsSchema : SchemaFailure → Failure → Type 0
 TellsSchema e f = Is Misused (schema_message e) f ⊎ (f ≡ failure.OutOfMemory)
+
+-- Status 2 and the message for a schema that can't be applied: the text of its place, and why; or out of memory.
+abbrev pub FailsRefused : Refusal → Failure → Type 0
+FailsRefused r f =
+    ((ws : List ℕ) × TellsRefused (view r.root.now) r.is_older (tokens_of r.place.now) ws
+    × Is Misused (codes "the schema: at \"" ++ (shown (pointer_text (tokens_of r.place.now)) ++ (codes "\": " ++ shown (chars ws)))) f)
+    ⊎ (f ≡ failure.OutOfMemory)
 
 -- Status 2 and the message for a schema whose text is no JSON; or out of memory.
 abbrev pub TellsSchemaText : JsonParseError → Failure → Type 0

@@ -1,7 +1,22 @@
 -- The program's arguments.
-use Rattle.std.specs.Prelude.{ℕ, Bool, List, Option, None, option_map}
+use Rattle.std.specs.Prelude.{ℕ, Bool, true, false, ◌||◌, List, Option, None, option_map, cond}
 use Rattle.tinyjson_cli.specs.Arguments.{Given, first_operand, is_given, last_number}
+use Rattle.json_schema.specs.declared.lines.Shows.{Shows}
+use Rattle.json_schema.specs.declared.lines.Shows.TheVariants.{Reports, Texts, ValidLines, OtherLines}
 
--- whether `-l` is there, the numbers behind `-m` and `-d`, the name of the schema's file, and the other files
-abbrev pub asks : Given → Option ((Bool × (Option ℕ × Option ℕ)) × (List ℕ × List (List ℕ)))
-asks a = option_map (λ o. ((is_given 108 a, (last_number 109 None a.numbers, last_number 100 None a.numbers)), o)) (first_operand a.operands)
+-- what is written: by `-v`, else `-i`, else `-t`
+abbrev pub asked_shows : Given → Shows
+asked_shows a = cond (is_given 118 a) ValidLines (cond (is_given 105 a) OtherLines (cond (is_given 116 a) Texts Reports))
+
+-- lines are written themselves
+abbrev pub are_lines : Shows → Bool
+are_lines ValidLines = true
+are_lines OtherLines = true
+are_lines _ = false
+
+-- whether each line is a text, by `-l` or since lines are written; what is written; the numbers behind `-m` and `-d`; the
+-- name of the schema's file, and the other files
+abbrev pub asks : Given → Option (((Bool × Shows) × (Option ℕ × Option ℕ)) × (List ℕ × List (List ℕ)))
+asks a = option_map
+    (λ o. (((is_given 108 a || are_lines (asked_shows a), asked_shows a), (last_number 109 None a.numbers, last_number 100 None a.numbers)), o))
+    (first_operand a.operands)

@@ -1,22 +1,22 @@
 //! The failures of the program.
 ghost use Rattle.std.specs.Prelude.{Some};
 ghost use Rattle.json_schema.specs.Failures.{schema_message, TellsSchema, TellsSchemaText, TellsText};
+ghost use Rattle.json_schema.specs.Failures.{FailsRefused};
 
 use crate::verdict::Cause;
 use std::alloc::Global;
 use std::fmt;
 use tinyjson::{JsonParseError, JsonParseErrorKind};
 use tinyjson_cli::{Failure, Shown};
+use tinyjson_schema_words::{Refusal, refused_words};
 
 /// Why a schema is not applied.
 #[derive(Drop)]
 pub enum SchemaFailure {
     /// It is no JSON text.
     Text(JsonParseError),
-    /// It can't be applied; the string is a pointer to the place.
-    Refused(String),
-    /// A pattern is too deep or too large; the string is a pointer to it.
-    PatternLimit(String),
+    /// It can't be applied, as the words say, at the place to which the pointer leads.
+    Refused { place: String, words: String },
     /// There is no draft of this number.
     NoDraft(usize),
 }
@@ -28,16 +28,10 @@ impl fmt::Display for SchemaFailure {
     fn fmt<W: fmt::Write>(&self, f: &mut fmt::Formatter<W>) -> fmt::Result {
         match self {
             SchemaFailure::Text(error) => write!(f, "the schema: {error}"),
-            SchemaFailure::Refused(place) => {
+            SchemaFailure::Refused { place, words } => {
                 let place = Shown(place.as_str());
-                write!(f, "the schema: can't be applied at \"{place}\"")
-            }
-            SchemaFailure::PatternLimit(place) => {
-                let place = Shown(place.as_str());
-                write!(
-                    f,
-                    "the schema: the pattern at \"{place}\" is too deep or too large"
-                )
+                let words = Shown(words.as_str());
+                write!(f, "the schema: at \"{place}\": {words}")
             }
             SchemaFailure::NoDraft(number) => {
                 write!(
@@ -57,6 +51,21 @@ pub fn schema_failure(alloc: Global, failure: &SchemaFailure) -> Failure
         Ok(words) => Failure::Misused(words),
         Err(_) => Failure::OutOfMemory,
     }
+}
+
+/// The failure for a schema that can't be applied: the place, and why; or out of memory.
+// Not inlined, so that the check of values has all of the stack.
+#[inline(never)]
+pub fn refused_failure(alloc: Global, refusal: Refusal<'_>) -> Failure
+    ensures { FailsRefused refusal.entry result }
+{
+    let Ok(words) = refused_words(refusal, alloc) else {
+        return Failure::OutOfMemory;
+    };
+    let Ok(place) = refusal.place.to_string(alloc) else {
+        return Failure::OutOfMemory;
+    };
+    schema_failure(alloc, &SchemaFailure::Refused { place, words })
 }
 
 /// The failure for a schema whose text is no JSON; or out of memory.

@@ -1,16 +1,19 @@
 //! Checks each line of an input.
 ghost use Rattle.std.specs.Prelude.{◌≡◌, ℕ, List};
 ghost use Rattle.std.specs.Result.{result_map_both};
-ghost use Rattle.tinyjson_lines.specs.Within.{IsGiven};
-ghost use Rattle.json_schema.specs.Run.{Runs, Handles, both, status};
+ghost use Rattle.tinyjson.specs.Written.{WritesPrefix};
+ghost use Rattle.tinyjson_lines.specs.Within.{IsGiven, IsWithin};
+ghost use Rattle.json_schema.specs.Run.{Runs, Handles, Refuses, both, status, shown_of};
+ghost use Rattle.json_schema.specs.Run.{line_text, file_of, report_by};
+ghost use Rattle.json_schema.specs.Run.{is_line_shown, is_others, is_kept};
 
 use crate::refusal::{Unchecked, tell_line};
-use crate::report::write_report;
-use crate::verdict::{Verdict, check_given};
+use crate::report::{write_report, write_text};
+use crate::verdict::{Cause, Finding, Verdict, check_line};
 use std::alloc::Global;
 use std::io::{self, BufRead, ErrorKind, Write};
 use tinyjson_cli::Status;
-use tinyjson_lines::{LineRead, read_line_within};
+use tinyjson_lines::{LineRead, content, read_line_within, write_all};
 use tinyjson_schema::Schema;
 
 /// The schema that lines are checked against, and the file that they are from.
@@ -22,6 +25,21 @@ pub struct Check<'a, 's> {
     pub file: Option<&'a str>,
     /// How many bytes a line may have before its line feed, if there is a limit.
     pub max_line: Option<usize>,
+    /// What is written of the lines.
+    pub shows: Shows,
+}
+
+/// What is written of values.
+#[derive(Clone, Copy)]
+pub enum Shows {
+    /// A report of each value that is not valid, as JSON.
+    Reports,
+    /// The same for people.
+    Texts,
+    /// The lines that are valid.
+    ValidLines,
+    /// The other lines, but those that are too long.
+    OtherLines,
 }
 
 /// The outcome for the texts that were checked.
@@ -60,10 +78,11 @@ impl Outcome {
 }
 
 /// Checks the JSON text on each line of the input. For one that is not valid it writes a report with the line's
-/// number to `output`. For one that can't be checked it writes the number and the reason to `errors`, and goes on.
+/// number to `output`, or it writes there the lines that are valid, or the others. For one that can't be checked it
+/// writes the number and the reason to `errors`, and goes on.
 ///
 /// A line ends after its line feed, and the last one with the input. One that is too long is not kept in memory. The error is out of memory, or a read or a
-/// write that fails. Then a prefix was written of the reports and of the messages for the lines so far.
+/// write that fails. Then a prefix was written of the output and of the messages for the lines so far.
 ///
 /// ```
 /// let mut input = b"1\n\"a\"\n{".as_slice();
@@ -95,7 +114,7 @@ pub fn check_lines<R: BufRead, W: Write, E: Write>(
     Err(io::Error::new(ErrorKind::InvalidData, "too many lines"))
 }
 
-/// Checks one line as it is given, and writes its report or its message.
+/// Checks one line as it is given, and writes what is shown of it, or its message.
 fn handle<W: Write, E: Write>(
     alloc: Global,
     check: Check<'_, '_>,
@@ -111,21 +130,127 @@ fn handle<W: Write, E: Write>(
         (W.contents output.old) (W.contents output.new)
         (E.contents errors.old) (E.contents errors.new) result }
 {
-    match check_given(alloc, check.schema, given)? {
-        Verdict::Valid => Ok(Outcome::AllValid),
-        Verdict::Invalid(finding) => {
-            write_report(alloc, Some(number), &finding, output)?;
-            Ok(Outcome::SomeInvalid)
-        }
-        Verdict::Refused(cause) => {
-            output.flush()?;
-            let line = Unchecked {
-                file: check.file,
-                number,
-                cause,
-            };
-            tell_line(alloc, errors, line)?;
-            Ok(Outcome::SomeRefused)
-        }
+    match given {
+        Ok(line) => handle_line(alloc, check, number, line, output, errors),
+        Err(max) => refuse(alloc, check, number, Cause::TooLong(max), output, errors),
     }
+}
+
+/// Checks a line that is not too long.
+fn handle_line<W: Write, E: Write>(
+    alloc: Global,
+    check: Check<'_, '_>,
+    number: u64,
+    line: &[u8],
+    output: &mut W,
+    errors: &mut E,
+) -> io::Result<Outcome>
+    ensures { IsWithin check.entry.max_line line.now → Handles check.entry number line.now
+        (W.contents output.old) (W.contents output.new)
+        (E.contents errors.old) (E.contents errors.new) result }
+{
+    let verdict = check_line(alloc, check.schema, line)?;
+    show(alloc, check, number, line, &verdict, output)?;
+    match verdict {
+        Verdict::Valid => Ok(Outcome::AllValid),
+        Verdict::Invalid(_) => Ok(Outcome::SomeInvalid),
+        Verdict::Refused(cause) => refuse(alloc, check, number, cause, output, errors),
+    }
+}
+
+/// Writes what is shown of a line with this verdict.
+fn show<W: Write>(
+    alloc: Global,
+    check: Check<'_, '_>,
+    number: u64,
+    line: &[u8],
+    verdict: &Verdict,
+    output: &mut W,
+) -> io::Result<()>
+    ensures { WritesPrefix (W.contents output.old) (W.contents output.new)
+        (shown_of check.entry number line.now verdict.now) result }
+{
+    if is_line_shown(verdict, check.shows) {
+        return write_content(line, output);
+    }
+    match verdict {
+        Verdict::Invalid(finding) => show_finding(alloc, check, number, finding, output),
+        Verdict::Valid => Ok(()),
+        Verdict::Refused(_) => Ok(()),
+    }
+}
+
+/// Whether a line with this verdict is written itself.
+fn is_line_shown(verdict: &Verdict, shows: Shows) -> bool
+    ensures { result ≡ is_line_shown verdict.now shows }
+{
+    match verdict {
+        Verdict::Valid => matches!(shows, Shows::ValidLines),
+        Verdict::Invalid(_) => is_others(shows),
+        Verdict::Refused(cause) => is_kept(*cause) && is_others(shows),
+    }
+}
+
+fn is_others(shows: Shows) -> bool
+    ensures { result ≡ is_others shows }
+{
+    matches!(shows, Shows::OtherLines)
+}
+
+/// Whether the line was kept in memory.
+fn is_kept(cause: Cause) -> bool
+    ensures { result ≡ is_kept cause }
+{
+    !matches!(cause, Cause::TooLong(_))
+}
+
+/// Writes the report of a line, where reports are written.
+fn show_finding<W: Write>(
+    alloc: Global,
+    check: Check<'_, '_>,
+    number: u64,
+    finding: &Finding,
+    output: &mut W,
+) -> io::Result<()>
+    ensures { WritesPrefix (W.contents output.old) (W.contents output.new)
+        (report_by check.entry.shows (file_of check.entry) number finding.now) result }
+{
+    match check.shows {
+        Shows::Reports => write_report(alloc, Some(number), finding, output),
+        Shows::Texts => write_text(alloc, check.file, Some(number), finding, output),
+        Shows::ValidLines => Ok(()),
+        Shows::OtherLines => Ok(()),
+    }
+}
+
+/// Writes the line with a line feed, which the last one may lack.
+fn write_content<W: Write>(line: &[u8], output: &mut W) -> io::Result<()>
+    ensures { WritesPrefix (W.contents output.old) (W.contents output.new)
+        (line_text line.now) result }
+{
+    write_all(output, content(line))?;
+    write_all(output, b"\n")
+}
+
+/// Writes the message of a line that can't be checked, after what was shown of those before it.
+fn refuse<W: Write, E: Write>(
+    alloc: Global,
+    check: Check<'_, '_>,
+    number: u64,
+    cause: Cause,
+    output: &mut W,
+    errors: &mut E,
+) -> io::Result<Outcome>
+    ensures { Refuses check.entry number cause
+        (W.contents output.old) (W.contents output.new)
+        (E.contents errors.old) (E.contents errors.new) result }
+{
+    output.flush()?;
+    let line = Unchecked {
+        file: check.file,
+        number,
+        cause,
+    };
+    tell_line(alloc, errors, line)?;
+    Ok(Outcome::SomeRefused)
 }

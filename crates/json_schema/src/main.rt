@@ -3,7 +3,7 @@
 
 ghost use Rattle.std.specs.Prelude.{◌≡◌, option_map, map};
 ghost use Rattle.tinyjson_cli.specs.Arguments.{given_of};
-ghost use Rattle.json_schema.specs.Options.{asks};
+ghost use Rattle.json_schema.specs.Options.{asks, asked_shows, are_lines};
 
 mod failure;
 mod lines;
@@ -12,10 +12,11 @@ mod report;
 mod unknown;
 mod verdict;
 
-use failure::{SchemaFailure, schema_failure, schema_text_failure, text_failure};
-use lines::{Check, check_lines};
-use report::write_report;
+use failure::{SchemaFailure, refused_failure, schema_failure, schema_text_failure, text_failure};
+use lines::{Check, Shows, check_lines};
+use report::{write_report, write_text};
 use std::alloc::Global;
+use std::cell::Cell;
 use std::io::{self, BufRead, Write};
 use std::process::ExitCode;
 use tinyjson::JsonValue;
@@ -26,7 +27,8 @@ use tinyjson_cli::{
 };
 use tinyjson_schema::{Schema, SchemaError, unknown_words};
 use tinyjson_schema_bundle::bundled;
-use tinyjson_schema_drafts::{Draft, read_as, unknown_dialect};
+use tinyjson_schema_drafts::{Dialect, Draft, dialect_of, read_as, unknown_dialect};
+use tinyjson_schema_words::Refusal;
 use unknown::{tell_dialect, tell_words};
 use verdict::{DEPTH_LIMIT, Verdict, check_text};
 
@@ -44,11 +46,32 @@ const DRAFT: Known<'static> = Known {
     takes_number: true,
 };
 
+/// `-t` and `--text`.
+const TEXT: Known<'static> = Known {
+    letter: b't',
+    name: "text",
+    takes_number: false,
+};
+
+/// `-v` and `--valid`.
+const VALID: Known<'static> = Known {
+    letter: b'v',
+    name: "valid",
+    takes_number: false,
+};
+
+/// `-i` and `--invalid`.
+const INVALID: Known<'static> = Known {
+    letter: b'i',
+    name: "invalid",
+    takes_number: false,
+};
+
 const PROGRAM: Program<'static> = Program {
     name: "json_schema",
-    options: &[LINES, MAX_LINE, DRAFT, HELP, VERSION],
+    options: &[LINES, TEXT, VALID, INVALID, MAX_LINE, DRAFT, HELP, VERSION],
     help: "\
-Usage: json_schema [-l] [-m N] [-d DRAFT] SCHEMA [FILE..]
+Usage: json_schema [-l] [-t | -v | -i] [-m N] [-d DRAFT] SCHEMA [FILE..]
 
 Checks JSON texts against a JSON Schema of draft 4, 6, 7, 2019-09 or 2020-12.
 SCHEMA is the name of the schema's file. Of a value that is not valid one line
@@ -63,6 +86,9 @@ that of --draft: 4, 6, 7, 2019 for 2019-09, or 2020 for 2020-12, the default.
 
 Options:
   -l, --lines       check each line; reports and messages have its number
+  -t, --text        print reports for people: a.json:/b must be a string, is null
+  -v, --valid       check each line, and print those that are valid
+  -i, --invalid     check each line, and print the others
   -m, --max-line N  with -l: do not check or keep a line of more than N bytes
   -d, --draft N     read a schema that names no draft in draft N
   -h, --help        print this page
@@ -80,6 +106,10 @@ Examples:
   $ echo '[1, 2.0]' | json_schema schema.json
   $ printf '[1]\\n[\"a\"]\\n' | json_schema -l schema.json | grep -c '\"line\":2'
   1
+  $ echo '[1, \"a\"]' | json_schema --text schema.json
+  /1 must be an integer, is a string
+  $ printf '[1]\\n[\"a\"]\\n' | json_schema --valid schema.json
+  [1]
 ",
 };
 
@@ -105,6 +135,8 @@ fn run(rt: &HostRuntime) -> Result<Status, Status> {
 struct Request<'w, 'a> {
     /// Whether each line of an input is a text of its own.
     by_lines: bool,
+    /// What is written of the values.
+    shows: Shows,
     /// How many bytes a line may have before its line feed, if there is a limit.
     max_line: Option<usize>,
     /// The draft that a schema is read in which names none.
@@ -115,17 +147,21 @@ struct Request<'w, 'a> {
     files: &'a [&'w str],
 }
 
-/// Parses the arguments: `[-l] [-m N] [-d DRAFT] SCHEMA [FILE..]`.
+/// Parses the arguments: `[-l] [-t | -v | -i] [-m N] [-d DRAFT] SCHEMA [FILE..]`.
 fn requested<'w, 'a>(arguments: &'a Arguments<'w>) -> Option<Request<'w, 'a>>
-    ensures { option_map (λ r. ((r.by_lines, (r.max_line, r.draft)), (r.schema.now, map (λ f. f.now) r.files.now))) result
-        ≡ asks (given_of arguments.now) }
+    ensures { option_map (λ r. (
+      ((r.by_lines, r.shows), (r.max_line, r.draft)),
+      (r.schema.now, map (λ f. f.now) r.files.now),
+    )) result ≡ asks (given_of arguments.now) }
 {
-    let by_lines = arguments.has(b'l');
+    let shows = requested_shows(arguments);
+    let by_lines = arguments.has(b'l') || are_lines(shows);
     let max_line = arguments.number(b'm');
     let draft = arguments.number(b'd');
     let (schema, files) = arguments.first()?;
     Some(Request {
         by_lines,
+        shows,
         max_line,
         draft,
         schema,
@@ -133,16 +169,39 @@ fn requested<'w, 'a>(arguments: &'a Arguments<'w>) -> Option<Request<'w, 'a>>
     })
 }
 
+/// What is written: by `-v`, else `-i`, else `-t`.
+fn requested_shows(arguments: &Arguments<'_>) -> Shows
+    ensures { result ≡ asked_shows (given_of arguments.now) }
+{
+    if arguments.has(b'v') {
+        Shows::ValidLines
+    } else if arguments.has(b'i') {
+        Shows::OtherLines
+    } else if arguments.has(b't') {
+        Shows::Texts
+    } else {
+        Shows::Reports
+    }
+}
+
+/// Whether lines are written themselves.
+fn are_lines(shows: Shows) -> bool
+    ensures { result ≡ are_lines shows }
+{
+    matches!(shows, Shows::ValidLines | Shows::OtherLines)
+}
+
 /// Reads the schema, and checks the inputs.
 fn check_inputs(rt: &HostRuntime, request: &Request<'_, '_>) -> Result<Status, Failure> {
     let draft = asked_draft(rt.alloc(), request.draft)?;
     let tree = schema_tree(rt, request.schema)?;
     tell_unknown(rt, &tree)?;
+    let is_older = is_older(&tree, draft);
     let tree = read_as(tree, draft, rt.alloc())?;
     let schema = bundled(&tree, rt.alloc());
     tree.dismantle();
     let schema = schema?;
-    let checked = check_by(rt, &schema, request);
+    let checked = check_by(rt, &schema, is_older, request);
     schema.dismantle();
     checked
 }
@@ -187,10 +246,11 @@ fn schema_tree(rt: &HostRuntime, file: &str) -> Result<JsonValue, Failure> {
 fn check_by(
     rt: &HostRuntime,
     tree: &JsonValue,
+    is_older: bool,
     request: &Request<'_, '_>,
 ) -> Result<Status, Failure> {
     let alloc = rt.alloc();
-    let schema = read_schema(alloc, tree)?;
+    let schema = read_schema(alloc, tree, is_older)?;
     if let Err(error) = tell_words(alloc, &mut rt.stderr(), &unknown_words(tree, alloc)?) {
         return Err(writing_error(error));
     }
@@ -198,6 +258,7 @@ fn check_by(
         alloc,
         schema: &schema,
         max_line: request.max_line,
+        shows: request.shows,
     };
     if request.by_lines {
         return Ok(by_lines(rt, request.files, &mut asked));
@@ -210,45 +271,91 @@ fn by_lines(rt: &HostRuntime, files: &[&str], asked: &mut Asked<'_, '_>) -> Stat
     answer_lines(rt, PROGRAM, files, asked)
 }
 
+/// Checks the text of each file, whose name is in what is written of it. After a failure that is not about one file
+/// alone no other is checked.
 #[inline(never)]
 fn by_texts(rt: &HostRuntime, files: &[&str], asked: &Asked<'_, '_>) -> Status {
-    answer_files(rt, PROGRAM, files, asked)
+    let inputs = if files.is_empty() { &["-"] } else { files };
+    let mut status = Status::Done;
+    for name in inputs {
+        let text = AskedText {
+            schema: asked.schema,
+            shows: asked.shows,
+            file: if *name == "-" { None } else { Some(*name) },
+            is_read: Cell::new(false),
+        };
+        let of_file = answer_files(rt, PROGRAM, &[*name], &text);
+        status = status.and(of_file);
+        if text.is_read.get() && matches!(of_file, Status::Failed) {
+            break;
+        }
+    }
+    status
 }
 
-fn read_schema(alloc: Global, tree: &JsonValue) -> Result<Schema<'_>, Failure> {
-    let failure = match Schema::read(tree, alloc) {
+/// Whether the schema is of another draft than 2020-12: of the one that it names, or else of the default.
+fn is_older(tree: &JsonValue, default: Draft) -> bool {
+    let draft = match dialect_of(tree) {
+        Dialect::Known(draft) => draft,
+        Dialect::Missing | Dialect::Unknown => default,
+    };
+    !matches!(draft, Draft::Draft202012)
+}
+
+fn read_schema(alloc: Global, tree: &JsonValue, is_older: bool) -> Result<Schema<'_>, Failure> {
+    let place = match Schema::read(tree, alloc) {
         Ok(schema) => return Ok(schema),
-        Err(SchemaError::Refused(place)) => SchemaFailure::Refused(place.to_string(alloc)?),
-        Err(SchemaError::PatternLimit(place)) => {
-            SchemaFailure::PatternLimit(place.to_string(alloc)?)
-        }
+        Err(SchemaError::Refused(place) | SchemaError::PatternLimit(place)) => place,
         Err(SchemaError::OutOfMemory) => return Err(Failure::OutOfMemory),
     };
-    Err(schema_failure(alloc, &failure))
+    let refusal = Refusal {
+        root: tree,
+        place: &place,
+        is_older,
+    };
+    Err(refused_failure(alloc, refusal))
 }
 
-/// The schema that each text is checked against.
+/// The schema that each line is checked against.
 #[derive(Drop)]
 struct Asked<'a, 's> {
     alloc: Global,
     schema: &'a Schema<'s>,
     max_line: Option<usize>,
+    shows: Shows,
 }
 
-impl Answer for Asked<'_, '_> {
+/// The schema that the text of a file is checked against.
+#[derive(Drop)]
+struct AskedText<'a, 's, 'f> {
+    schema: &'a Schema<'s>,
+    shows: Shows,
+    /// The name of the file, if it has one.
+    file: Option<&'f str>,
+    /// Whether the file was read.
+    is_read: Cell<bool>,
+}
+
+impl Answer for AskedText<'_, '_, '_> {
     fn answer<W: Write>(
         &self,
         alloc: Global,
         text: &str,
         output: &mut W,
     ) -> Result<Status, Failure> {
-        match check_text(alloc, self.schema, text)? {
-            Verdict::Valid => Ok(Status::Done),
-            Verdict::Refused(cause) => Err(text_failure(alloc, cause)),
-            Verdict::Invalid(finding) => match write_report(alloc, None, &finding, output) {
-                Ok(()) => Ok(Status::No),
-                Err(error) => Err(writing_error(error)),
-            },
+        self.is_read.set(true);
+        let finding = match check_text(alloc, self.schema, text)? {
+            Verdict::Valid => return Ok(Status::Done),
+            Verdict::Refused(cause) => return Err(text_failure(alloc, cause)),
+            Verdict::Invalid(finding) => finding,
+        };
+        let written = match self.shows {
+            Shows::Texts => write_text(alloc, self.file, None, &finding, output),
+            _ => write_report(alloc, None, &finding, output),
+        };
+        match written {
+            Ok(()) => Ok(Status::No),
+            Err(error) => Err(writing_error(error)),
         }
     }
 }
@@ -265,6 +372,7 @@ impl AnswerLines for Asked<'_, '_> {
             schema: self.schema,
             file,
             max_line: self.max_line,
+            shows: self.shows,
         };
         let outcome = check_lines(self.alloc, check, input, output, errors)?;
         Ok((true, outcome.status()))

@@ -1,12 +1,10 @@
 //! The verdict on a text.
-ghost use Rattle.std.specs.Prelude.{◌≡◌, IfOk, Ok, Some, ℕ, List, Option};
-ghost use Rattle.std.specs.Result.{result_map_both};
+ghost use Rattle.std.specs.Prelude.{◌≡◌, IfOk, Ok, Some};
 ghost use Rattle.std.specs.Str.{chars};
 ghost use Rattle.tinyjson.specs.View.{view};
-ghost use Rattle.tinyjson_lines.specs.Within.{IsGiven};
 ghost use Rattle.tinyjson_schema.specs.Reading.{tree_of};
 ghost use Rattle.tinyjson_schema.specs.Valid.{Validates};
-ghost use Rattle.json_schema.specs.Verdicts.{ValueGives, TextGives, LineGives, GivesWithin};
+ghost use Rattle.json_schema.specs.Verdicts.{ValueGives, TextGives, LineGives};
 
 use std::alloc::{AllocError, Global};
 use std::str;
@@ -134,24 +132,8 @@ fn with_words(
     Ok(Verdict::Invalid(Finding { violation, words }))
 }
 
-/// Checks a line as it is given: itself, or the limit that it exceeds.
-pub fn check_given(
-    alloc: Global,
-    schema: &Schema<'_>,
-    given: Result<&[u8], usize>,
-) -> Result<Verdict, AllocError>
-    ensures { (max : Option ℕ) → (line : List ℕ) →
-        IsGiven max line (result_map_both (λ s. s.now) (λ m. m) given.entry) →
-        IfOk result (GivesWithin max (tree_of schema.now) line) }
-{
-    match given {
-        Ok(line) => check_line(alloc, schema, line),
-        Err(max) => Ok(Verdict::Refused(Cause::TooLong(max))),
-    }
-}
-
 /// Checks the text on a line, without its line feed.
-fn check_line(alloc: Global, schema: &Schema<'_>, line: &[u8]) -> Result<Verdict, AllocError>
+pub fn check_line(alloc: Global, schema: &Schema<'_>, line: &[u8]) -> Result<Verdict, AllocError>
     ensures { IfOk result (LineGives (tree_of schema.now) line.now) }
 {
     match str::from_utf8(content(line)) {

@@ -4,7 +4,7 @@ use Rattle.tinyjson_lines.proofs.Callers as run
 use Rattle.tinyjson_lines.proofs.Callers.{given_next}
 use Rattle.tinyjson_lines.specs.Lines.{AllRead}
 use Rattle.tinyjson_lines.specs.Within.{ReadsWithin}
-use Rattle.json_schema.specs.Run.{Gives, report_of, telling_of}
+use Rattle.json_schema.specs.Run.{Gives, output_of, telling_of}
 use Rattle.json_schema.proofs.Running.{begun, stopped, ended, next, failed}
 use Rattle.json_schema.proofs.lines.check_lines.Goals as goal
 
@@ -57,5 +57,5 @@ loop-number-preserved g c =
 pub returns : goal.returns
 returns g c =
     let p = c.loop-number.invariant.progress in
-    run.stopped (Gives c.args.check) report_of (telling_of c.args.check) _ _ _ _ _ _ c.loop-number.number p.verdicts p.progress _ _
+    run.stopped (Gives c.args.check) (output_of c.args.check) (telling_of c.args.check) _ _ _ _ _ _ c.loop-number.number p.verdicts p.progress _ _
     (Keeps-refl _) (Keeps-refl _)
