@@ -1056,7 +1056,7 @@ LARGE_PATTERNS = [
 TOO_MANY = reported(3, "json_schema", "schemas are nested too deep")
 TOO_MUCH = reported(3, "json_schema", "the check takes too many steps")
 
-# Checks that would take minutes, and like ones that are short: two million steps are allowed, and two more for each byte.
+# Checks that would take minutes, and like ones that are short: five million steps are allowed, and four more for each byte.
 HOSTILE = [
     # Each level is judged twice by each of two schemas.
     ('{"allOf":[{"items":{"$ref":"#"}},{"items":{"$ref":"#"}}]}', "[" * 25 + "]" * 25, TOO_MUCH),
@@ -1070,8 +1070,8 @@ HOSTILE = [
     ('{"patternProperties":{%s}}' % ",".join(f'"^{i}$":{{}}' for i in range(2_000)), json.dumps({f"a{i}": 0 for i in range(4_000)}), TOO_MUCH),
     # Each member is looked up in each schema.
     ('{"allOf":[%s],"unevaluatedProperties":{"type":"integer"}}' % ",".join(f'{{"properties":{{"a{i}":{{}}}}}}' for i in range(3_000)), json.dumps({f"b{i}": 0 for i in range(3_000)}), TOO_MUCH),
-    # A long text with three schemas an item is no such one.
-    ('{"items":{"$ref":"#/$defs/a"},"$defs":{"a":{"$ref":"#/$defs/b"},"b":{"minimum":0}}}', "[" + "0," * 700_000 + "0]", judged(None)),
+    # A long text with eight schemas an item is no such one.
+    ('{"items":{"$ref":"#/$defs/a"},"$defs":{%s"g":{"minimum":0}}}' % "".join(f'"{a}":{{"$ref":"#/$defs/{b}"}},' for a, b in zip("abcdef", "bcdefg")), "[" + "0," * 700_000 + "0]", judged(None)),
 ]
 
 # Schemas that lead to themselves, where a part of the value is judged by what more than 200 in one another say.

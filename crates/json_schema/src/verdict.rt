@@ -21,10 +21,10 @@ pub const DEPTH_LIMIT: usize = 100;
 const STEP_LIMIT: usize = 200;
 
 /// How many steps the check of a short text may take: some seconds.
-const STEPS: u64 = 2_000_000;
+const STEPS: u64 = 5_000_000;
 
 /// How many more steps it may take for each byte of the text.
-const STEPS_A_BYTE: u64 = 2;
+const STEPS_A_BYTE: u64 = 4;
 
 /// The verdict on a text.
 #[derive(Drop)]
@@ -55,7 +55,7 @@ pub enum Cause {
     NotJson(JsonParseError),
     /// It needs more than 200 nested schemas.
     TooDeep,
-    /// Its check takes more than two million steps and two for each byte.
+    /// Its check takes more than five million steps and four for each byte.
     TooMuch,
     /// It is a line with more bytes before its line feed than this limit.
     TooLong(usize),
