@@ -1,12 +1,8 @@
 -- The lines of an input, and what each of them gives.
 use Rattle.std.specs.Prelude.{◌≡◌, ℕ, suc, List, [], ◌∷◌, ◌++◌, Option, Some, Result, Ok, Err, ⊤, codes, option_map}
 use Rattle.std.specs.Str.{IsUtf8, chars}
-use Rattle.tinyjson.specs.Error.{error_kind}
-use Rattle.tinyjson.specs.Grammar.{IsText, IsAccepted}
-use Rattle.tinyjson.specs.JsonParseErrorKind.TheVariants as kind
-use Rattle.tinyjson.specs.Parser.{ParsesText}
+use Rattle.tinyjson.specs.Grammar.{IsText}
 use Rattle.tinyjson.specs.Tree.{Tree}
-use Rattle.tinyjson.specs.declared.parser.error.JsonParseError.{JsonParseError}
 use Rattle.tinyjson_cli.specs.Refusals.{refusal_line}
 use Rattle.tinyjson_lines.specs.Line.{line_of}
 -- the characters are no text, and this is the parser's error; the text of a line is rejected for this cause
@@ -19,7 +15,7 @@ use Rattle.json_lines.specs.declared.lines.Options.{Options}
 use Rattle.json_lines.specs.declared.lines.Outcome.{Outcome}
 use Rattle.json_lines.specs.declared.lines.Outcome.TheVariants.{AllWritten, SomeRefused}
 use Rattle.tinyjson_lines.specs.declared.refusal.Cause.{Cause}
-use Rattle.tinyjson_lines.specs.declared.refusal.Cause.TheVariants.{NotUtf8, NotJson, TooLong}
+use Rattle.tinyjson_lines.specs.declared.refusal.Cause.TheVariants.{TooLong}
 
 -- what a line gives: the tree of its text, or the cause why it is rejected
 abbrev pub Fate : Type 0

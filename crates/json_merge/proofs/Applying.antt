@@ -1,7 +1,5 @@
 -- What is printed of a value is what is printed of its text.
-use Rattle.std.proofs.Common.{◌≡◌, ℕ, Bool, List, [], Option, None, Some, Result, Ok, Err, inl, inr, ⊎_elim, refl, ap}
-use Rattle.std.proofs.lemmas.Bool.{false≢true}
-use Rattle.std.specs.Result.{IsErr}
+use Rattle.std.proofs.Common.{◌≡◌, ℕ, Bool, List, [], Option, None, Some, Result, Ok, Err, inl, inr, ⊎_elim, ap}
 use Rattle.std.specs.declared.io.Error.{Error}
 use Rattle.tinyjson.proofs.Callers.{Appends_written}
 use Rattle.tinyjson.specs.Grammar.{IsText}

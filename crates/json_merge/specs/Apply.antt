@@ -7,7 +7,7 @@ use Rattle.tinyjson.specs.Parser.{ParsesText}
 use Rattle.tinyjson.specs.Tree.{Tree}
 use Rattle.tinyjson_cli.specs.Layout.{laid_out}
 use Rattle.tinyjson_cli.specs.declared.texts.NoAnswer.{NoAnswer}
-use Rattle.tinyjson_cli.specs.declared.texts.NoAnswer.TheVariants.{Refused, No}
+use Rattle.tinyjson_cli.specs.declared.texts.NoAnswer.TheVariants.{Refused}
 use Rattle.tinyjson_lines.specs.declared.refusal.Cause.TheVariants.{NotJson}
 use Rattle.tinyjson_patch.specs.Merge.{merge_patch}
 

@@ -1,5 +1,5 @@
 -- The program's arguments.
-use Rattle.std.specs.Prelude.{ℕ, Bool, List, Option, option_map}
+use Rattle.std.specs.Prelude.{ℕ, List, Option, option_map}
 use Rattle.tinyjson_cli.specs.Texts.{texts_given}
 use Rattle.tinyjson_cli.specs.declared.texts.Texts.{Texts}
 use Rattle.tinyjson_cli.specs.Arguments.{Given, first_operand, is_given}

@@ -1,4 +1,3 @@
-use Rattle.std.proofs.Common.{true, false}
 use Rattle.tinyjson_cli.proofs.Callers.{is_compact, is_indented}
 use Rattle.tinyjson_document.specs.Document.{tree}
 use Rattle.json_part.proofs.part.write_text.Goals as goal
