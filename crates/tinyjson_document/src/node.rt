@@ -121,7 +121,7 @@ impl<'d> Node<'d> {
         ensures { option_map (λ n. n.now.decimal) result ≡ number_in (tree self.now) }
     {
         match self.cell {
-            Cell::Number(index) => self.document.store.numbers.get(index),
+            Cell::Number(index) => self.document.store.numbers.get(index as usize),
             _ => None,
         }
     }

@@ -1,5 +1,6 @@
 //! The cells of a document, and the vectors that hold their parts. The vectors only grow.
-ghost use Rattle.std.specs.Prelude.{◌≡◌, ℕ, [], List, IfOk, OnOk, Some, drop, option_map, take};
+ghost use Rattle.std.specs.Prelude.{◌≡◌, ◌≤◌, ◌^◌, ◌⊎◌, ℕ, [], List, IfOk, OnOk, MatchResult, Some};
+ghost use Rattle.std.specs.Prelude.{drop, option_map, take};
 ghost use Rattle.std.specs.Str.{chars};
 ghost use Rattle.tinyjson_document.specs.Cell.{IsBytes, IsRun, IsText, IsNumberAt, Grows};
 ghost use Rattle.tinyjson_document.specs.declared.store.Member.{Member};
@@ -12,19 +13,42 @@ use std::alloc::{AllocError, Global};
 use std::{mem, str};
 use tinyjson_number::JsonNumber;
 
-/// A range of indices: from `from` up to `to`, without `to`.
+/// A range of indices: from `from` up to `to`, without `to`. Indices have 32 bits, so that a cell takes 12 bytes.
 #[derive(Clone, Copy)]
 pub struct Span {
-    pub from: usize,
-    pub to: usize,
+    pub from: u32,
+    pub to: u32,
+}
+
+impl Span {
+    /// The range, if its ends fit.
+    pub fn new(from: usize, to: usize) -> Result<Span, AllocError>
+        ensures { MatchResult result (λ span. (span.from ≡ from) × (span.to ≡ to))
+            (λ _. (2 ^ 32 ≤ from) ⊎ (2 ^ 32 ≤ to)) }
+    {
+        Ok(Span {
+            from: place(from)?,
+            to: place(to)?,
+        })
+    }
+}
+
+/// The index, if it fits: if it is less than 4,294,967,296.
+fn place(index: usize) -> Result<u32, AllocError>
+    ensures { MatchResult result (λ place. place ≡ index) (λ _. 2 ^ 32 ≤ index) }
+{
+    match u32::try_from(index) {
+        Ok(place) => Ok(place),
+        Err(_) => Err(AllocError),
+    }
 }
 
 /// The elements in the range, as far as there are any.
 pub fn part<T>(all: &[T], span: Span) -> &[T]
     ensures { result.now ≡ part all.now span }
 {
-    let to = span.to.min(all.len());
-    let from = span.from.min(to);
+    let to = (span.to as usize).min(all.len());
+    let from = (span.from as usize).min(to);
     &all[from..to]
 }
 
@@ -44,7 +68,7 @@ pub fn text_at(texts: &[u8], span: Span) -> Option<&str>
 pub enum Cell {
     Null,
     Boolean(bool),
-    Number(usize),
+    Number(u32),
     String(Span),
     Array(Span),
     Object(Span),
@@ -84,18 +108,15 @@ impl Store {
     {
         let from = self.texts.len();
         append(&mut self.texts, text.as_bytes())?;
-        Ok(Span {
-            from,
-            to: self.texts.len(),
-        })
+        Span::new(from, self.texts.len())
     }
 
     /// Appends the number.
-    pub fn add_number(&mut self, number: JsonNumber) -> Result<usize, AllocError>
+    pub fn add_number(&mut self, number: JsonNumber) -> Result<u32, AllocError>
         ensures number { IfOk result (IsNumberAt self.new number.decimal) }
         ensures grows { OnOk result (Grows self.old self.new) }
     {
-        let index = self.numbers.len();
+        let index = place(self.numbers.len())?;
         self.numbers.push(number)?;
         Ok(index)
     }
@@ -107,10 +128,7 @@ impl Store {
     {
         let from = self.items.len();
         self.items.extend_from_slice(items)?;
-        Ok(Span {
-            from,
-            to: self.items.len(),
-        })
+        Span::new(from, self.items.len())
     }
 
     /// Moves the last of the pending values here, as the items of an array. The very first items are moved without
@@ -122,7 +140,7 @@ impl Store {
         ensures grows { OnOk result (Grows self.old self.new) }
     {
         if from == 0 && self.items.is_empty() {
-            return Ok(self.swap_items(values));
+            return self.swap_items(values);
         }
         let Some(items) = values.get(from..) else {
             return Err(AllocError);
@@ -133,17 +151,14 @@ impl Store {
     }
 
     /// Takes all pending values as items, where there are none yet.
-    fn swap_items(&mut self, values: &mut Vec<Cell>) -> Span
+    fn swap_items(&mut self, values: &mut Vec<Cell>) -> Result<Span, AllocError>
         requires none { self.old.items.items ≡ [] }
-        ensures items { IsRun self.new.items.items result values.old.items }
-        ensures rest { values.new.items ≡ [] }
-        ensures grows { Grows self.old self.new }
+        ensures items { IfOk result (λ span. IsRun self.new.items.items span values.old.items) }
+        ensures rest { OnOk result (values.new.items ≡ []) }
+        ensures grows { OnOk result (Grows self.old self.new) }
     {
         mem::swap(&mut self.items, values);
-        Span {
-            from: 0,
-            to: self.items.len(),
-        }
+        Span::new(0, self.items.len())
     }
 
     /// Appends the members of an object in the order of their keys; of those with equal keys, only the last. The
@@ -174,9 +189,6 @@ impl Store {
     {
         let from = self.members.len();
         self.members.extend_from_slice(members)?;
-        Ok(Span {
-            from,
-            to: self.members.len(),
-        })
+        Span::new(from, self.members.len())
     }
 }

@@ -325,6 +325,7 @@ fn holds_others(node: Cell) -> bool
 }
 
 /// Writes a scalar, or an empty container.
+#[inline(always)]
 fn write_leaf<W: Write>(
     out: &mut W,
     buffer: &mut Buffer,
@@ -389,6 +390,7 @@ fn empty_text(node: Cell) -> Option<&'static [u8]>
 }
 
 /// Writes a scalar, an empty container, or an opening bracket.
+#[inline(always)]
 fn write_head<W: Write>(
     out: &mut W,
     buffer: &mut Buffer,
@@ -402,7 +404,7 @@ fn write_head<W: Write>(
         Cell::Null => write_bytes(out, buffer, b"null"),
         Cell::Boolean(true) => write_bytes(out, buffer, b"true"),
         Cell::Boolean(false) => write_bytes(out, buffer, b"false"),
-        Cell::Number(index) => match store.numbers.get(index) {
+        Cell::Number(index) => match store.numbers.get(index as usize) {
             Some(number) => write_decimal(out, buffer, number),
             None => Err(io::Error::from(ErrorKind::InvalidData)),
         },
@@ -423,6 +425,7 @@ fn write_decimal<W: Write>(out: &mut W, buffer: &mut Buffer, number: &JsonNumber
 }
 
 /// Writes characters between quotes.
+#[inline(always)]
 fn write_text<W: Write>(out: &mut W, buffer: &mut Buffer, bytes: &[u8]) -> io::Result<()>
     ensures { (cs : List ℕ) → IsBytes cs bytes.now
         → SendsText W.contents out.old out.new buffer.old buffer.new (quoted cs) result }
@@ -437,6 +440,7 @@ fn write_text<W: Write>(out: &mut W, buffer: &mut Buffer, bytes: &[u8]) -> io::R
 }
 
 /// Writes the key of a member, and the separator between it and the value.
+#[inline(always)]
 fn write_key<W: Write>(
     out: &mut W,
     buffer: &mut Buffer,

@@ -322,10 +322,7 @@ fn pair_begun(members: &mut Vec<Member>, begun: &[Begun], end: usize) -> Result<
         let to = next_from(others, end);
         members.push(Member {
             key: first.key,
-            value: Cell::String(Span {
-                from: first.from,
-                to,
-            }),
+            value: Cell::String(Span::new(first.from, to)?),
         })?;
         rest = others;
     }
