@@ -18,5 +18,11 @@ are_lines _ = false
 -- name of the schema's file, and the other files
 abbrev pub asks : Given → Option (((Bool × Shows) × (Option ℕ × Option ℕ)) × (List ℕ × List (List ℕ)))
 asks a = option_map
-    (λ o. (((is_given 108 a || are_lines (asked_shows a), asked_shows a), (last_number 109 None a.numbers, last_number 100 None a.numbers)), o))
+    (λ o. (
+      (
+        (is_given 108 a || are_lines (asked_shows a), asked_shows a),
+        (last_number 109 None a.numbers, last_number 100 None a.numbers),
+      ),
+      o,
+    ))
     (first_operand a.operands)

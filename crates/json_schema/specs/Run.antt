@@ -120,7 +120,8 @@ Runs k unread left held holds told tells (Err e) = StopsAmong (Gives k) (output_
 abbrev pub Handles : Check → ℕ → List ℕ → Option (List ℕ) → Option (List ℕ) → Option (List ℕ) → Option (List ℕ)
     → Result Outcome Error → Type 0
 Handles k n line held holds told tells (Ok o) =
-    (f : Checked) × Gives k line f × (o ≡ outcome_of f.verdict) × Appends held holds (output_of k n f) × Appends told tells (telling_of k n f)
+    (f : Checked) × Gives k line f × (o ≡ outcome_of f.verdict) × Appends held holds (output_of k n f)
+    × Appends told tells (telling_of k n f)
 Handles k n line held holds told tells (Err e) =
     (Keeps held holds × Keeps told tells)
     ⊎ ((f : Checked) × Gives k line f × WrittenPart held holds (output_of k n f) × WrittenPart told tells (telling_of k n f))

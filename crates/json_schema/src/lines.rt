@@ -81,12 +81,13 @@ impl Outcome {
 /// number to `output`, or it writes there the lines that are valid, or the others. For one that can't be checked it
 /// writes the number and the reason to `errors`, and goes on.
 ///
-/// A line ends after its line feed, and the last one with the input. One that is too long is not kept in memory. The error is out of memory, or a read or a
-/// write that fails. Then a prefix was written of the output and of the messages for the lines so far.
+/// A line ends after its line feed, and the last one with the input. One that is too long is not kept in memory. The
+/// error is out of memory, or a read or a write that fails. Then a prefix was written of the output and of the
+/// messages for the lines so far.
 ///
 /// ```
 /// let mut input = b"1\n\"a\"\n{".as_slice();
-/// check_lines(alloc, check, &mut input, &mut output, &mut errors)?; // of {"type":"integer"}: writes of line 2, tells of line 3
+/// check_lines(alloc, check, &mut input, &mut output, &mut errors)?; // of {"type":"integer"}: writes of lines 2 and 3
 /// ```
 pub fn check_lines<R: BufRead, W: Write, E: Write>(
     alloc: Global,

@@ -88,7 +88,8 @@ fn find_below<'v>(
 ) -> Result<Vec<Node<'v>>, FindError>
     ensures ok { IfOk result (λ v. parts_view v.items
         ≡ query_parts judged query.now (tree_of root.entry)) }
-    ensures err { IfErr result (IsFrom (query_strings query.now ++ strings_in (tree_of root.entry))) }
+    ensures err { IfErr result (IsFrom (query_strings query.now
+        ++ strings_in (tree_of root.entry))) }
 {
     let mut finder = Finder {
         alloc,

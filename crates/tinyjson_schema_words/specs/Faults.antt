@@ -1,7 +1,8 @@
 -- Why a text is no pattern that can be applied, in words.
 use Rattle.std.specs.Fmt.{decimal}
 use Rattle.std.specs.List.{starts_with}
-use Rattle.std.specs.Prelude.{◌≡◌, ℕ, zero, suc, Bool, false, ◌&&◌, ◌||◌, ◌==◌, eqb, nat_le, List, [], ◌∷◌, ◌++◌, Option, Some, None, cond, codes}
+use Rattle.std.specs.Prelude.{◌≡◌, ℕ, zero, suc, Bool, false, ◌&&◌, ◌||◌, ◌==◌, eqb, nat_le, List, [], ◌∷◌, ◌++◌}
+use Rattle.std.specs.Prelude.{Option, Some, None, cond, codes}
 use Rattle.std.specs.Prelude.{encode_utf8, length}
 use Rattle.i_regexp.specs.PatternReading.{IsReading, IsRefused}
 use Rattle.i_regexp.specs.declared.pattern.SchemaPattern.{SchemaPattern}

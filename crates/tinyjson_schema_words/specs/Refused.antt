@@ -1,5 +1,6 @@
 -- Why a schema can't be applied, in words.
-use Rattle.std.specs.Prelude.{◌≡◌, ℕ, Bool, true, false, ◌&&◌, ◌⊎◌, List, [], ◌∷◌, ◌++◌, Option, Some, None, cond, codes, is_some, option_map}
+use Rattle.std.specs.Prelude.{◌≡◌, ℕ, Bool, true, false, ◌&&◌, ◌⊎◌, List, [], ◌∷◌, ◌++◌, Option, Some, None, cond, codes}
+use Rattle.std.specs.Prelude.{is_some, option_map}
 use Rattle.std.specs.Prelude.{option_and_then}
 use Rattle.tinyjson.specs.Access.{is_null}
 use Rattle.tinyjson.specs.Tree.{Tree, string}
