@@ -15,7 +15,7 @@ from pages import Page, misused
 from running import printed, program, reported, run_of, run_small
 from values import CONTROLS, DEEP, LONG, NESTED, NOT_UTF8, QUOTED, normal
 
-VALUE_READER = whole.Reader("json_path", ["$"], 3)
+DOCUMENT_READER = whole.Reader("json_path", ["$"], 3)
 FAULTS = Faults("json_path", is_stopping=True)
 
 # The document of RFC 9535, 1.5.
@@ -634,12 +634,12 @@ PARTS = (
     check_deep,
     check_faults,
     *shared(check_memory),
-    *shared(VALUE_READER.check_inputs),
-    VALUE_READER.check_padded,
-    VALUE_READER.check_sizes,
-    VALUE_READER.check_wide,
-    VALUE_READER.check_large,
-    VALUE_READER.check_nested,
-    VALUE_READER.check_deep_members,
-    VALUE_READER.check_deep_memory,
+    *shared(DOCUMENT_READER.check_inputs),
+    DOCUMENT_READER.check_padded,
+    DOCUMENT_READER.check_sizes,
+    DOCUMENT_READER.check_wide,
+    DOCUMENT_READER.check_large,
+    DOCUMENT_READER.check_nested,
+    DOCUMENT_READER.check_deep_members,
+    DOCUMENT_READER.check_deep_memory,
 )

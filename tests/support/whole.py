@@ -232,7 +232,7 @@ class Reader:
             (opening, inside, closing), (begun, within, ended), _, _ = row
             text = opening * 100_000 + inside + closing * 100_000
             compact = begun * 100_000 + within + ended * 100_000 + b"\n"
-            for megabytes in range(24, 160, 16):
+            for megabytes in (8, *range(24, 160, 16)):
                 name = f"{self.name}: {megabytes} MB of memory for levels {opening}"
                 if checks.needs_memory(name):
                     status, output, errors = self.run_within(megabytes, text)
