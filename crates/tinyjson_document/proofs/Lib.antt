@@ -31,3 +31,5 @@ pub mod Values
 pub mod Callers
 -- What a comparison has still to find the same.
 pub mod Comparing
+-- Items and members that are buffered in full, or not at all.
+pub mod Buffering

@@ -1,5 +1,5 @@
 -- Lines with two spaces a level.
-use Rattle.std.proofs.Common.{◌≡◌, ℕ, zero, suc, ◌+◌, ◌*◌, ◌-◌, ◌≤◌, Bool, true, false, Option, Some, List, [], ◌∷◌, ◌++◌, take, drop}
+use Rattle.std.proofs.Common.{◌≡◌, ℕ, zero, suc, ◌+◌, ◌*◌, ◌-◌, ◌≤◌, Bool, true, false, Option, None, Some, List, [], ◌∷◌, ◌++◌, take, drop}
 use Rattle.std.proofs.Common.{refl, sym, ◌∙◌, ap, arith}
 use Rattle.std.specs.Borrow.{Bor}
 use Rattle.std.specs.List.{repeat}
@@ -43,3 +43,12 @@ line_of false k h =
 pub line_at : (o : Option (Bor (List ℕ))) (i : Bor (List ℕ)) (first : Bool) (k : ℕ) → o ≡ Some i → chars i.now ≡ 32 ∷ 32 ∷ [] → k ≤ 32
     → enc (before (indent_of o) k first) ≡ take (2 + 2 * k - bool_byte first) (drop (bool_byte first) (44 ∷ 10 ∷ spaces 32))
 line_at o i first k e s h = ap (λ z. enc (before (indent_of z) k first)) e ∙ ap (λ z. enc (before (Some z) k first)) s ∙ line_of first k h
+
+-- a comma alone, or nothing
+pub line_none : (o : Option (Bor (List ℕ))) (first : Bool) (k : ℕ) → o ≡ None
+    → enc (before (indent_of o) k first) ≡ take (1 - bool_byte first) (drop (bool_byte first) (44 ∷ 10 ∷ spaces 32))
+line_none o first k e = ap (λ z. enc (before (indent_of z) k first)) e ∙ by first
+  where
+    by : (first : Bool) → enc (before None k first) ≡ take (1 - bool_byte first) (drop (bool_byte first) (44 ∷ 10 ∷ spaces 32))
+    by true = refl
+    by false = enc_cons 44 [] (omega arith)

@@ -1,6 +1,6 @@
 -- Values that hold no others, written one after the other.
 use Rattle.std.proofs.Common.{◌≡◌, ℕ, ◌+◌, ◌≤◌, Bool, false, not, ◌&&◌, nat_eq, Option, Result, List, [], ◌∷◌, ◌++◌}
-use Rattle.std.proofs.Common.{length, reverse, refl, sym, ap, subst, arith, ◌∙◌}
+use Rattle.std.proofs.Common.{length, reverse, refl, sym, ap, subst, arith, ◌∙◌, append_assoc}
 use Rattle.std.proofs.lemmas.Bool.Decides.{nat_tests}
 use Rattle.std.specs.Borrow.{Bor}
 use Rattle.std.specs.List.{sum_by}
@@ -25,7 +25,7 @@ use Rattle.tinyjson_document.proofs.Writing.{Seen, empty_array, empty_object, Ne
 
 -- ---- an empty container
 
-same_places : (a b : ℕ) → not (nat_eq a b) ≡ false → a ≡ b
+pub same_places : (a b : ℕ) → not (nat_eq a b) ≡ false → a ≡ b
 same_places a b h = grind (arith, nat_tests)
 
 pub leaf_array : {T E : Type 0} (w : Option (List ℕ)) (s : Store) (old new : Output) (k : ℕ) (t : Tree) (p : Span) (r : Result T E)
@@ -41,6 +41,9 @@ leaf_object w s old new k t p r e v h =
     subst (λ z. SendsFrom old new z r) (sym (empty_object w s k t p (same_places p.from p.to e) v)) h
 
 -- ---- an item and a member
+
+four : (a b c d : List ℕ) → a ++ (b ++ (c ++ d)) ≡ ((a ++ b) ++ c) ++ d
+four a b c d = simp append_assoc
 
 module _ (w : Option (List ℕ)) (s : Store) where
   -- what is left of an array, and of the containers around it
@@ -67,69 +70,60 @@ module _ (w : Option (List ℕ)) (s : Store) where
     pub are_left : MembersLeft es first rs left
     pub sent : Sent old new (enc xs) (enc left)
 
-  cut : (m : Member) (es : List Member) (first : Bool) (rs : List Rest) (k : ℕ) (ys : List ℕ) (x : NextMember w s m es first rs k ys)
-      → enc ys ≡ enc (before w k first)
-      ++ (enc (quoted x.key ++ (58 ∷ after_colon w)) ++ (enc (text w k x.tree) ++ enc (x.own ++ x.outer)))
-  cut m es first rs k ys x =
+  -- the pieces of the first item, and what is left after it
+  item_cut : (n : Cell) (ns : List Cell) (first : Bool) (rs : List Rest) (k : ℕ) (ys : List ℕ) (x : NextItem w s n ns first rs k ys)
+      → enc ys ≡ (enc (before w k first) ++ enc (text w k x.tree)) ++ enc (x.own ++ x.outer)
+  item_cut n ns first rs k ys x =
+      x.split ∙ ap (λ z. enc (before w k first) ++ z) (encodes-append (text w k x.tree) (x.own ++ x.outer))
+      ∙ sym (append_assoc (enc (before w k first)) (enc (text w k x.tree)) (enc (x.own ++ x.outer)))
+
+  member_cut : (m : Member) (es : List Member) (first : Bool) (rs : List Rest) (k : ℕ) (ys : List ℕ)
+      (x : NextMember w s m es first rs k ys)
+      → enc ys ≡ ((enc (before w k first) ++ enc (quoted x.key ++ (58 ∷ after_colon w))) ++ enc (text w k x.tree))
+      ++ enc (x.own ++ x.outer)
+  member_cut m es first rs k ys x =
       x.split ∙ ap (λ z. enc (before w k first) ++ (enc (quoted x.key ++ (58 ∷ after_colon w)) ++ z))
       (encodes-append (text w k x.tree) (x.own ++ x.outer))
+      ∙ four (enc (before w k first)) (enc (quoted x.key ++ (58 ∷ after_colon w))) (enc (text w k x.tree)) (enc (x.own ++ x.outer))
 
   module _ {old mid new : Output} (xs : List ℕ) where
     pub item_fails : (n : Cell) (ns all : List Cell) (first : Bool) (rs : List Rest) (k : ℕ) (p : ItemsPassed old mid xs all first rs)
-        → NextItem w s n ns first rs k p.left → SentPart mid new (enc (before w k first)) → SentPart old new (enc xs)
+        (x : NextItem w s n ns first rs k p.left) → SentPart mid new (enc (before w k first) ++ enc (text w k x.tree))
+        → SentPart old new (enc xs)
     item_fails n ns all first rs k p x h = stops_then (enc p.left) p.sent
-        (stops (enc (text w k x.tree ++ (x.own ++ x.outer))) h (written_none _ _ _ x.split))
+        (stops (enc (x.own ++ x.outer)) h (written_none _ _ _ (item_cut n ns first rs k p.left x)))
 
-    pub leaf_fails : {begun : Output} (n : Cell) (ns all : List Cell) (first : Bool) (rs : List Rest) (k : ℕ)
-        (p : ItemsPassed old mid xs all first rs) (x : NextItem w s n ns first rs k p.left)
-        → Sent mid begun (enc (before w k first)) [] → SentPart begun new (enc (text w k x.tree)) → SentPart old new (enc xs)
-    leaf_fails n ns all first rs k p x h f =
-        let rest = x.own ++ x.outer in
-        stops_then (enc p.left) p.sent (stops (enc rest) f
-        (goes (enc (text w k x.tree) ++ enc rest) h
-        (written_none _ _ _ (x.split ∙ ap (λ z. enc (before w k first) ++ z) (encodes-append (text w k x.tree) rest)))))
-
-    pub item_passed : {begun : Output} (n : Cell) (ns all : List Cell) (first : Bool) (rs : List Rest) (k : ℕ)
-        (p : ItemsPassed old mid xs all first rs) (x : NextItem w s n ns first rs k p.left)
-        → Sent mid begun (enc (before w k first)) [] → Sent begun new (enc (text w k x.tree)) [] → ItemsPassed old new xs ns false rs
-    item_passed n ns all first rs k p x h f =
+    pub item_passed : (n : Cell) (ns all : List Cell) (first : Bool) (rs : List Rest) (k : ℕ) (p : ItemsPassed old mid xs all first rs)
+        (x : NextItem w s n ns first rs k p.left) → Sent mid new (enc (before w k first) ++ enc (text w k x.tree)) []
+        → ItemsPassed old new xs ns false rs
+    item_passed n ns all first rs k p x h =
         let rest = x.own ++ x.outer in
         record {
           left = rest;
           are_left = (x.own, x.outer, refl, x.rest, x.left);
-          sent = written_then (enc p.left) (enc rest) p.sent (goes (enc rest) f
-              (goes (enc (text w k x.tree) ++ enc rest) h
-              (written_none _ _ _ (x.split ∙ ap (λ z. enc (before w k first) ++ z) (encodes-append (text w k x.tree) rest)))));
+          sent = written_then (enc p.left) (enc rest) p.sent
+              (goes (enc rest) h (written_none _ _ _ (item_cut n ns first rs k p.left x)));
         }
 
     pub member_fails : (m : Member) (es all : List Member) (first : Bool) (rs : List Rest) (k : ℕ)
-        (p : MembersPassed old mid xs all first rs) → NextMember w s m es first rs k p.left
-        → SentPart mid new (enc (before w k first)) → SentPart old new (enc xs)
-    member_fails m es all first rs k p x h = stops_then (enc p.left) p.sent (stops _ h (written_none _ _ _ x.split))
-
-    pub key_fails : {begun : Output} (m : Member) (es all : List Member) (first : Bool) (rs : List Rest) (k : ℕ)
         (p : MembersPassed old mid xs all first rs) (x : NextMember w s m es first rs k p.left)
-        → Sent mid begun (enc (before w k first)) [] → SentPart begun new (enc (quoted x.key ++ (58 ∷ after_colon w)))
+        → SentPart mid new ((enc (before w k first) ++ enc (quoted x.key ++ (58 ∷ after_colon w))) ++ enc (text w k x.tree))
         → SentPart old new (enc xs)
-    key_fails m es all first rs k p x h f = stops_then (enc p.left) p.sent (stops _ f (goes _ h (written_none _ _ _ x.split)))
+    member_fails m es all first rs k p x h = stops_then (enc p.left) p.sent
+        (stops (enc (x.own ++ x.outer)) h (written_none _ _ _ (member_cut m es first rs k p.left x)))
 
-    pub value_fails : {begun keyed : Output} (m : Member) (es all : List Member) (first : Bool) (rs : List Rest) (k : ℕ)
+    pub member_passed : (m : Member) (es all : List Member) (first : Bool) (rs : List Rest) (k : ℕ)
         (p : MembersPassed old mid xs all first rs) (x : NextMember w s m es first rs k p.left)
-        → Sent mid begun (enc (before w k first)) [] → Sent begun keyed (enc (quoted x.key ++ (58 ∷ after_colon w))) []
-        → SentPart keyed new (enc (text w k x.tree)) → SentPart old new (enc xs)
-    value_fails m es all first rs k p x h g f =
-        stops_then (enc p.left) p.sent (stops _ f (goes _ g (goes _ h (written_none _ _ _ (cut m es first rs k p.left x)))))
-
-    pub member_passed : {begun keyed : Output} (m : Member) (es all : List Member) (first : Bool) (rs : List Rest) (k : ℕ)
-        (p : MembersPassed old mid xs all first rs) (x : NextMember w s m es first rs k p.left)
-        → Sent mid begun (enc (before w k first)) [] → Sent begun keyed (enc (quoted x.key ++ (58 ∷ after_colon w))) []
-        → Sent keyed new (enc (text w k x.tree)) [] → MembersPassed old new xs es false rs
-    member_passed m es all first rs k p x h g f = record {
-      left = x.own ++ x.outer;
-      are_left = (x.own, x.outer, refl, x.rest, x.left);
-      sent = written_then (enc p.left) (enc (x.own ++ x.outer)) p.sent (goes _ f (goes _ g (goes _ h (written_none _ _ _
-          (cut m es first rs k p.left x)))));
-    }
+        → Sent mid new ((enc (before w k first) ++ enc (quoted x.key ++ (58 ∷ after_colon w))) ++ enc (text w k x.tree)) []
+        → MembersPassed old new xs es false rs
+    member_passed m es all first rs k p x h =
+        let rest = x.own ++ x.outer in
+        record {
+          left = rest;
+          are_left = (x.own, x.outer, refl, x.rest, x.left);
+          sent = written_then (enc p.left) (enc rest) p.sent
+              (goes (enc rest) h (written_none _ _ _ (member_cut m es first rs k p.left x)));
+        }
 
 -- ---- one value less
 

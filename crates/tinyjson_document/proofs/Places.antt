@@ -63,7 +63,7 @@ module _ (s : Store) where
   boolean_is (array ts) n h = ap boolean_at h.1
   boolean_is (object ms) n h = ap boolean_at h.1
 
-  number_there : (d : Decimal) (i : ℕ) → IsNumberAt s d i → option_map (λ c. c.decimal) (slice_get s.numbers.items i) ≡ Some d
+  pub number_there : (d : Decimal) (i : ℕ) → IsNumberAt s d i → option_map (λ c. c.decimal) (slice_get s.numbers.items i) ≡ Some d
   number_there d i h =
       ap (λ j. option_map (λ c. c.decimal) (slice_get s.numbers.items j)) h.place
       ∙ ap (λ z. option_map (λ c. c.decimal) (slice_get z (length h.front))) h.whole ∙ at h.front ∙ ap Some h.decimal

@@ -11,6 +11,7 @@ mod equality;
 pub mod iterators;
 mod layout;
 pub mod node;
+mod quick;
 #[doc(hidden)]
 pub mod ranking;
 #[doc(hidden)]

@@ -6,9 +6,9 @@ ghost use Rattle.tinyjson_grammar.specs.Tree.{Tree};
 ghost use Rattle.tinyjson.specs.Indent.{indent_of};
 ghost use Rattle.tinyjson_grammar.specs.Text.{text, before, quoted, newline, after_colon};
 ghost use Rattle.tinyjson_grammar.specs.Characters.{name_separator};
-ghost use Rattle.tinyjson_number.specs.Text.{decimal_text};
 ghost use Rattle.tinyjson_document.specs.declared.walk.Rest.TheVariants.{Items, Members};
 ghost use Rattle.tinyjson_document.specs.Cell.{Is, IsBytes};
+ghost use Rattle.tinyjson_document.specs.Order.{part};
 ghost use Rattle.tinyjson_document.specs.declared.store.Store.{Store as Nodes};
 ghost use Rattle.tinyjson_document.specs.Walking.{head, holds_others, IsRest, AreLeft, Advances, Passes, cost};
 ghost use Rattle.tinyjson_document.specs.Walking.{rest_cost, left_cost};
@@ -16,13 +16,11 @@ ghost use Rattle.tinyjson_output.specs.Buffer.{buffered, Sends, SendsText};
 ghost use Rattle.tinyjson_output.specs.Written.{WritesPrefix};
 
 use crate::layout::separate;
-use crate::store::{Cell, Member, Store, part};
+use crate::quick::{Line, quick_item, quick_key, quick_member};
+use crate::store::{Cell, Member, Span, Store, part};
 use std::alloc::{AllocError, Global};
 use std::io::{self, ErrorKind, Write};
-use tinyjson_number::JsonNumber;
-use tinyjson_output::{
-    Buffer, flush, quick_number, quick_text, quote, write_bytes, write_colon, write_number,
-};
+use tinyjson_output::{Buffer, flush, quick_text, quote, write_bytes, write_colon, write_number};
 
 /// What is left to write of an open container, before its closing bracket. `first` is true while nothing of it is
 /// written.
@@ -105,10 +103,10 @@ impl<'a> Walk<'a> {
         ensures most { self.new.most ≡ self.old.most }
         ensures indent { self.new.indent ≡ self.old.indent }
     {
-        match empty_text(node) {
-            Some(brackets) => write_bytes(out, &mut self.buffer, brackets),
-            None => self.open(out, node),
+        if !holds_others(node) {
+            return write_leaf(out, &mut self.buffer, self.store, node);
         }
+        self.open(out, node)
     }
 
     /// Writes a value, or its opening bracket, and opens what is left of it.
@@ -210,8 +208,15 @@ impl<'a> Walk<'a> {
             if holds_others(*node) {
                 return Ok(Rest::Items { rest, first });
             }
-            separate(out, &mut self.buffer, indent, level + 1, first)?;
-            write_leaf(out, &mut self.buffer, store, *node)?;
+            let line = Line {
+                indent,
+                level: level + 1,
+                first,
+            };
+            if !quick_item(&mut self.buffer, store, line, *node) {
+                separate(out, &mut self.buffer, indent, level + 1, first)?;
+                write_leaf(out, &mut self.buffer, store, *node)?;
+            }
             rest = others;
             first = false;
         }
@@ -241,10 +246,15 @@ impl<'a> Walk<'a> {
             if holds_others(member.value) {
                 return Ok(Rest::Members { rest, first });
             }
-            separate(out, &mut self.buffer, indent, level + 1, first)?;
-            let key = part(&store.texts, member.key);
-            write_key(out, &mut self.buffer, indent, key)?;
-            write_leaf(out, &mut self.buffer, store, member.value)?;
+            let line = Line {
+                indent,
+                level: level + 1,
+                first,
+            };
+            if !quick_member(&mut self.buffer, store, line, *member) {
+                begin_member(out, &mut self.buffer, store, line, member.key)?;
+                write_leaf(out, &mut self.buffer, store, member.value)?;
+            }
             rest = others;
             first = false;
         }
@@ -302,9 +312,12 @@ impl<'a> Walk<'a> {
         let Some((member, rest)) = members.split_first() else {
             return close(out, &mut self.buffer, self.indent, level, first, b"}");
         };
-        separate(out, &mut self.buffer, self.indent, level + 1, first)?;
-        let key = part(&self.store.texts, member.key);
-        write_key(out, &mut self.buffer, self.indent, key)?;
+        let line = Line {
+            indent: self.indent,
+            level: level + 1,
+            first,
+        };
+        begin_member(out, &mut self.buffer, self.store, line, member.key)?;
         push(
             &mut self.stack,
             self.most,
@@ -324,8 +337,33 @@ fn holds_others(node: Cell) -> bool
     }
 }
 
-/// Writes a scalar, or an empty container.
+/// Writes what precedes a member, its key and the colon.
 #[inline(always)]
+fn begin_member<W: Write>(
+    out: &mut W,
+    buffer: &mut Buffer,
+    store: &Store,
+    line: Line<'_>,
+    key: Span,
+) -> io::Result<()>
+    ensures { (cs : List ℕ) → IsBytes cs (part store.now.texts.items key)
+        → Sends W.contents out.old out.new buffer.old buffer.new
+        (encode_utf8_all (before (indent_of line.entry.indent) line.entry.level line.entry.first)
+        ++ encode_utf8_all (quoted cs
+        ++ (name_separator ∷ after_colon (indent_of line.entry.indent))))
+        result }
+{
+    let bytes = part(&store.texts, key);
+    if quick_key(buffer, line, bytes) {
+        return Ok(());
+    }
+    separate(out, buffer, line.indent, line.level, line.first)?;
+    write_text(out, buffer, bytes)?;
+    write_colon(out, buffer, line.indent)
+}
+
+/// Writes a scalar, or an empty container.
+#[inline(never)]
 fn write_leaf<W: Write>(
     out: &mut W,
     buffer: &mut Buffer,
@@ -376,19 +414,6 @@ fn rest_of<'a>(store: &'a Store, node: Cell) -> Option<Rest<'a>>
     }
 }
 
-/// The whole text of a container that is empty.
-#[inline(always)]
-fn empty_text(node: Cell) -> Option<&'static [u8]>
-    ensures { (s : Nodes) (w : Option (List ℕ)) (k : ℕ) (t : Tree) → Is s t node →
-        IfSome result (λ brackets. encode_utf8_all (text w k t) ≡ brackets.now) }
-{
-    match node {
-        Cell::Array(span) if span.from == span.to => Some(b"[]"),
-        Cell::Object(span) if span.from == span.to => Some(b"{}"),
-        _ => None,
-    }
-}
-
 /// Writes a scalar, an empty container, or an opening bracket.
 #[inline(always)]
 fn write_head<W: Write>(
@@ -405,23 +430,13 @@ fn write_head<W: Write>(
         Cell::Boolean(true) => write_bytes(out, buffer, b"true"),
         Cell::Boolean(false) => write_bytes(out, buffer, b"false"),
         Cell::Number(index) => match store.numbers.get(index as usize) {
-            Some(number) => write_decimal(out, buffer, number),
+            Some(number) => write_number(out, buffer, number),
             None => Err(io::Error::from(ErrorKind::InvalidData)),
         },
         Cell::String(span) => write_text(out, buffer, part(&store.texts, span)),
         Cell::Array(_) => write_bytes(out, buffer, b"["),
         Cell::Object(_) => write_bytes(out, buffer, b"{"),
     }
-}
-
-fn write_decimal<W: Write>(out: &mut W, buffer: &mut Buffer, number: &JsonNumber) -> io::Result<()>
-    ensures { SendsText W.contents out.old out.new buffer.old buffer.new
-        (decimal_text number.now.decimal) result }
-{
-    if quick_number(buffer, number) {
-        return Ok(());
-    }
-    write_number(out, buffer, number)
 }
 
 /// Writes characters between quotes.
@@ -437,22 +452,6 @@ fn write_text<W: Write>(out: &mut W, buffer: &mut Buffer, bytes: &[u8]) -> io::R
         Ok(text) => quote(out, buffer, text),
         Err(_) => Err(io::Error::from(ErrorKind::InvalidData)),
     }
-}
-
-/// Writes the key of a member, and the separator between it and the value.
-#[inline(always)]
-fn write_key<W: Write>(
-    out: &mut W,
-    buffer: &mut Buffer,
-    indent: Option<&str>,
-    key: &[u8],
-) -> io::Result<()>
-    ensures { (cs : List ℕ) → IsBytes cs key.now
-        → SendsText W.contents out.old out.new buffer.old buffer.new
-        (quoted cs ++ (name_separator ∷ after_colon (indent_of indent.entry))) result }
-{
-    write_text(out, buffer, key)?;
-    write_colon(out, buffer, indent)
 }
 
 /// Writes the closing bracket of a container at the level, in indented text on a line of its own unless the

@@ -1,8 +1,8 @@
-use Rattle.std.proofs.Common.{◌≡◌, ◌+◌, ◌∙◌, ◌++◌, [], ◌∷◌, false, sym, ap, subst, cond, length, length-append, reverse, arith}
+use Rattle.std.proofs.Common.{◌≡◌, ◌+◌, ◌∙◌, ◌++◌, [], ◌∷◌, false, sym, ap, cond, length, length-append, append_assoc, reverse, arith}
 use Rattle.std.proofs.lemmas.List.{length-reverse}
 use Rattle.std.proofs.lemmas.Result.{MatchResult-from_err}
 use Rattle.tinyjson.specs.Indent.{indent_of}
-use Rattle.tinyjson_grammar.specs.Text.{text, quoted, newline, after_colon}
+use Rattle.tinyjson_grammar.specs.Text.{text, quoted, newline, before, after_colon}
 use Rattle.tinyjson_output.proofs.Callers.{
   enc,
   sent_goes as goes,
@@ -10,8 +10,6 @@ use Rattle.tinyjson_output.proofs.Callers.{
   sent_stop as stop,
   sent_written_none as written_none,
 }
-use Rattle.tinyjson_document.specs.Cell.{IsBytes}
-use Rattle.tinyjson_document.specs.Order.{part}
 use Rattle.tinyjson_document.specs.declared.walk.Rest.TheVariants.{Members}
 use Rattle.tinyjson_document.proofs.Writing.{
   next_member,
@@ -41,31 +39,18 @@ returns-in_default-clause-less g c =
     let a = c.args.self.now in ok_always c.close.result (less_close a.store.now a.most (Members c.args.members c.args.first)
     (reverse a.stack.items))
 
-pub returns-in_err-separate-clause-sent : goal.returns-in_err-separate-clause-sent
-returns-in_err-separate-clause-sent g c = λ xs h.
+pub returns-in_err-begin_member-clause-sent : goal.returns-in_err-begin_member-clause-sent
+returns-in_err-begin_member-clause-sent g c = λ xs h.
     let a = c.args.self.now in
     let w = indent_of a.indent in
     let k = c.len-level.result + 1 in
     let l : c.len-level.result ≡ length a.stack.items = omega (arith, a.stack.ok.0, c.len-level.ensures) in
     let n = next_member w a.store.now c.in-Some.member.now c.in-Some.rest.now c.args.members.now c.args.first _ k xs
     (one_more a.stack.items c.len-level.result l) c.in-Some.ensures.cases.0 h in
+    let rest = enc (text w k n.tree ++ (n.own ++ n.outer)) in
+    let split = n.split ∙ sym (append_assoc (enc (before w k c.args.first)) (enc (quoted n.key ++ (58 ∷ after_colon w))) rest) in
     MatchResult-from_err _ _ _ c.from_residual.ensures.0
-    (λ _. stops (enc (quoted n.key ++ (58 ∷ after_colon w)) ++ enc (text w k n.tree ++ (n.own ++ n.outer))) c.in_err-separate.ensures
-    (written_none _ _ _ n.split))
-
-pub returns-in_err-write_key-clause-sent : goal.returns-in_err-write_key-clause-sent
-returns-in_err-write_key-clause-sent g c = λ xs h.
-    let a = c.args.self.now in
-    let w = indent_of a.indent in
-    let k = c.len-level.result + 1 in
-    let l : c.len-level.result ≡ length a.stack.items = omega (arith, a.stack.ok.0, c.len-level.ensures) in
-    let n = next_member w a.store.now c.in-Some.member.now c.in-Some.rest.now c.args.members.now c.args.first _ k xs
-    (one_more a.stack.items c.len-level.result l) c.in-Some.ensures.cases.0 h in
-    let key = subst (IsBytes n.key) (sym (c.part-key.ensures ∙ ap (λ z. part z c.in-Some.member.now.key) c.deref.ensures.value)) n.is_key in
-    MatchResult-from_err _ _ _ c.from_residual-in_err-write_key.ensures.0
-    (λ _. stops (enc (text w k n.tree ++ (n.own ++ n.outer))) (c.in_err-write_key.ensures n.key key)
-    (goes (enc (quoted n.key ++ (58 ∷ after_colon w)) ++ enc (text w k n.tree ++ (n.own ++ n.outer))) c.in_ok-separate.ensures
-    (written_none _ _ _ n.split)))
+    (λ _. stops rest (c.in_err-begin_member.ensures n.key n.is_key) (written_none _ _ _ split))
 
 pub returns-in_err-push-clause-sent : goal.returns-in_err-push-clause-sent
 returns-in_err-push-clause-sent g c = λ xs h.
@@ -75,11 +60,10 @@ returns-in_err-push-clause-sent g c = λ xs h.
     let l : c.len-level.result ≡ length a.stack.items = omega (arith, a.stack.ok.0, c.len-level.ensures) in
     let n = next_member w a.store.now c.in-Some.member.now c.in-Some.rest.now c.args.members.now c.args.first _ k xs
     (one_more a.stack.items c.len-level.result l) c.in-Some.ensures.cases.0 h in
-    let key = subst (IsBytes n.key) (sym (c.part-key.ensures ∙ ap (λ z. part z c.in-Some.member.now.key) c.deref.ensures.value)) n.is_key in
+    let rest = enc (text w k n.tree ++ (n.own ++ n.outer)) in
+    let split = n.split ∙ sym (append_assoc (enc (before w k c.args.first)) (enc (quoted n.key ++ (58 ∷ after_colon w))) rest) in
     MatchResult-from_err _ _ _ c.from_residual-in_err-push.ensures.0
-    (λ _. stop (goes (enc (text w k n.tree ++ (n.own ++ n.outer))) (c.in_ok-write_key.ensures n.key key)
-    (goes (enc (quoted n.key ++ (58 ∷ after_colon w)) ++ enc (text w k n.tree ++ (n.own ++ n.outer))) c.in_ok-separate.ensures
-    (written_none _ _ _ n.split))))
+    (λ _. stop (goes rest (c.in_ok-begin_member.ensures n.key n.is_key) (written_none _ _ _ split)))
 
 pub returns-clause-sent : goal.returns-clause-sent
 returns-clause-sent g c = λ xs h.
@@ -89,15 +73,14 @@ returns-clause-sent g c = λ xs h.
     let l : c.len-level.result ≡ length a.stack.items = omega (arith, a.stack.ok.0, c.len-level.ensures) in
     let n = next_member w a.store.now c.in-Some.member.now c.in-Some.rest.now c.args.members.now c.args.first _ k xs
     (one_more a.stack.items c.len-level.result l) c.in-Some.ensures.cases.0 h in
-    let key = subst (IsBytes n.key) (sym (c.part-key.ensures ∙ ap (λ z. part z c.in-Some.member.now.key) c.deref.ensures.value)) n.is_key in
+    let rest = enc (text w k n.tree ++ (n.own ++ n.outer)) in
+    let split = n.split ∙ sym (append_assoc (enc (before w k c.args.first)) (enc (quoted n.key ++ (58 ∷ after_colon w))) rest) in
     let left = left_pushed w a.store.now a.stack.items c.push.new.stack.items
     (Members c.in-Some.rest false) n.own n.outer c.in_ok-push.ensures.stack n.rest n.left in
     then_advances w a.store.now _ _ _ xs (text w k n.tree ++ (n.own ++ n.outer)) _ c.begin.result
     (c.begin.ensures.sent n.tree k (n.own ++ n.outer) n.is (ap length c.in_ok-push.ensures.stack ∙ length-append a.stack.items _
     ∙ ap (λ m. m + 1) (sym l)) left)
-    (goes (enc (text w k n.tree ++ (n.own ++ n.outer))) (c.in_ok-write_key.ensures n.key key)
-    (goes (enc (quoted n.key ++ (58 ∷ after_colon w)) ++ enc (text w k n.tree ++ (n.own ++ n.outer))) c.in_ok-separate.ensures
-    (written_none _ _ _ n.split)))
+    (goes rest (c.in_ok-begin_member.ensures n.key n.is_key) (written_none _ _ _ split))
 
 pub returns-clause-less : goal.returns-clause-less
 returns-clause-less g c =

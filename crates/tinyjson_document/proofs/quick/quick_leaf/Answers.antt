@@ -1,0 +1,47 @@
+use Rattle.std.proofs.Common.{◌≡◌, ◌∙◌, Some, true, false, sym, ap, option_map, slice_get, arith, rules, refl}
+use Rattle.std.proofs.lemmas.Grind.{common_steps}
+use Rattle.std.proofs.lemmas.Option.{slice_get_cases}
+use Rattle.tinyjson_document.specs.Order.{part}
+use Rattle.tinyjson_document.proofs.Buffering.{same_bytes, null_is, true_is, false_is, number_is, string_is, array_is, object_is}
+use Rattle.tinyjson_document.proofs.quick.quick_leaf.Goals as goal
+
+pub returns-in-Null : goal.returns-in-Null
+returns-in-Null c = λ w k t e h.
+    same_bytes c.quick_word.result _ _ _ _ (null_is w k c.args.store.now t c.args.node c.in-Null.is h) c.quick_word.ensures
+
+pub returns-in-Boolean-true : goal.returns-in-Boolean-true
+returns-in-Boolean-true c = λ w k t e h.
+    let b : c.in-Boolean-true.field-0 ≡ true = search rules in
+    same_bytes c.quick_word-in-Boolean-true.result _ _ _ _ (true_is w k c.args.store.now t c.args.node _ c.in-Boolean-true.is b h)
+    c.quick_word-in-Boolean-true.ensures
+
+pub returns-in-Boolean-false : goal.returns-in-Boolean-false
+returns-in-Boolean-false c = λ w k t e h.
+    let b : c.in-Boolean-false.field-0 ≡ false = search rules in
+    same_bytes c.quick_word-in-Boolean-false.result _ _ _ _ (false_is w k c.args.store.now t c.args.node _ c.in-Boolean-false.is b h)
+    c.quick_word-in-Boolean-false.ensures
+
+pub returns-in-Some : goal.returns-in-Some
+returns-in-Some c = λ w k t e h.
+    let s = c.args.store.now in
+    let i = c.in-Number.index in
+    let got : option_map (λ x. x.now) c.get.result ≡ slice_get s.numbers.items i
+    = grind (arith, common_steps, slice_get_cases s.numbers.items i) in
+    let here : Some c.in-Some.number.now ≡ slice_get s.numbers.items i = ap (option_map (λ x. x.now)) (sym c.in-Some.is) ∙ got in
+    same_bytes c.quick_number.result _ _ _ _ (number_is w k s t c.args.node i c.in-Some.number.now c.in-Number.is here h)
+    c.quick_number.ensures
+
+pub returns-in-String : goal.returns-in-String
+returns-in-String c = λ w k t e h.
+    let is = c.part.ensures ∙ ap (λ z. part z c.in-String.span) c.deref-in-String.ensures.value in
+    same_bytes c.quick_text.result _ _ _ _ (string_is w k c.args.store.now t c.args.node _ _ c.in-String.is is h) c.quick_text.ensures
+
+pub returns-in-Array : goal.returns-in-Array
+returns-in-Array c = λ w k t e h.
+    same_bytes c.quick_word-in-Array.result _ _ _ _ (array_is w k c.args.store.now t c.args.node _ c.in-Array.is e h)
+    c.quick_word-in-Array.ensures
+
+pub returns-in-Object : goal.returns-in-Object
+returns-in-Object c = λ w k t e h.
+    same_bytes c.quick_word-in-Object.result _ _ _ _ (object_is w k c.args.store.now t c.args.node _ c.in-Object.is e h)
+    c.quick_word-in-Object.ensures
