@@ -59,7 +59,7 @@ fn answer_value<W: Write>(
     answer
 }
 
-/// Changes a value, and writes its text.
+/// Changes a value, and writes its text. Where the patch fails, the value may be any value then.
 fn answer_changed<W: Write>(
     alloc: Global,
     asked: Asked<'_>,
@@ -69,7 +69,7 @@ fn answer_changed<W: Write>(
     ensures { Answers (GivesPatchedOf asked.entry.is_indented (actions_of asked.entry.patch.now)
         (view value.old)) (W.contents output.old) (W.contents output.new) result }
 {
-    match asked.patch.apply(alloc, value) {
+    match asked.patch.apply_in_place(alloc, value) {
         Ok(()) => {
             write_laid_out(alloc, value, asked.is_indented, output)?;
             Ok(None)

@@ -52,8 +52,8 @@ impl Error for ApplyError {}
 impl Patch {
     /// Applies all operations to the value (RFC 6902, section 5). After an error the value is unchanged.
     ///
-    /// It applies them to a copy, so it takes the time and the memory of a copy. An operation recurses once
-    /// for each token of its pointers.
+    /// It applies them to a copy, so it takes the time and the memory of a copy, which
+    /// [`Patch::apply_in_place`] saves. An operation recurses once for each token of its pointers.
     ///
     /// ```
     /// patch.apply(alloc, &mut value)?; // [1,2] by [{"op":"remove","path":"/0"}] is then [2]
@@ -63,7 +63,7 @@ impl Patch {
             (view value.old) result (view value.new) }
     {
         let mut changed = value.try_clone(alloc)?;
-        match self.run(alloc, &mut changed) {
+        match self.apply_in_place(alloc, &mut changed) {
             Ok(()) => {
                 mem::replace(value, changed).dismantle();
                 Ok(())
@@ -75,8 +75,13 @@ impl Patch {
         }
     }
 
-    /// Applies the operations in order. After an error the value may have any state.
-    fn run(&self, alloc: Global, value: &mut JsonValue) -> Result<(), ApplyError>
+    /// Applies all operations to the value itself (RFC 6902, section 5), with the results and the errors of
+    /// [`Patch::apply`]. After an error the value may be any value: it is for those who then give it up.
+    ///
+    /// ```
+    /// patch.apply_in_place(alloc, &mut value)?; // [1,2] by [{"op":"remove","path":"/0"}] is then [2]
+    /// ```
+    pub fn apply_in_place(&self, alloc: Global, value: &mut JsonValue) -> Result<(), ApplyError>
         ensures { RunsAll (all_applied 0 (actions_of self.now) (view value.old))
             result (view value.new) }
     {

@@ -3,7 +3,7 @@ use Rattle.tinyjson.specs.View.{view}
 use Rattle.tinyjson_patch.specs.Patch.{actions_of, all_applied, RunsAll}
 use Rattle.tinyjson_patch.proofs.Documents.{error_back}
 use Rattle.tinyjson_patch.proofs.Turns.{as_many, run_begins, run_on, run_over, fewer, stopped_at, stopped_beside}
-use Rattle.tinyjson_patch.proofs.patch.Patch.run.Goals as goal
+use Rattle.tinyjson_patch.proofs.patch.Patch.apply_in_place.Goals as goal
 
 pub loop-operation-init : goal.loop-operation-init
 loop-operation-init c =

@@ -3,7 +3,7 @@ use Rattle.tinyjson.specs.View.{view}
 use Rattle.tinyjson_patch.specs.Operation.{action_of}
 use Rattle.tinyjson_patch.specs.Patch.{actions_of, all_applied}
 use Rattle.tinyjson_patch.specs.Running.{last_applied}
-use Rattle.tinyjson_patch.proofs.patch.Patch.run.Given as goal
+use Rattle.tinyjson_patch.proofs.patch.Patch.apply_in_place.Given as goal
 
 abbrev pub invariant-loop-operation : goal.invariant-loop-operation
 invariant-loop-operation l = (length l.rest ≤ l.total)
