@@ -9,6 +9,7 @@ import json
 import whole
 from checks import shared
 from faults import BROKEN, FOLDER, FULL, NO_TEXT, Faults
+from long_lines import LongLines, reports_each
 from padded_queries import padded_refusal_of_query, padded_selection
 from padding import padded_rows
 from pages import Page, misused
@@ -493,7 +494,7 @@ LONG_PATHS = [
     (["$"], b"[1,]", reported(3, "json_path", "Parse error at line:1, col:3: Invalid character: ]")),
     *((words, b"1", misused("json_path", "QUERY is missing")) for words in ([], ["-p"])),
     *((words, b"1", misused("json_path", "an argument is not UTF-8")) for words in ([NOT_UTF8], ["-p", NOT_UTF8])),
-    (["-q", "$"], b"1", misused("json_path", 'unknown option "-q"')),
+    (["-x", "$"], b"1", misused("json_path", 'unknown option "-x"')),
     *((words, b"[1]", printed(b"$[0]")) for words in (["$[0]", "-p"], ["--paths", "$[0]"], ["-pp", "--", "$[0]", "-"])),
 ]
 
@@ -524,11 +525,84 @@ ROWS = [
     (["$"], b"\x1b", reported(3, "json_path", "Parse error at line:1, col:0: Invalid character: U+001B")),
 ]
 
+# The same with options.
+FOUR = rb'{"a":["x\ny","\"\u00e9",1.0,["z"]],"b":"w"}'
+OPTIONS = [
+    # -r: strings without quotes and escapes, all else as it is; not paths.
+    (["-r", "$.b"], FOUR, printed(b"w")),
+    (["--raw", "$.a[*]"], FOUR, printed(b"x\ny", '"\u00e9'.encode(), b"1", b'["z"]')),
+    (["-r", "$"], b'""', printed(b"")),
+    (["-r", "$[0]"], b'["' + b"x" * 100_000 + b'"]', printed(b"x" * 100_000)),
+    (["-rp", "$.b"], FOUR, printed(b"$['b']")),
+    (["-pr", "$['x\\ny']"], rb'{"x\ny":"w"}', printed(b"$['x\\ny']")),
+    # -e: it is an answer that nothing is selected.
+    (["-e", "$.x"], FOUR, (0, b"", b"")),
+    (["--empty", "$.b"], FOUR, printed(b'"w"')),
+    (["-ep", "$..x"], FOUR, (0, b"", b"")),
+    (["-e", "$"], b"[1,]", reported(3, "json_path", "Parse error at line:1, col:3: Invalid character: ]")),
+    (["-e", "$["], b"1", reported(2, "json_path", NO_QUERY % 2)),
+    (["-e", "$[?match(@, 'a{10001}')]"], b'["a"]', reported(4, "json_path", "a regular expression is too large")),
+    # -f: each value on a line, as without -l.
+    (["-f", "$.a[2:]"], FOUR, printed(b"1", b'["z"]')),
+    (["--flat", "-p", "$.a[2:]"], FOUR, printed(b"$['a'][2]", b"$['a'][3]")),
+]
+
+
+def told(output, *lines):
+    """The answer of `json_path -l` that prints this, and reports these lines."""
+    return 1, output, b"".join(b"json_path: line %s\n" % line for line in lines)
+
+
+# Lines, each a text: the arguments, the input, and the answer.
+NOTHING_AT = b"%d: the query selects no node"
+LINES = [
+    (["-l", "$.a"], b"", printed()),
+    (["-l", "$.a"], b'{"a":1.0}\n{"a":"x"}', printed(b"[1]", b'["x"]')),
+    (["--lines", "$[*]"], b"[3,1.0,[2]]\r\n[7]\n", printed(b"[3,1,[2]]", b"[7]")),
+    (["-l", "$[0,0]"], b"[1.0]\n", printed(b"[1,1]")),
+    (["-l", "$.a"], b'{"a":1}\n{}\n{"a":2}', told(b"[1]\n[2]\n", NOTHING_AT % 2)),
+    (["-le", "$.a"], b'{"a":1}\n{}\n{"a":2}', printed(b"[1]", b"[]", b"[2]")),
+    (["-l", "$.a"], b'[1,]\n\n"\xff"\n{"a":3}\n[\n', told(b"[3]\n", b"1, col 3: Invalid character: ]",
+        b"2, col 0: Unexpected EOF", b"3: not UTF-8", b"5, col 1: Unexpected EOF")),
+    (["-le", "$.a"], b"{}\n[1,]\n[]\n", told(b"[]\n[]\n", b"2, col 3: Invalid character: ]")),
+    (["-lp", "$..b"], b'{"a":{"b":1},"b":2}\n[{"b":3}]\n', printed(b'["$[\'b\']","$[\'a\'][\'b\']"]', b'["$[0][\'b\']"]')),
+    (["-lp", "$[*]"], rb'{"\"":1,"\n":2,"\\":3}', printed(rb"""["$['\\n']","$['\"']","$['\\\\']"]""")),
+    (["-lr", "$.*"], rb'{"a":"x\ny","b":1.0}', printed(rb'["x\ny",1]')),
+    (["-lf", "$[*]"], b"[3,1.0]\n[[2]]\n", printed(b"3", b"1", b"[2]")),
+    (["-lfe", "$[*]"], b"[]\n[1]\n", printed(b"1")),
+    (["-lf", "$[*]"], b"[]\n[1]\n", told(b"1\n", NOTHING_AT % 1)),
+    (["-lfp", "$[*]"], b"[5,6]\n", printed(b"$[0]", b"$[1]")),
+    (["-lfr", "$[*]"], rb'["x\ny","z"]', printed(b"x\ny", b"z")),
+    (["-l", "$["], b"{}\n", reported(2, "json_path", NO_QUERY % 2)),
+    (["-l", "$[?match(@, 'a{10001}')]"], b'[1]\n["a"]\n[]\n', told(b"", NOTHING_AT % 1, b"2: a regular expression is too large", NOTHING_AT % 3)),
+    # A pattern of one line is not the one of the next.
+    (["-l", "$.a[?match(@, $.p)]"], b'{"a":["x","y"],"p":"x"}\n{"a":["x","y"],"p":"y"}\n', printed(b'["x"]', b'["y"]')),
+    (["-l", "$[0]"], b"[1.0]\n[]\n" * 35_000, told(b"[1]\n" * 35_000, *(NOTHING_AT % n for n in range(2, 70_001, 2)))),
+    (["-l", "$"], NESTED + b"\n" + LONG, printed(b"[" + NESTED + b"]", b"[" + LONG + b"]")),
+    (["-l", "$[*]"], b"[" + b"1.0," * MANY + b"1.0]", printed(b"[" + b"1," * MANY + b"1]")),
+]
+
+# Deep lines among others.
+DEEP_LINES = [
+    (["-l", "$[1]"], NESTED + b"\n[0,7]\n" + NESTED + b"x\n", told(b"[7]\n", NOTHING_AT % 1, b"3, col 200001: Expected EOF but got character 'x'")),
+    (["-lp", "$..[1]"], UNDER, printed(b'["$' + b"[0]" * 99_999 + b'[1]"]')),
+]
+DEEP_LINES_MEMORY = [(["-l", "$.a"], b'{"a":[1.5,"x",%s],"b":%s}\n{"b":%s}\n' % (DEEP, DEEP, DEEP))]
+
 # The arguments, an input, and the statuses and words where the input is not UTF-8, can't be read, and where the output can't be written.
 STREAMS = [(["$"], b"1", (3, NO_TEXT), (4, FOLDER), (4, FULL))]
 
 # The arguments, an input, what is printed of it, and the statuses and words where a read and where a write fails.
 FAILING = [(["$[*]"], b"[" + LONG + b", 1.0]", LONG + b"\n1\n", (4, BROKEN), (4, BROKEN))]
+
+# Lines that are longer than the limit.
+LONG_LINES = LongLines("json_path", ["-lf", "$"], reports_each("json_path"), is_going=True)
+
+# The same where each line is a text.
+MANY_LINES, MANY_ARRAYS = b'{"a":[1.0]}\n' * 5_000, b"[[1]]\n" * 5_000
+STREAMS_OF_LINES = [(["-l", "$.a"], MANY_LINES, (1, "line 1: not UTF-8"), (4, FOLDER), (4, FULL))]
+FAILING_LINES = [(["-l", "$.a"], MANY_LINES, MANY_ARRAYS, (4, BROKEN), (4, BROKEN))]
+INTERRUPTED_LINES = [(["-l", "$.a"], MANY_LINES * 3, MANY_ARRAYS * 3)]
 
 # Where each request for memory is refused: a value in which queries select, queries with each selector, and one that selects nothing.
 SOME = b'{"a\\n":[1.5,{"b":["x",{"a":{}}]}],"c":[[2,3],4]}'
@@ -546,6 +620,9 @@ REFUSED_MEMORY = [
         ],
         SOME,
     ),
+    (["-re", "$..b[0]"], SOME),
+    (["-l", "$.c[*]"], SOME + b"\n{}\n[1,]\n" + SOME + b"\n"),
+    (["-lp", "$..*"], SOME + b"\n\xff\n"),
 ]
 
 
@@ -584,9 +661,65 @@ def check_rows(checks):
     for row, words, given, expected in answers():
         name = f"json_path: {[word[:60] for word in words]} {given[:60]}"
         checks.row(name, expected, run_small, program("json_path"), words, given, at=row)
-    for row in ROWS:
+    for row in (*ROWS, *OPTIONS, *LINES):
         words, given, expected = row
-        checks.row(f"json_path: {words} {given}", expected, run_of, program("json_path"), words, given, at=row)
+        name = f"json_path: {[word[:60] for word in words]} {given[:60]}"
+        checks.row(name, expected, run_of, program("json_path"), words, given, at=row)
+
+
+# The query in a file: the arguments, its text, and the answer for `[1.0,"x"]`. A line feed at its end is no part of it.
+QUERY_FILES = [
+    (["-q", "query"], b"$[0]", printed(b"1")),
+    (["-q", "query"], b"$[*]\n", printed(b"1", b'"x"')),
+    (["--query-file", "query", "-"], b"$\n[0]\n", printed(b"1")),
+    (["-qp", "query"], b"$['0',1]\n", printed(b"$[1]")),
+    (["-q", "query"], b"$[0]\n\n", reported(2, "json_path", NO_QUERY % 4)),
+    (["-q", "query"], b"$[0]\r\n", reported(2, "json_path", NO_QUERY % 4)),
+    (["-q", "query"], b"", reported(2, "json_path", NO_QUERY % 0)),
+    (["-q", "query"], b"\n", reported(2, "json_path", NO_QUERY % 0)),
+    (["-q", "query"], b"$.\xff", reported(2, "json_path", "query:1:2: not UTF-8")),
+    (["-q", "none"], b"$", reported(2, "json_path", "none: No such file or directory (os error 2)")),
+    (["-lq", "query"], b"$[*]\n", printed(b'[1,"x"]')),
+    (["query"], b"$", reported(2, "json_path", NO_QUERY % 0)),
+]
+
+
+def with_query(checks, words, text):
+    """The answer for a value, where a file has this text."""
+    with open(f"{checks.folder}/query", "wb") as file:
+        file.write(text)
+    return run_of(program("json_path"), words, b'[1.0,"x"]', cwd=checks.folder)
+
+
+def check_query_files(checks):
+    for row in QUERY_FILES:
+        words, text, expected = row
+        checks.row(f"json_path: {words} {text}", expected, with_query, checks, words, text, at=row)
+
+
+def in_files(checks):
+    """The answer for files of lines: one with lines that are refused, one that is not there, and a good one."""
+    for name, text in (("bad", b'{"a":1}\n{}\n[,]\n\xff\n'), ("good", b'{"a":2}\n')):
+        with open(f"{checks.folder}/{name}", "wb") as file:
+            file.write(text)
+    return run_of(program("json_path"), ["-l", "$.a", "bad", "none", "good"], cwd=checks.folder)
+
+
+def check_lines(checks):
+    """What is selected, in lines of which the second is refused, as arrays and each on a line."""
+    words = b"bad:2: the query selects no node\nbad:3:1: Invalid character: ,\nbad:4: not UTF-8\n"
+    answer = (4, b"[1]\n[2]\n", words + b"none: No such file or directory (os error 2)\n")
+    checks.row("json_path -l: files", answer, in_files, checks)
+    checks.row("json_path: --max-line without -l", printed(b"[1,2]"), run_of, program("json_path"), ["-m2", "$"], b"[1,\n2]")
+    for row, document, query, values, paths in selections():
+        line = json.dumps(json.loads(document)).encode()
+        given = line + b"\n[1,]\n" + line + b"\n"
+        arrays = b"[" + b",".join(values) + b"]\n", json.dumps([path.decode() for path in paths], ensure_ascii=False, separators=(",", ":")).encode() + b"\n"
+        flat = [b"".join(it + b"\n" for it in some) for some in (values, paths)]
+        for words, output in (("-le", arrays[0]), ("-lep", arrays[1]), ("-lef", flat[0]), ("-lefp", flat[1])):
+            name = f"json_path {words}: {query[:60]} {document[:60]}"
+            expected = told(output * 2, b"2, col 3: Invalid character: ]")
+            checks.row(name, expected, run_of, program("json_path"), [words, query], given, at=row)
 
 
 def selections():
@@ -604,6 +737,8 @@ def check_padded(checks):
             name = f"json_path: padded {row[0]} {words[0][:2]}"
             expected = printed(*lines) if lines else NO_NODE
             checks.row(name, expected, run_of, program("json_path"), words, document, at=row)
+        name, expected = f"json_path: padded {row[0]} -le", printed(b"[" + b",".join(both[0]) + b"]")
+        checks.row(name, expected, run_of, program("json_path"), ["-le", query], b" ".join(document.split(b"\n")), at=row)
     rows = [(row, *row) for row in REFUSED]
     for row, (query, place) in padded_rows(checks, "json_path, refused", rows, padded_refusal_of_query, UNPADDED_REFUSED):
         name, expected = f"json_path: padded {row[0]}", reported(2, "json_path", NO_QUERY % place)
@@ -611,13 +746,16 @@ def check_padded(checks):
 
 
 def check_deep(checks):
-    FAULTS.deep(checks, DEEP_FAILURES)
-    FAULTS.refusing_deep(checks, DEEP_MEMORY)
+    FAULTS.deep(checks, DEEP_FAILURES + DEEP_LINES)
+    FAULTS.refusing_deep(checks, DEEP_MEMORY + DEEP_LINES_MEMORY)
 
 
 def check_faults(checks):
     FAULTS.streams(checks, STREAMS)
     FAULTS.failing(checks, FAILING)
+    FAULTS.streams(checks, STREAMS_OF_LINES)
+    FAULTS.failing(checks, FAILING_LINES)
+    FAULTS.interrupted(checks, INTERRUPTED_LINES)
 
 
 def check_memory(checks):
@@ -627,9 +765,17 @@ def check_memory(checks):
 PAGE = Page("json_path", ["$"])
 
 
+def check_pipes(checks):
+    Page("json_path", ["-l", "$"], is_lines=True).check_pipes(checks)
+
+
 PARTS = (
     PAGE.check,
     *shared(check_rows),
+    check_query_files,
+    check_lines,
+    check_pipes,
+    LONG_LINES.check,
     check_padded,
     check_deep,
     check_faults,

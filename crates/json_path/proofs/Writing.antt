@@ -1,65 +1,73 @@
--- What is written of nodes is what is written of a text.
-use Rattle.std.proofs.Common.{◌≡◌, ◌≢◌, ℕ, List, [], ◌∷◌, Option, None, Result, Ok, Err, inr, refl, sym, ap, ◌∙◌, subst, ⊎_elim}
-use Rattle.std.specs.Io.KnownBytes.{Appends}
-use Rattle.tinyjson.proofs.Callers.{Appends_written, begins, stop}
+-- What is printed of nodes is what is printed of a text.
+use Rattle.std.proofs.Common.{◌≡◌, ◌==◌, ℕ, true, false, not, List, [], ◌∷◌, length, Option, None, Some, Result, Ok}
+use Rattle.std.proofs.Common.{Err, inl, inr, refl, sym, ap, ◌∙◌, ⊎_elim, arith, suc, encode_utf8_all}
+use Rattle.std.proofs.lemmas.Bool.Decides.{nat_tests}
+use Rattle.std.proofs.KnownBytes.{Keeps-refl}
+use Rattle.std.proofs.lemmas.Bool.{false≢true}
+use Rattle.std.specs.Result.{IsErr}
+use Rattle.std.specs.declared.io.Error.{Error}
+use Rattle.tinyjson.proofs.Callers.{Appends_written}
 use Rattle.tinyjson.specs.Grammar.{IsText}
-use Rattle.tinyjson.specs.Tree.{Tree}
+use Rattle.tinyjson.specs.Tree.{Tree, null, boolean, number, string, array, object}
+use Rattle.tinyjson.specs.Text.{compact}
 use Rattle.tinyjson.specs.Written.{Written, WrittenPart}
-use Rattle.tinyjson_path.specs.Reading.{Reads}
+use Rattle.tinyjson_document.specs.Parts.{string_in}
 use Rattle.tinyjson_path.specs.Query.{Query}
-use Rattle.json_path.specs.Lines.{lines_of, IsFailedWrite, WritesNodes, WritesOfText, WritesOfQuery}
 use Rattle.tinyjson_path.specs.Nodes.{parts_view}
 use Rattle.tinyjson_path.specs.Patterns.{judged}
-use Rattle.tinyjson_path.specs.Queries.{query_parts}
-use Rattle.json_path.specs.declared.lines.Form.{Form}
-use Rattle.json_path.specs.declared.lines.PathError.{PathError}
-use Rattle.json_path.specs.declared.lines.PathError.TheVariants.{BadQuery, Refused, NoNode, Pattern, OutOfMemory, Writing}
+use Rattle.tinyjson_path.specs.Queries.{is_some_part, query_parts}
 use Rattle.tinyjson_path.specs.declared.node.Node.{Node}
+use Rattle.json_path.specs.Selected.{Answers, GivesNodes, GivesText, is_answer, printed}
+use Rattle.json_path.specs.Shapes.{raw_text}
+use Rattle.json_path.specs.declared.selected.Form.{Form}
+use Rattle.json_path.specs.declared.selected.Unanswered.{Unanswered}
+use Rattle.json_path.specs.declared.selected.Unanswered.TheVariants.{Refused, NoNode, Pattern}
 
-some_parts : (ns : List Node) → ns ≢ [] → parts_view ns ≢ []
-some_parts [] h e = h refl
-some_parts (n ∷ ns) h e = cc
+pub some_parts : (ns : List Node) (n : ℕ) → n ≡ length ns → not (n == 0) ≡ is_some_part (parts_view ns)
+some_parts [] n e = ap (λ k. not (k == 0)) e
+some_parts (m ∷ ns) n e =
+    let none : (suc (length ns) == 0) ≡ false = grind (arith, nat_tests) in
+    ap (λ k. not (k == 0)) e ∙ ap not none
 
-module _ (form : Form) (q : Query) (old new : Option (List ℕ)) where
-  module _ (t : Tree) where
-    pub none_selected : (ns : List Node) → parts_view ns ≡ query_parts judged q t → ns ≡ []
-        → WritesNodes judged form q t old old (Err NoNode)
-    none_selected ns p e = (sym p ∙ ap parts_view e, refl)
+-- ---- a string
 
-    -- memory ran out before the first write
-    pub unwritten : WritesNodes judged form q t old old (Err OutOfMemory)
-    unwritten = stop begins
+pub raw_string : (t : Tree) (cs : List ℕ) → string_in t ≡ Some cs → encode_utf8_all cs ≡ encode_utf8_all (raw_text t)
+raw_string (string ds) cs h = let same : cs ≡ ds = cc in ap encode_utf8_all same
+raw_string null cs h = cc
+raw_string (boolean b) cs h = cc
+raw_string (number n) cs h = cc
+raw_string (array ts) cs h = cc
+raw_string (object ms) cs h = cc
 
-    module _ (ns : List Node) (p : parts_view ns ≡ query_parts judged q t) where
-      pub lines_written : ns ≢ [] → Written old new (lines_of form (parts_view ns)) [] → WritesNodes judged form q t old new (Ok tt)
-      lines_written some w =
-          (λ e. some_parts ns some (p ∙ e), subst (λ ps. Appends old new (lines_of form ps)) p (Appends_written old new _ w))
+pub raw_other : (t : Tree) → string_in t ≡ None → encode_utf8_all (compact t) ≡ encode_utf8_all (raw_text t)
+raw_other (string ds) h = cc
+raw_other null h = refl
+raw_other (boolean b) h = refl
+raw_other (number n) h = refl
+raw_other (array ts) h = refl
+raw_other (object ms) h = refl
 
-      pub lines_begun : (wanted : Type 0) (e : PathError) → WrittenPart old new (lines_of form (parts_view ns)) → IsFailedWrite wanted e
-          → WritesNodes judged form q t old new (Err e)
-      lines_begun wanted OutOfMemory w k = subst (λ ps. WrittenPart old new (lines_of form ps)) p w
-      lines_begun wanted Writing w k = subst (λ ps. WrittenPart old new (lines_of form ps)) p w
-      lines_begun wanted (BadQuery e) w k = ⊎_elim (λ h. cc) (λ h. cc) k
-      lines_begun wanted (Refused e) w k = ⊎_elim (λ h. cc) (λ h. cc) k
-      lines_begun wanted NoNode w k = ⊎_elim (λ h. cc) (λ h. cc) k
-      lines_begun wanted (Pattern l) w k = ⊎_elim (λ h. cc) (λ h. cc) k
+-- ---- the answer
 
-  pub of_value : (t : Tree) (text : List ℕ) (r : Result (Unit {0}) PathError) → IsText None text t → WritesNodes judged form q t old new r
-      → WritesOfText judged form q text old new r
-  of_value t text (Ok x) s w = (t, s, w)
-  of_value t text (Err Writing) s w = (t, s, w)
-  of_value t text (Err NoNode) s w = (t, s, w)
-  of_value t text (Err (Pattern l)) s w = (t, s, w)
-  of_value t text (Err OutOfMemory) s w = inr (t, s, w)
-  of_value t text (Err (BadQuery e)) s w = absurd w
-  of_value t text (Err (Refused e)) s w = absurd w
+module _ (form : Form) (q : Query) (old new : Option (List ℕ)) (t : Tree) where
+  module _ (ns : List Node) (p : parts_view ns ≡ query_parts judged q t) where
+    pub none_selected : is_answer form (parts_view ns) ≡ false → Answers (GivesNodes judged form q t) old old (Ok (Some NoNode))
+    none_selected e = (ap (is_answer form) (sym p) ∙ e, Keeps-refl old)
 
-  pub of_query : (query text : List ℕ) (r : Result (Unit {0}) PathError) → Reads query (Ok q) → WritesOfText judged form q text old new r
-      → WritesOfQuery judged form query text old new r
-  of_query query text (Ok x) s w = (q, s, w)
-  of_query query text (Err Writing) s w = (q, s, w)
-  of_query query text (Err NoNode) s w = (q, s, w)
-  of_query query text (Err (Pattern l)) s w = (q, s, w)
-  of_query query text (Err (Refused e)) s w = (q, s, w)
-  of_query query text (Err OutOfMemory) s w = inr (q, s, w)
-  of_query query text (Err (BadQuery e)) s w = absurd w.2
+    pub nodes_written : is_answer form (parts_view ns) ≡ true → Written old new (printed form (parts_view ns)) []
+        → Answers (GivesNodes judged form q t) old new (Ok None)
+    nodes_written e w =
+        (printed form (parts_view ns), (ap (is_answer form) (sym p) ∙ e, ap (printed form) p), Appends_written old new _ w)
+
+    pub nodes_begun : (r : Result (Option Unanswered) Error) → is_answer form (parts_view ns) ≡ true → IsErr r
+        → WrittenPart old new (printed form (parts_view ns)) → Answers (GivesNodes judged form q t) old new r
+    nodes_begun (Ok x) e i w = absurd (false≢true i)
+    nodes_begun (Err x) e i w = inr (printed form (parts_view ns), (ap (is_answer form) (sym p) ∙ e, ap (printed form) p), w)
+
+  pub of_tree : (text : List ℕ) (r : Result (Option Unanswered) Error) → IsText None text t
+      → Answers (GivesNodes judged form q t) old new r → Answers (GivesText judged form q text) old new r
+  of_tree text (Ok None) s w = (w.0, (t, s, w.1), w.2)
+  of_tree text (Ok (Some (Refused e))) s w = absurd w.0
+  of_tree text (Ok (Some NoNode)) s w = ((t, s, w.0), w.1)
+  of_tree text (Ok (Some (Pattern l))) s w = ((t, s, w.0), w.1)
+  of_tree text (Err e) s w = ⊎_elim (λ k. inl k) (λ k. inr (k.0, (t, s, k.1), k.2)) w

@@ -1,2 +1,5 @@
-pub mod Lines
+pub mod Answers
 pub mod Options
+pub mod Query
+pub mod Selected
+pub mod Shapes

@@ -1,9 +1,32 @@
 -- The program's arguments.
-use Rattle.std.specs.Prelude.{ℕ, List, Option, cond, option_map}
+use Rattle.std.specs.Prelude.{◌≡◌, ◌≢◌, ◌⊎◌, ℕ, Bool, true, false, ◌&&◌, not, List, [], ◌∷◌, ◌++◌, Option, option_map}
+use Rattle.tinyjson.specs.Characters.{line_feed}
 use Rattle.tinyjson_cli.specs.Arguments.{Given, first_operand, is_given}
-use Rattle.json_path.specs.declared.lines.Form.{Form}
-use Rattle.json_path.specs.declared.lines.Form.TheVariants.{Value, Path}
+use Rattle.tinyjson_cli.specs.Texts.{texts_given}
+use Rattle.tinyjson_cli.specs.declared.texts.Texts.{Texts}
+use Rattle.json_path.specs.declared.selected.Form.{Form}
+use Rattle.json_path.specs.declared.selected.Shape.{Shape}
+use Rattle.json_path.specs.declared.selected.Shape.TheVariants.{Value, Raw, Path}
 
--- what is written for each part, its path with `-p`; the query; and the files
-abbrev pub asks : Given → Option (Form × (List ℕ × List (List ℕ)))
-asks a = option_map (λ o. (cond (is_given 112 a) Path Value, o)) (first_operand a.operands)
+-- what is written of a part: its path with `-p`; else, with `-r`, the characters of a string
+abbrev pub shape_asked : Bool → Bool → Shape
+shape_asked true is_raw = Path
+shape_asked false true = Raw
+shape_asked false false = Value
+
+-- with `-l` an array for each text, but a line for each part with `-f`; with `-e` also where nothing is selected
+abbrev pub form_asked : Given → Form
+form_asked a = record {
+  shape = shape_asked (is_given 112 a) (is_given 114 a);
+  is_array = is_given 108 a && not (is_given 102 a);
+  or_none = is_given 101 a;
+}
+
+-- how the texts are found; how what is selected is written; whether a file has the query; the query or its file; and
+-- the files with the texts
+abbrev pub asks : Given → Option ((Texts × (Form × Bool)) × (List ℕ × List (List ℕ)))
+asks a = option_map (λ o. ((texts_given a, (form_asked a, is_given 113 a)), o)) (first_operand a.operands)
+
+-- the text of a file, and the same without the line feed that ends it, if one does
+abbrev pub IsWithoutEnd : List ℕ → List ℕ → Type 0
+IsWithoutEnd all rest = (all ≡ rest ++ line_feed ∷ []) ⊎ ((rest ≡ all) × ((front : List ℕ) → all ≢ front ++ line_feed ∷ []))

@@ -1,22 +1,33 @@
-//! The failures of the program.
-ghost use Rattle.json_path.specs.Lines.{Tells};
+//! What is reported of a text that has no answer.
+ghost use Rattle.std.specs.Prelude.{IfOk};
+ghost use Rattle.json_path.specs.Answers.{IsNoAnswer, Tells};
 
-use crate::lines::PathError;
-use std::alloc::Global;
-use tinyjson_cli::Failure;
+use crate::selected::Unanswered;
+use std::alloc::{AllocError, Global};
+use tinyjson_cli::{Failure, NoAnswer};
+use tinyjson_lines::Cause;
 
-/// The failure for an error, with its message and status.
-pub fn path_failure(alloc: Global, error: PathError) -> Failure
-    ensures { Tells error result }
+/// The failure for a whole input, with its message and status.
+pub fn unanswered_failure(alloc: Global, why: Unanswered) -> Failure
+    ensures { Tells why result }
 {
-    let Ok(words) = error.to_string(alloc) else {
+    let Ok(words) = why.to_string(alloc) else {
         return Failure::OutOfMemory;
     };
-    match error {
-        PathError::NoNode => Failure::No(words),
-        PathError::BadQuery(_) => Failure::Misused(words),
-        PathError::Refused(error) => Failure::NotJson(error),
-        PathError::Pattern(_) | PathError::Writing => Failure::Failed(words),
-        PathError::OutOfMemory => Failure::OutOfMemory,
+    match why {
+        Unanswered::Refused(error) => Failure::NotJson(error),
+        Unanswered::NoNode => Failure::No(words),
+        Unanswered::Pattern(_) => Failure::Failed(words),
+    }
+}
+
+/// What is reported of a line.
+pub fn no_answer(alloc: Global, why: Unanswered) -> Result<NoAnswer, AllocError>
+    ensures { IfOk result (IsNoAnswer why) }
+{
+    let words = why.to_string(alloc)?;
+    match why {
+        Unanswered::Refused(error) => Ok(NoAnswer::Refused(Cause::NotJson(error))),
+        _ => Ok(NoAnswer::No(words)),
     }
 }

@@ -2,26 +2,31 @@
 //! the statuses.
 #![tactic(auto)]
 
+mod answers;
+mod array;
 mod failure;
 mod lines;
 mod options;
+mod query;
+mod selected;
 
-use failure::path_failure;
-use lines::{Form, write_selected};
-use options::{PATHS, Request, requested};
-use std::alloc::Global;
-use std::io::Write;
+use answers::Asked;
+use options::{EMPTY, FLAT, PATHS, QUERY_FILE, RAW, Request, requested, without_end};
+use query::read_query;
 use std::process::ExitCode;
 use tinyjson_cli::{
-    Answer, Failure, HELP, Misuse, Program, Status, VERSION, answer_files, argument_words,
-    arguments_of, misused,
+    Failure, HELP, LINES, MAX_LINE, Misuse, Program, Status, VERSION, answer_files, answer_texts,
+    argument_words, arguments_of, misused, read_named, report,
 };
+use tinyjson_path::Query;
 
 const PROGRAM: Program<'static> = Program {
     name: "json_path",
-    options: &[PATHS, HELP, VERSION],
+    options: &[
+        LINES, MAX_LINE, FLAT, PATHS, RAW, EMPTY, QUERY_FILE, HELP, VERSION,
+    ],
     help: "\
-Usage: json_path [-p] QUERY [FILE..]
+Usage: json_path [-l [-m N] [-f]] [-p] [-r] [-e] [-q] QUERY [FILE..]
 
 Prints what a JSONPath query (RFC 9535) selects in each JSON text, each value as
 compact text with sorted keys on a line.
@@ -30,13 +35,22 @@ The texts are those of the files, or standard input where none is named; '-' is
 standard input, too. Options may come anywhere; after '--' all are operands.
 
 Options:
-  -p, --paths    print the normalized path of each value in place of the value
-  -h, --help     print this page
-  -V, --version  print the version
+  -l, --lines       take each line of an input as a text, and print what is
+                    selected in it as an array on a line; where a line is
+                    refused or nothing is selected, report it and go on
+  -m, --max-line N  with -l: refuse a line of more than N bytes, and do not keep
+                    it in memory
+  -f, --flat        with -l: print each value on a line
+  -p, --paths       print the normalized path of each value in place of the value
+  -r, --raw         print strings without quotes and escapes, but in arrays
+  -e, --empty       take it as an answer that nothing is selected
+  -q, --query-file  read the query from the file QUERY
+  -h, --help        print this page
+  -V, --version     print the version
 
 Exit status:
   0  something was selected in each text
-  1  nothing was selected in a text
+  1  nothing was selected in a text; with -l: or a line is refused
   2  the arguments are not understood, or QUERY is no query
   3  an input is no JSON text, or not UTF-8
   4  memory ran out, a read or a write failed, or a regular expression of the
@@ -49,29 +63,11 @@ Examples:
   $ echo '{\"a\": [{\"b\": 1.0}, {\"b\": 2}]}' | json_path -p '$..b'
   $['a'][0]['b']
   $['a'][1]['b']
+  $ printf '[1, 2.0]\\n[]\\n' | json_path -le '$[*]'
+  [1,2]
+  []
 ",
 };
-
-/// A query, and what is written for each node that it selects.
-#[derive(Drop)]
-struct Asked<'a> {
-    form: Form,
-    query: &'a str,
-}
-
-impl Answer for Asked<'_> {
-    fn answer<W: Write>(
-        &self,
-        alloc: Global,
-        text: &str,
-        output: &mut W,
-    ) -> Result<Status, Failure> {
-        match write_selected(alloc, self.query, text, self.form, output) {
-            Ok(()) => Ok(Status::Done),
-            Err(error) => Err(path_failure(alloc, error)),
-        }
-    }
-}
 
 fn main(rt: HostRuntime) -> ExitCode {
     let (Ok(status) | Err(status)) = run(&rt);
@@ -81,8 +77,30 @@ fn main(rt: HostRuntime) -> ExitCode {
 fn run(rt: &HostRuntime) -> Result<Status, Status> {
     let words = argument_words(rt, PROGRAM)?;
     let arguments = arguments_of(rt, PROGRAM, words.as_slice())?;
-    let Some(Request { form, query, files }) = requested(&arguments) else {
+    let Some(request) = requested(&arguments) else {
         return Err(misused(rt, PROGRAM, Misuse::Missing("QUERY")));
     };
-    Ok(answer_files(rt, PROGRAM, files, &Asked { form, query }))
+    match query_of(rt, &request) {
+        Ok(query) => Ok(answer(rt, &request, &query)),
+        Err(failure) => Err(report(rt, PROGRAM, None, &failure)),
+    }
+}
+
+/// The query of the arguments, or of the file that they name.
+fn query_of(rt: &HostRuntime, request: &Request<'_, '_>) -> Result<Query, Failure> {
+    if !request.is_file {
+        return read_query(rt.alloc(), request.query);
+    }
+    let text = read_named(rt, request.query)?;
+    read_query(rt.alloc(), without_end(text.as_str()))
+}
+
+/// Answers each input.
+fn answer(rt: &HostRuntime, request: &Request<'_, '_>, query: &Query) -> Status {
+    let form = request.form;
+    let asked = Asked { query, form };
+    if request.texts.by_lines {
+        return answer_texts(rt, PROGRAM, request.texts, request.files, asked);
+    }
+    answer_files(rt, PROGRAM, request.files, &asked)
 }

@@ -1,10 +1,10 @@
 //! The program's arguments.
-ghost use Rattle.std.specs.Prelude.{◌≡◌, option_map, map};
+ghost use Rattle.std.specs.Prelude.{◌≡◌, ◌&&◌, not, option_map, map};
 ghost use Rattle.tinyjson_cli.specs.Arguments.{given_of};
-ghost use Rattle.json_path.specs.Options.{asks};
+ghost use Rattle.json_path.specs.Options.{asks, form_asked, shape_asked, IsWithoutEnd};
 
-use crate::lines::Form;
-use tinyjson_cli::{Arguments, Known};
+use crate::selected::{Form, Shape};
+use tinyjson_cli::{Arguments, Known, Texts, texts_asked};
 
 /// `-p` and `--paths`.
 pub const PATHS: Known<'static> = Known {
@@ -13,24 +13,106 @@ pub const PATHS: Known<'static> = Known {
     takes_number: false,
 };
 
-/// A query, what is written for each node that it selects, and the files that are searched.
+/// `-f` and `--flat`.
+pub const FLAT: Known<'static> = Known {
+    letter: b'f',
+    name: "flat",
+    takes_number: false,
+};
+
+/// `-r` and `--raw`.
+pub const RAW: Known<'static> = Known {
+    letter: b'r',
+    name: "raw",
+    takes_number: false,
+};
+
+/// `-e` and `--empty`.
+pub const EMPTY: Known<'static> = Known {
+    letter: b'e',
+    name: "empty",
+    takes_number: false,
+};
+
+/// `-q` and `--query-file`.
+pub const QUERY_FILE: Known<'static> = Known {
+    letter: b'q',
+    name: "query-file",
+    takes_number: false,
+};
+
+/// A query, how what it selects is written, and the files that are searched.
 #[derive(Drop)]
 pub struct Request<'w, 'a> {
+    /// How the texts of an input are found.
+    pub texts: Texts,
+    /// How what is selected is written.
     pub form: Form,
+    /// Whether a file with the query is named in its place.
+    pub is_file: bool,
+    /// The text of the query, or the name of its file.
     pub query: &'w str,
+    /// The files with the texts.
     pub files: &'a [&'w str],
 }
 
-/// Parses the arguments: `[-p] QUERY [FILE..]`.
+/// Parses the arguments: `[-l [-m N] [-f]] [-p] [-r] [-e] [-q] QUERY [FILE..]`.
 pub fn requested<'w, 'a>(arguments: &'a Arguments<'w>) -> Option<Request<'w, 'a>>
-    ensures { option_map (λ r. (r.form, (r.query.now, map (λ f. f.now) r.files.now))) result
-        ≡ asks (given_of arguments.now) }
+    ensures { option_map (λ r. (
+      (r.texts, (r.form, r.is_file)),
+      (r.query.now, map (λ f. f.now) r.files.now),
+    )) result ≡ asks (given_of arguments.now) }
 {
-    let form = if arguments.has(b'p') {
-        Form::Path
-    } else {
-        Form::Value
-    };
+    let texts = texts_asked(arguments);
+    let form = form_of(arguments);
+    let is_file = arguments.has(b'q');
     let (query, files) = arguments.first()?;
-    Some(Request { form, query, files })
+    Some(Request {
+        texts,
+        form,
+        is_file,
+        query,
+        files,
+    })
+}
+
+fn form_of(arguments: &Arguments<'_>) -> Form
+    ensures { result ≡ form_asked (given_of arguments.now) }
+{
+    let or_none = arguments.has(b'e');
+    let is_array = is_array(arguments.has(b'l'), arguments.has(b'f'));
+    let shape = shape_of(arguments.has(b'p'), arguments.has(b'r'));
+    Form {
+        shape,
+        is_array,
+        or_none,
+    }
+}
+
+fn is_array(by_lines: bool, is_flat: bool) -> bool
+    ensures { result ≡ (by_lines && not is_flat) }
+{
+    by_lines && !is_flat
+}
+
+fn shape_of(is_path: bool, is_raw: bool) -> Shape
+    ensures { result ≡ shape_asked is_path is_raw }
+{
+    if is_path {
+        Shape::Path
+    } else if is_raw {
+        Shape::Raw
+    } else {
+        Shape::Value
+    }
+}
+
+/// The query in the text of a file, without the line feed that ends it.
+pub fn without_end(text: &str) -> &str
+    ensures { IsWithoutEnd text.now result.now }
+{
+    match text.strip_suffix('\n') {
+        Some(query) => query,
+        None => text,
+    }
 }

@@ -1,0 +1,35 @@
+use Rattle.std.proofs.Common.{◌≡◌, None, sym, ◌∙◌, subst}
+use Rattle.std.proofs.KnownBytes.{Keeps-refl}
+use Rattle.std.proofs.lemmas.Bool.{false≢true}
+use Rattle.std.specs.Str.{chars}
+use Rattle.tinyjson.specs.Error.{error_kind}
+use Rattle.tinyjson.specs.Grammar.{IsText}
+use Rattle.tinyjson.specs.JsonParseErrorKind.TheVariants as kind
+use Rattle.tinyjson_document.specs.Document.{tree}
+use Rattle.json_path.proofs.Writing.{of_tree}
+use Rattle.json_path.proofs.selected.write_of_text.Goals as goal
+
+pub returns-in-Ok : goal.returns-in-Ok
+returns-in-Ok g c =
+    let text = chars c.args.text.now in
+    let h = c.in-Ok.ensures.answer in
+    of_tree c.args.form c.args.query.now _ _ (tree c.root.result) text c.write_found.result
+    (subst (IsText None text) (sym (c.root.ensures ∙ h.3)) h.2) c.write_found.ensures
+
+pub returns-else-is_out_of_memory : goal.returns-else-is_out_of_memory
+returns-else-is_out_of_memory g c =
+    let h = c.in-Err.ensures in
+    let other : ¬ (error_kind c.in-Err.error ≡ kind.OutOfMemory) = λ k. false≢true (c.if-is_out_of_memory.ensures.1 k) in (
+      (
+        record {
+          consumed = h.consumed;
+          rest = h.rest;
+          whole = h.whole;
+          answer = (h.answer.0, h.answer.1 other);
+          refused = h.refused;
+        },
+        other,
+        h.refused other,
+      ),
+      Keeps-refl _,
+    )

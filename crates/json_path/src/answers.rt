@@ -1,0 +1,50 @@
+//! The answers for texts: whole inputs, or lines.
+ghost use Rattle.json_path.specs.Answers.{GivesLine};
+
+use crate::failure::{no_answer, unanswered_failure};
+use crate::selected::{Form, write_selected};
+use std::alloc::Global;
+use std::io::{self, Write};
+use tinyjson_cli::{Answer, Failure, NoAnswer, Status, TextAnswer, writing_error};
+use tinyjson_path::Query;
+
+/// What is asked of each text: what a query selects, in a form.
+#[derive(Clone, Copy)]
+pub struct Asked<'a> {
+    pub query: &'a Query,
+    pub form: Form,
+}
+
+/// The answer for an input as one text.
+impl Answer for Asked<'_> {
+    fn answer<W: Write>(
+        &self,
+        alloc: Global,
+        text: &str,
+        output: &mut W,
+    ) -> Result<Status, Failure> {
+        match write_selected(alloc, self.query, text, self.form, output) {
+            Ok(None) => Ok(Status::Done),
+            Ok(Some(why)) => Err(unanswered_failure(alloc, why)),
+            Err(error) => Err(writing_error(error)),
+        }
+    }
+}
+
+/// The answer for a line. A regular expression that is too deep or too large is reported as other lines without an
+/// answer are.
+impl TextAnswer for Asked<'_> {
+    ghost gives = { λ a text f. GivesLine a.form a.query.now text f };
+
+    fn answer_text<W: Write>(
+        &self,
+        alloc: Global,
+        text: &str,
+        output: &mut W,
+    ) -> io::Result<Option<NoAnswer>> {
+        match write_selected(alloc, self.query, text, self.form, output)? {
+            None => Ok(None),
+            Some(why) => Ok(Some(no_answer(alloc, why)?)),
+        }
+    }
+}

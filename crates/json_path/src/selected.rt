@@ -1,0 +1,153 @@
+//! What a query selects in a text.
+ghost use Rattle.std.specs.Prelude.{◌≡◌, Some};
+ghost use Rattle.std.specs.Str.{chars};
+ghost use Rattle.tinyjson.specs.Written.{WritesPrefix};
+ghost use Rattle.tinyjson_document.specs.Document.{tree};
+ghost use Rattle.tinyjson_path.specs.Nodes.{parts_view};
+ghost use Rattle.tinyjson_path.specs.Patterns.{judged};
+ghost use Rattle.json_path.specs.Selected.{Answers, AnswersSelected, GivesNodes, GivesText};
+ghost use Rattle.json_path.specs.Selected.{is_answer, printed, unanswered_message};
+
+use crate::array::write_array;
+use crate::lines::write_lines;
+use std::alloc::Global;
+use std::fmt;
+use std::io::{self, ErrorKind, Write};
+use tinyjson::JsonParseError;
+use tinyjson_document::Document;
+use tinyjson_path::{FindError, Node, PatternLimit, Query, find_in};
+
+/// What is written of a node.
+#[derive(Clone, Copy)]
+pub enum Shape {
+    /// The compact text of its value.
+    Value,
+    /// The characters of a string, or else the compact text of its value.
+    Raw,
+    /// Its normalized path.
+    Path,
+}
+
+/// How what is selected is written.
+#[derive(Clone, Copy)]
+pub struct Form {
+    /// What is written of each node.
+    pub shape: Shape,
+    /// Whether the nodes are written as one array on a line, and not each on a line.
+    pub is_array: bool,
+    /// Whether it is an answer that nothing is selected.
+    pub or_none: bool,
+}
+
+/// Why a text has no answer.
+#[derive(Drop)]
+pub enum Unanswered {
+    /// The text is no JSON text.
+    Refused(JsonParseError),
+    /// The query selects no node.
+    NoNode,
+    /// A regular expression of `match` or `search` is too deep or too large.
+    Pattern(PatternLimit),
+}
+
+/// The message that the program writes.
+impl fmt::Display for Unanswered {
+    ghost output = { λ why. Some (unanswered_message why) };
+
+    fn fmt<W: fmt::Write>(&self, f: &mut fmt::Formatter<W>) -> fmt::Result {
+        match self {
+            Unanswered::Refused(error) => write!(f, "{error}"),
+            Unanswered::NoNode => f.write_str("the query selects no node"),
+            Unanswered::Pattern(limit) => write!(f, "{limit}"),
+        }
+    }
+}
+
+/// Writes what the query selects in the text's value, in order, or returns why there is no answer.
+///
+/// After an error of the writer, or if memory runs out, a prefix may be written. The value may be nested to any depth.
+///
+/// ```
+/// write_selected(alloc, &query, r#"{"a":[1,2,3.0]}"#, form, &mut output)?; // of $.a[1:]: 2 and 3, on a line each
+/// ```
+pub fn write_selected<W: Write>(
+    alloc: Global,
+    query: &Query,
+    text: &str,
+    form: Form,
+    output: &mut W,
+) -> io::Result<Option<Unanswered>>
+    ensures { AnswersSelected form query.now (chars text.now)
+        (W.contents output.old) (W.contents output.new) result }
+{
+    write_of_text(alloc, query, text, form, output)
+}
+
+fn write_of_text<W: Write>(
+    alloc: Global,
+    query: &Query,
+    text: &str,
+    form: Form,
+    output: &mut W,
+) -> io::Result<Option<Unanswered>>
+    ensures { Answers (GivesText judged form query.now (chars text.now))
+        (W.contents output.old) (W.contents output.new) result }
+{
+    match Document::read(alloc, text) {
+        Ok(document) => write_found(alloc, query, document.root(), form, output),
+        Err(error) => {
+            if error.is_out_of_memory() {
+                return Err(error.into());
+            }
+            Ok(Some(Unanswered::Refused(error)))
+        }
+    }
+}
+
+fn write_found<W: Write>(
+    alloc: Global,
+    query: &Query,
+    root: tinyjson_document::Node,
+    form: Form,
+    output: &mut W,
+) -> io::Result<Option<Unanswered>>
+    ensures { Answers (GivesNodes judged form query.now (tree root.entry))
+        (W.contents output.old) (W.contents output.new) result }
+{
+    match find_in(query, alloc, root) {
+        Ok(nodes) => {
+            if !is_answer(nodes.as_slice(), form) {
+                return Ok(Some(Unanswered::NoNode));
+            }
+            write_nodes(alloc, nodes.as_slice(), form, output)?;
+            Ok(None)
+        }
+        Err(FindError::Pattern(limit)) => Ok(Some(Unanswered::Pattern(limit))),
+        Err(FindError::OutOfMemory) => Err(io::Error::from(ErrorKind::OutOfMemory)),
+    }
+}
+
+fn is_answer(nodes: &[Node], form: Form) -> bool
+    ensures { result ≡ is_answer form (parts_view nodes.now) }
+{
+    if form.or_none {
+        return true;
+    }
+    !nodes.is_empty()
+}
+
+fn write_nodes<W: Write>(
+    alloc: Global,
+    nodes: &[Node],
+    form: Form,
+    output: &mut W,
+) -> io::Result<()>
+    ensures { WritesPrefix (W.contents output.old) (W.contents output.new)
+        (printed form (parts_view nodes.now)) result }
+{
+    if form.is_array {
+        write_array(alloc, nodes, form.shape, output)
+    } else {
+        write_lines(alloc, nodes, form.shape, output)
+    }
+}
