@@ -87,9 +87,15 @@ impl Document {
         }
     }
 
-    /// The document of what an arena has built.
-    fn of_arena(arena: Arena) -> Document
-        requires { (t : Tree) × IsTree arena t × sound.IsTree t }
+    /// The document of what an arena has built: the tree of the events that it was given.
+    ///
+    /// ```
+    /// let mut arena = Arena::new(alloc);
+    /// replay(alloc, node, &mut arena)?; // of tinyjson_replay
+    /// let copy = Document::of_arena(arena); // its root is equal to the node
+    /// ```
+    pub fn of_arena(arena: Arena) -> Document
+        requires { (t : Tree) × IsTree arena t × ∥ sound.IsTree t ∥₁ }
         ensures { (t : Tree) → IsTree arena t → HasTree result t }
     {
         let root = arena.values[0];

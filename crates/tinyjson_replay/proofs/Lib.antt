@@ -1,0 +1,2 @@
+-- What is left of a value that is passed to events.
+pub mod Replaying
