@@ -1,0 +1,38 @@
+-- What is printed, given the tree of the old text and a new text.
+use Rattle.std.specs.Prelude.{◌≡◌, ℕ, Bool, List, ◌++◌, Some, Result, Ok, Err, codes, encode_utf8_all, string_bytes}
+use Rattle.std.specs.Str.{chars}
+use Rattle.tinyjson.specs.Error.{error_kind}
+use Rattle.tinyjson.specs.Grammar.{IsText, IsAccepted}
+use Rattle.tinyjson.specs.JsonParseErrorKind.TheVariants as kind
+use Rattle.tinyjson.specs.Parser.{ParsesText}
+use Rattle.tinyjson.specs.Soundness.{IsTree}
+use Rattle.tinyjson.specs.Tree.{Tree, null}
+use Rattle.tinyjson_cli.specs.Layout.{laid_out}
+use Rattle.tinyjson_cli.specs.Shown.{shown}
+use Rattle.tinyjson_cli.specs.declared.texts.NoAnswer.{NoAnswer}
+use Rattle.tinyjson_cli.specs.declared.texts.NoAnswer.TheVariants.{Refused, No}
+use Rattle.tinyjson_diff.specs.Merging.{Leads, HasChangesAlone}
+use Rattle.tinyjson_lines.specs.declared.refusal.Cause.TheVariants.{NotJson}
+use Rattle.tinyjson_pointer.specs.Text.{pointer_text}
+use Rattle.tinyjson_pointer.specs.Walk.{part_at}
+use Rattle.json_diff.specs.Reading.{text_depth}
+
+-- with the text of the pointer of these tokens, whose controls are shown by their code points
+abbrev pub no_patch_message : List (List ℕ) → List ℕ
+no_patch_message ks =
+    codes "no merge patch sets a member to null: " ++ shown (chars (encode_utf8_all (pointer_text ks)))
+
+-- The text of the patch from t to u; or there is none, and the place of a null in u.
+abbrev pub GivesPatchOf : Bool → Tree → Tree → Result (List ℕ) NoAnswer → Type 0
+GivesPatchOf is_indented t u (Ok bytes) =
+    (p : Tree) × Leads t u p × HasChangesAlone t u p × (bytes ≡ laid_out is_indented p)
+GivesPatchOf is_indented t u (Err (No w)) =
+    (ks : List (List ℕ)) × (part_at u ks ≡ Some null) × ((p : Tree) → IsTree p → ¬ Leads t u p)
+    × (string_bytes w ≡ no_patch_message ks)
+GivesPatchOf is_indented t u (Err _) = ⊥
+
+-- The same for the tree of a text; or that is no JSON text, and this is the parser's error.
+abbrev pub GivesPatch : Bool → Tree → List ℕ → Result (List ℕ) NoAnswer → Type 0
+GivesPatch is_indented t text (Err (Refused (NotJson e))) =
+    ParsesText text_depth text (Err e) × ¬ (error_kind e ≡ kind.OutOfMemory) × ¬ IsAccepted text_depth text
+GivesPatch is_indented t text f = (u : Tree) × IsText text_depth text u × GivesPatchOf is_indented t u f

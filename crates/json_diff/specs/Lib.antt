@@ -1,0 +1,3 @@
+pub mod Compare
+pub mod Options
+pub mod Reading

@@ -1,0 +1,82 @@
+//! Compares texts with an old one.
+ghost use Rattle.std.specs.Prelude.{◌≡◌, IfOk, string_bytes};
+ghost use Rattle.tinyjson.specs.View.{view};
+ghost use Rattle.tinyjson_cli.specs.Texts.{Answers};
+ghost use Rattle.tinyjson_pointer.specs.Tokens.{tokens_of};
+ghost use Rattle.json_diff.specs.Compare.{GivesPatch, GivesPatchOf, no_patch_message};
+
+use crate::reading::TEXT_DEPTH;
+use std::alloc::{AllocError, Global};
+use std::io::{self, ErrorKind, Write};
+use tinyjson::JsonValue;
+use tinyjson_cli::{NoAnswer, Shown, TextAnswer, write_laid_out};
+use tinyjson_diff::{NoMergePatch, merge_diff};
+use tinyjson_lines::Cause;
+use tinyjson_pointer::Pointer;
+
+/// What is asked of each text: the merge patch (RFC 7396) that leads to it from an old one.
+#[derive(Clone, Copy)]
+pub struct Asked<'a> {
+    /// The value of the old text.
+    pub old: &'a JsonValue,
+    /// Whether the text of the patch is indented with two spaces.
+    pub is_indented: bool,
+}
+
+/// ```
+/// asked.answer_text(alloc, r#"{"b":2}"#, &mut output)?; // from {"a":1}: writes {"a":null,"b":2} and a line feed
+/// ```
+impl TextAnswer for Asked<'_> {
+    ghost gives = { λ a text f. GivesPatch a.is_indented (view a.old.now) text f };
+
+    fn answer_text<W: Write>(
+        &self,
+        alloc: Global,
+        text: &str,
+        output: &mut W,
+    ) -> io::Result<Option<NoAnswer>> {
+        match JsonValue::from_str_with_depth_limit(alloc, text, TEXT_DEPTH) {
+            Ok(new) => answer_value(alloc, *self, &new, output),
+            Err(error) => {
+                if error.is_out_of_memory() {
+                    return Err(error.into());
+                }
+                Ok(Some(NoAnswer::Refused(Cause::NotJson(error))))
+            }
+        }
+    }
+}
+
+/// Writes the text of the patch that leads to a value.
+fn answer_value<W: Write>(
+    alloc: Global,
+    asked: Asked<'_>,
+    new: &JsonValue,
+    output: &mut W,
+) -> io::Result<Option<NoAnswer>>
+    ensures { Answers (GivesPatchOf asked.entry.is_indented (view asked.entry.old.now)
+        (view new.now)) (W.contents output.old) (W.contents output.new) result }
+{
+    match merge_diff(alloc, asked.old, new) {
+        Ok(patch) => {
+            write_laid_out(alloc, &patch, asked.is_indented, output)?;
+            Ok(None)
+        }
+        Err(NoMergePatch::Null(place)) => {
+            let words = no_patch_words(alloc, &place)?;
+            Ok(Some(NoAnswer::No(words)))
+        }
+        Err(NoMergePatch::OutOfMemory) => Err(io::Error::from(ErrorKind::OutOfMemory)),
+    }
+}
+
+/// The words for the place of a `null` that no patch puts there.
+fn no_patch_words(alloc: Global, place: &Pointer) -> Result<String, AllocError>
+    ensures { IfOk result (λ w. string_bytes w ≡ no_patch_message (tokens_of place.now)) }
+{
+    let place = format!(in alloc; "{place}")?;
+    format!(in alloc;
+        "no merge patch sets a member to null: {}",
+        Shown(place.as_str())
+    )
+}

@@ -1,0 +1,91 @@
+//! Prints the JSON Merge Patch (RFC 7396) that leads from one JSON text to another. Its help page lists the
+//! arguments and the statuses.
+#![tactic(auto)]
+
+mod compare;
+mod options;
+mod reading;
+
+use compare::Asked;
+use options::{MERGE, Request, requested};
+use reading::read_old;
+use std::process::ExitCode;
+use tinyjson_cli::{
+    HELP, INDENT, Misuse, Program, Status, Texts, VERSION, answer_texts, argument_words,
+    arguments_of, misused, report,
+};
+
+const PROGRAM: Program<'static> = Program {
+    name: "json_diff",
+    options: &[MERGE, INDENT, HELP, VERSION],
+    help: "\
+Usage: json_diff -m [-i] OLD [NEW..]
+
+Prints a JSON Merge Patch (RFC 7396) that leads from one JSON text to another:
+json_merge applies it to the old text, and prints the new one. It has no more
+than what differs.
+
+OLD is the name of a file. The new texts are those of the files, or standard
+input where none is named; '-' is standard input, too. Options may come anywhere;
+after '--' all are operands.
+
+Options:
+  -m, --merge    print a merge patch; this option is needed
+  -i, --indent   indent by two spaces
+  -h, --help     print this page
+  -V, --version  print the version
+
+Exit status:
+  0  each patch was printed, whether the texts differ or not
+  1  no merge patch leads to a new text: a member of it is null
+  2  the arguments are not understood, or OLD can't be read,
+     is no JSON text, or has more than 1,000 nested containers
+  3  a new text is no JSON text, or not UTF-8, or has more than 1,000 nested
+     containers
+  4  memory ran out, or a read or a write failed
+
+Examples:
+  $ echo '{\"a\": 1, \"b\": {\"c\": 2, \"d\": 3}}' > old.json
+  $ echo '{\"b\": {\"c\": 2, \"d\": 4}}' | json_diff -m old.json
+  {\"a\":null,\"b\":{\"d\":4}}
+  $ json_diff -m old.json old.json
+  {}
+",
+};
+
+fn main(rt: HostRuntime) -> ExitCode {
+    let (Ok(status) | Err(status)) = run(&rt);
+    ExitCode::from(status.code())
+}
+
+fn run(rt: &HostRuntime) -> Result<Status, Status> {
+    let words = argument_words(rt, PROGRAM)?;
+    let arguments = arguments_of(rt, PROGRAM, words.as_slice())?;
+    if !arguments.has(b'm') {
+        return Err(misused(rt, PROGRAM, Misuse::Missing("-m")));
+    }
+    let Some(
+        Request {
+            is_indented,
+            old,
+            files,
+        },
+    ) = requested(&arguments)
+    else {
+        return Err(misused(rt, PROGRAM, Misuse::Missing("OLD")));
+    };
+    let texts = Texts {
+        by_lines: false,
+        max_line: None,
+    };
+    match read_old(rt, old) {
+        Ok(old) => {
+            let asked = Asked {
+                old: &old,
+                is_indented,
+            };
+            Ok(answer_texts(rt, PROGRAM, texts, files, asked))
+        }
+        Err(failure) => Err(report(rt, PROGRAM, None, &failure)),
+    }
+}

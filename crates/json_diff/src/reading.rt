@@ -1,0 +1,39 @@
+//! The old text that the arguments name.
+ghost use Rattle.std.specs.Str.{chars};
+ghost use Rattle.json_diff.specs.Reading.{IsOldFailure, ReadsOld};
+
+use std::alloc::Global;
+use tinyjson::{JsonParseError, JsonValue};
+use tinyjson_cli::{Failure, read_named};
+
+/// How many containers may be nested in a text: comparing and freeing values take stack with their nesting.
+pub const TEXT_DEPTH: usize = 1_000;
+
+/// The value of this file.
+pub fn read_old(rt: &HostRuntime, file: &str) -> Result<JsonValue, Failure> {
+    let text = read_named(rt, file)?;
+    old_of(rt.alloc(), text.as_str())
+}
+
+/// The value of a text, of at most 1,000 nested containers.
+fn old_of(alloc: Global, text: &str) -> Result<JsonValue, Failure>
+    ensures { ReadsOld (chars text.now) result }
+{
+    match JsonValue::from_str_with_depth_limit(alloc, text, TEXT_DEPTH) {
+        Ok(old) => Ok(old),
+        Err(error) => Err(old_failure(alloc, error)),
+    }
+}
+
+/// The failure for a text that is no JSON text.
+fn old_failure(alloc: Global, error: JsonParseError) -> Failure
+    ensures { IsOldFailure error result }
+{
+    if error.is_out_of_memory() {
+        return Failure::OutOfMemory;
+    }
+    match format!(in alloc; "the old text: {error}") {
+        Ok(words) => Failure::Misused(words),
+        Err(_) => Failure::OutOfMemory,
+    }
+}

@@ -1,0 +1,6 @@
+mod Changing
+mod Ends
+mod Objects
+mod Removing
+mod Unreached
+mod Values

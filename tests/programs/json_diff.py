@@ -1,0 +1,210 @@
+"""Rows of `json_diff`: the merge patch (RFC 7396) that leads from one text to another."""
+
+import json
+import os
+import random
+
+from faults import BROKEN, FOLDER, FULL, NO_TEXT, Faults
+from json_merge import MERGED
+from pages import Page, misused
+from places import TOP
+from running import printed, program, reported, run_of
+from values import LONG, NESTED, NOT_UTF8, normal
+
+FAULTS = Faults("json_diff")
+
+# A file of an old text, and the members that lead away from it.
+OLD = f"{TOP}/crates/json_diff/data/old.json"
+REMOVED = b'"author":null,"content":null,"tags":null,"title":null'
+
+NO_PATCH = "no merge patch sets a member to null: "
+
+# The old text, the new one, and the patch, by section 2 of RFC 7396: null removes a member, an object is merged member by member,
+# and any other value replaces what is there.
+PATCHES = [
+    ('{"a":"b"}', '{"a":"c"}', '{"a":"c"}'),
+    ('{"a":"b"}', '{"a":"b","b":"c"}', '{"b":"c"}'),
+    ('{"a":"b","b":"c"}', '{"b":"c"}', '{"a":null}'),
+    ('{"a":{"b":"c","d":1}}', '{"a":{"b":"d","d":1}}', '{"a":{"b":"d"}}'),
+    ('{"a":{"b":{"c":1}},"d":[1]}', '{"a":{"b":{}},"d":[1]}', '{"a":{"b":{"c":null}}}'),
+    ('{"a":1.0,"b":2}', '{"b":2.0,"a":1}', "{}"),
+    ('{"a":null}', '{"a":null,"b":1}', '{"b":1}'),
+    ('{"a":null}', '{"a":1}', '{"a":1}'),
+    ('{"a":null}', "{}", '{"a":null}'),
+    ('{"a":[1,2]}', '{"a":[1,null]}', '{"a":[1,null]}'),
+    ('{"a":[1]}', '{"a":[{"b":null}]}', '{"a":[{"b":null}]}'),
+    ('{"a":1}', '{"a":{}}', '{"a":{}}'),
+    ('{"a":[]}', '{"a":{}}', '{"a":{}}'),
+    ('{"a":{}}', '{"a":[]}', '{"a":[]}'),
+    ('{"a":{"b":1}}', '{"a":true}', '{"a":true}'),
+    ("{}", '{"a":{"b":{}}}', '{"a":{"b":{}}}'),
+    ("[1]", '{"a":{"b":1}}', '{"a":{"b":1}}'),
+    ("null", "{}", "{}"),
+    ("{}", "null", "null"),
+    ("[1,2]", "[1]", "[1]"),
+    ("1", "1.0", "1"),
+    ("[]", "[]", "[]"),
+    ("{}", "{}", "{}"),
+    ('{"":{"":1}}', '{"":{}}', '{"":{"":null}}'),
+]
+
+# The old text, the new one, and the place of the null to which no patch leads.
+NONE = [
+    ("{}", '{"a":null}', "/a"),
+    ('{"a":1}', '{"a":null}', "/a"),
+    ('{"a":{"b":1,"c":2}}', '{"a":{"b":null,"c":2}}', "/a/b"),
+    ("[null]", '{"a":{"b/c":null}}', "/a/b~1c"),
+    ('{"x":{"a":null}}', '{"y":{"a":null}}', "/y/a"),
+    ('{"a":null}', '{"a":{"\\u001b":null}}', "/a/U+001B"),
+    ("1", '{"":null}', "/"),
+]
+
+# How many containers of a text may be nested.
+DEPTH = 1_000
+
+
+def nested(middle, depth=DEPTH):
+    return b'{"a":' * depth + middle + b"}" * depth
+
+
+# The old text, the new one, and the answer.
+LONG_ROWS = [
+    (nested(b"1"), nested(b"2"), printed(nested(b"2"))),
+    (nested(b'1,"b":3'), nested(b"1"), printed(nested(b'{"b":null}', DEPTH - 1))),
+    (b"1", nested(b"2"), printed(nested(b"2"))),
+    (b"1", nested(b"null"), reported(1, "json_diff", NO_PATCH + "/a" * DEPTH)),
+    (b"1", nested(b"{}"), reported(3, "json_diff", "Parse error at line:1, col:5000: Nesting is too deep at '{'")),
+    (nested(b"{}"), b"1", reported(2, "json_diff", "the old text: Parse error at line:1, col:5000: Nesting is too deep at '{'")),
+    (b'{"a":%s}' % LONG, b'{"a":%s,"b":1}' % LONG, printed(b'{"b":1}')),
+    (b'{"b":1}', b'{"a":%s}' % LONG, printed(b'{"a":%s,"b":null}' % LONG)),
+    # The old text is read first.
+    (b"[1,]", b"{", reported(2, "json_diff", "the old text: Parse error at line:1, col:3: Invalid character: ]")),
+    (b"{}", b"[1,]", reported(3, "json_diff", "Parse error at line:1, col:3: Invalid character: ]")),
+    (b"", b"1", reported(2, "json_diff", "the old text: Parse error at line:1, col:0: Unexpected EOF")),
+    (NOT_UTF8, b"1", reported(2, "json_diff", "old:1:0: not UTF-8")),
+    (NESTED, b"1", reported(2, "json_diff", "the old text: Parse error at line:1, col:1000: Nesting is too deep at '['")),
+]
+
+# The arguments, the input, and the answer.
+ROWS = [
+    ([], b"1", misused("json_diff", "-m is missing")),
+    (["-m"], b"1", misused("json_diff", "OLD is missing")),
+    ([OLD], b"1", misused("json_diff", "-m is missing")),
+    (["-m", NOT_UTF8], b"1", misused("json_diff", "an argument is not UTF-8")),
+    (["-m", "/none"], b"1", reported(2, "json_diff", "/none: No such file or directory (os error 2)")),
+    (["-m", "/"], b"1", reported(2, "json_diff", "/: Is a directory (os error 21)")),
+    (["--merge", OLD], b"{}", printed(b"{%s}" % REMOVED)),
+    (["-m", OLD, OLD], b"", printed(b"{}")),
+    (["-m", OLD, OLD, "-"], b"[]", printed(b"{}", b"[]")),
+    (["-mi", OLD], b'{"title":[1.0],"tags":["example","sample"]}',
+        printed(b"{", b'  "author": null,', b'  "content": null,', b'  "title": [', b"    1", b"  ]", b"}")),
+    (["-m", OLD], b"\x1b", reported(3, "json_diff", "Parse error at line:1, col:0: Invalid character: U+001B")),
+]
+
+# The arguments, an input, and the statuses and words where the input is not UTF-8, can't be read, and where the output can't be written.
+STREAMS = [(["-m", OLD], b"1", (3, NO_TEXT), (4, FOLDER), (4, FULL))]
+
+# The arguments, an input, what is printed of it, and the statuses and words where a read and where a write fails.
+FAILING = [(["-m", OLD], b'{"a":%s}' % LONG, b'{"a":%s,%s}\n' % (LONG, REMOVED), (4, BROKEN), (4, BROKEN))]
+
+# Where each request for memory is refused: members that are removed, added, replaced, equal and merged, and a null.
+CHANGED = b'{"title":"","author":{"familyName":[[{"a":1.5}]],"b":"x"},"tags":["example","sample"],"c":{"d":[]}}'
+REFUSED_MEMORY = [(["-m", OLD], CHANGED), (["-mi", OLD], CHANGED), (["-m", OLD], b'{"title":{"a":{"b":null}}}')]
+
+
+def compared(folder, old, new, words=("-m",)):
+    """The answer for two texts, the old one from a file."""
+    with open(os.path.join(folder, "old"), "wb") as file:
+        file.write(old)
+    return run_of(program("json_diff"), [*words, "old"], new, cwd=folder)
+
+
+def merge(target, patch):
+    """`MergePatch(Target, Patch)` of RFC 7396, section 2."""
+    if not isinstance(patch, dict):
+        return patch
+    target = dict(target) if isinstance(target, dict) else {}
+    for name, value in patch.items():
+        if value is None:
+            target.pop(name, None)
+        else:
+            target[name] = merge(target.get(name), value)
+    return target
+
+
+def thinner(patch):
+    """The patch without one of its members, for each of them at any depth of objects."""
+    for name, value in patch.items() if isinstance(patch, dict) else ():
+        yield {key: it for key, it in patch.items() if key != name}
+        yield from ({**patch, name: it} for it in thinner(value))
+
+
+def led(folder, old, new):
+    """Where the printed patch leads, and whether it leads there without one of its members."""
+    status, output, errors = compared(folder, normal(old), normal(new))
+    if status != 0 or errors:
+        return status, output, errors
+    patch = json.loads(output)
+    return normal(merge(old, patch)), any(normal(merge(old, it)) == normal(new) for it in thinner(patch))
+
+
+def random_value(chance, depth, nulls):
+    kind = chance.randrange(7 if depth else 4)
+    if kind > 4:
+        return {chance.choice("abc"): random_value(chance, depth - 1, nulls) for _ in range(chance.randrange(4))}
+    if kind == 4:
+        return [random_value(chance, depth - 1, True) for _ in range(chance.randrange(3))]
+    return chance.choice([1, 2, True, "x", None] if nulls else [1, 2, True, "x", "y"])
+
+
+def changed_value(chance, value, depth):
+    """The value with some members changed, added and removed."""
+    if not isinstance(value, dict) or depth == 0 or chance.random() < 0.1:
+        return random_value(chance, depth, False)
+    changed = {}
+    for key, it in value.items():
+        if chance.random() < 0.3:
+            continue
+        changed[key] = changed_value(chance, it, depth - 1) if chance.random() < 0.5 else it
+    if chance.random() < 0.4:
+        changed[chance.choice("abcd")] = random_value(chance, depth - 1, False)
+    return changed
+
+
+def check_rows(checks):
+    for row in PATCHES:
+        old, new, patch = (it.encode() for it in row)
+        checks.row(f"json_diff: {old} {new}", printed(patch), compared, checks.folder, old, new, at=row)
+    for row in NONE:
+        old, new, place = row
+        answer = reported(1, "json_diff", NO_PATCH + place)
+        checks.row(f"json_diff: {old} {new}", answer, compared, checks.folder, old.encode(), new.encode(), at=row)
+    for row in LONG_ROWS:
+        old, new, answer = row
+        checks.row(f"json_diff: {old[:60]} {new[:60]}", answer, compared, checks.folder, old, new, at=row)
+    for row in ROWS:
+        words, given, answer = row
+        checks.row(f"json_diff: {words} {given}", answer, run_of, program("json_diff"), words, given, at=row)
+
+
+def check_led(checks):
+    """The rows of RFC 7396 read backwards, and random values: the patch leads to the new value, and none of its members is spare."""
+    for row in MERGED:
+        old, _, new = map(json.loads, row)
+        checks.row(f"json_diff: led {row[0]} {row[2]}", (normal(new), False), led, checks.folder, old, new, at=row)
+    for seed in range(200):
+        chance = random.Random(seed)
+        old = random_value(chance, 4, True)
+        new = changed_value(chance, old, 4)
+        checks.row(f"json_diff: random {seed}", (normal(new), False), led, checks.folder, old, new)
+
+
+def check_faults(checks):
+    FAULTS.streams(checks, STREAMS)
+    FAULTS.failing(checks, FAILING)
+    FAULTS.refusing(checks, REFUSED_MEMORY)
+
+
+PAGE = Page("json_diff", ["-m", OLD])
+
+PARTS = (PAGE.check, check_rows, check_led, check_faults)
