@@ -1,6 +1,5 @@
 pub mod Examples
 pub mod Handling
 pub mod Outcomes
-pub mod Reports
 pub mod Running
 pub mod Verdicts

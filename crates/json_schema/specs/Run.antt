@@ -9,7 +9,9 @@ use Rattle.tinyjson_cli.specs.declared.status.Status.TheVariants as ended
 use Rattle.tinyjson_lines.specs.Line.{line_of}
 use Rattle.tinyjson_lines.specs.Lines.{AnswersAll, StopsAmong, content}
 use Rattle.tinyjson_schema.specs.Reading.{tree_of}
-use Rattle.json_schema.specs.Report.{report_tree, text_line}
+use Rattle.tinyjson_schema_report.specs.Report.{report_tree}
+use Rattle.tinyjson_schema_report.specs.declared.found.Finding.{Finding}
+use Rattle.json_schema.specs.Report.{text_line}
 use Rattle.json_schema.specs.Told.{told_line}
 use Rattle.json_schema.specs.Verdicts.{GivesWithin}
 use Rattle.json_schema.specs.declared.lines.Check.{Check}
@@ -19,7 +21,6 @@ use Rattle.json_schema.specs.declared.lines.Shows.{Shows}
 use Rattle.json_schema.specs.declared.lines.Shows.TheVariants.{Reports, Texts, ValidLines, OtherLines}
 use Rattle.json_schema.specs.declared.verdict.Cause.{Cause}
 use Rattle.json_schema.specs.declared.verdict.Cause.TheVariants.{TooLong}
-use Rattle.json_schema.specs.declared.verdict.Finding.{Finding}
 use Rattle.json_schema.specs.declared.verdict.Verdict.{Verdict}
 use Rattle.json_schema.specs.declared.verdict.Verdict.TheVariants.{Valid, Invalid, Refused}
 

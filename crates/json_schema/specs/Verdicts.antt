@@ -1,7 +1,6 @@
 -- The verdict on a text.
 use Rattle.std.specs.Prelude.{◌≡◌, ℕ, List, Option, Some, None, Ok, Err}
 use Rattle.std.specs.Str.{IsUtf8, chars}
-use Rattle.std.specs.String.{string_bytes}
 use Rattle.tinyjson.specs.Error.{error_kind}
 use Rattle.tinyjson.specs.Grammar.{IsText, IsAccepted}
 use Rattle.tinyjson.specs.JsonParseErrorKind.TheVariants as kind
@@ -10,12 +9,9 @@ use Rattle.tinyjson.specs.Tree.{Tree}
 use Rattle.tinyjson.specs.declared.parser.error.JsonParseError.{JsonParseError}
 use Rattle.tinyjson_lines.specs.Lines.{content}
 use Rattle.tinyjson_lines.specs.Within.{IsLonger, IsWithin}
-use Rattle.tinyjson_pointer.specs.Tokens.{tokens_of}
 use Rattle.tinyjson_schema_keywords.specs.declared.walk.CheckError.TheVariants as check
-use Rattle.tinyjson_schema.specs.Valid.{Validates}
-use Rattle.tinyjson_schema_words.specs.Words.{words}
+use Rattle.tinyjson_schema_report.specs.Finds.{Finds}
 use Rattle.json_schema.specs.declared.verdict.Cause.TheVariants as cause
-use Rattle.json_schema.specs.declared.verdict.Finding.{Finding}
 use Rattle.json_schema.specs.declared.verdict.Verdict.{Verdict}
 use Rattle.json_schema.specs.declared.verdict.Verdict.TheVariants.{Valid, Invalid, Refused}
 
@@ -26,17 +22,12 @@ depth_limit = Some 100
 abbrev pub step_limit : ℕ
 step_limit = 200
 
--- the words are those of the violation of the schema s by the tree t
-abbrev pub HasWords : Tree → Tree → Finding → Type 0
-HasWords s t f =
-    string_bytes f.words ≡ words s t (tokens_of f.violation.keyword_location) (tokens_of f.violation.instance_location)
-
 -- the verdict on the tree t by the schema s
 abbrev pub ValueGives : Tree → Tree → Verdict → Type 0
-ValueGives s t Valid = Validates step_limit s t (Ok None)
-ValueGives s t (Invalid f) = Validates step_limit s t (Ok (Some f.violation)) × HasWords s t f
-ValueGives s t (Refused cause.TooDeep) = Validates step_limit s t (Err check.TooDeep)
-ValueGives s t (Refused cause.TooMuch) = Validates step_limit s t (Err check.TooMuch)
+ValueGives s t Valid = Finds step_limit s t (Ok None)
+ValueGives s t (Invalid f) = Finds step_limit s t (Ok (Some f))
+ValueGives s t (Refused cause.TooDeep) = Finds step_limit s t (Err check.TooDeep)
+ValueGives s t (Refused cause.TooMuch) = Finds step_limit s t (Err check.TooMuch)
 ValueGives s t (Refused _) = ⊥
 
 -- the characters are no JSON text, with this error of the parser

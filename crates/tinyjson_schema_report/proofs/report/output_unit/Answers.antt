@@ -4,8 +4,8 @@ use Rattle.tinyjson.proofs.Callers.{view_Boolean, view_String}
 use Rattle.tinyjson.specs.Tree.{string, put}
 use Rattle.tinyjson.specs.View.{view, text, members_view}
 use Rattle.tinyjson.specs.declared.value.JsonValue.TheVariants as is
-use Rattle.json_schema.proofs.Reports.{report_made}
-use Rattle.json_schema.proofs.report.output_unit.Goals as goal
+use Rattle.tinyjson_schema_report.proofs.Reports.{report_made}
+use Rattle.tinyjson_schema_report.proofs.report.output_unit.Goals as goal
 
 pub returns : goal.returns
 returns c =

@@ -6,8 +6,8 @@ use Rattle.tinyjson.specs.Number.{integer_decimal}
 use Rattle.tinyjson.specs.Tree.{number, put}
 use Rattle.tinyjson.specs.View.{view, members_view}
 use Rattle.tinyjson.specs.declared.value.JsonValue.TheVariants as is
-use Rattle.json_schema.specs.Report.{with_line}
-use Rattle.json_schema.proofs.report.put_line.Goals as goal
+use Rattle.tinyjson_schema_report.specs.Report.{with_line}
+use Rattle.tinyjson_schema_report.proofs.report.put_line.Goals as goal
 
 pub returns-in_ok-number-in-Some : goal.returns-in_ok-number-in-Some
 returns-in_ok-number-in-Some c =

@@ -5,9 +5,9 @@ use Rattle.tinyjson.proofs.Callers.{view_String}
 use Rattle.tinyjson.specs.Tree.{string, put}
 use Rattle.tinyjson.specs.View.{view, members_view}
 use Rattle.tinyjson.specs.declared.value.JsonValue.TheVariants as is
-use Rattle.json_schema.specs.Report.{place_tree}
-use Rattle.json_schema.proofs.Reports.{place_text}
-use Rattle.json_schema.proofs.report.put_place.Goals as goal
+use Rattle.tinyjson_schema_report.specs.Report.{place_tree}
+use Rattle.tinyjson_schema_report.proofs.Reports.{place_text}
+use Rattle.tinyjson_schema_report.proofs.report.put_place.Goals as goal
 
 pub returns : goal.returns
 returns c =

@@ -3,12 +3,12 @@ use Rattle.tinyjson.specs.View.{view}
 use Rattle.tinyjson_pointer.specs.Tokens.{tokens_of}
 use Rattle.tinyjson_schema_keywords.specs.declared.document.Whole.{Whole}
 use Rattle.tinyjson_schema_words.specs.Words.{words}
-use Rattle.json_schema.proofs.verdict.with_words.Goals as goal
+use Rattle.tinyjson_schema_report.proofs.found.with_words.Goals as goal
 
-pub returns : goal.returns
-returns c =
+pub returns-in-Ok : goal.returns-in-Ok
+returns-in-Ok c =
     let v = c.args.violation in (
       c.requires,
-      c.in_ok-words.ensures ∙ ap (λ (w : Whole). words (view w.root.now) (view c.args.value.now)
+      c.in-Ok.ensures ∙ ap (λ (w : Whole). words (view w.root.now) (view c.args.value.now)
           (tokens_of v.keyword_location) (tokens_of v.instance_location)) c.whole.ensures,
     )

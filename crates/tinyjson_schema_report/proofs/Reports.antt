@@ -13,8 +13,8 @@ use Rattle.tinyjson.specs.declared.value.JsonValue.TheVariants as is
 use Rattle.tinyjson_pointer.specs.Text.{escape_char, escape, pointer_text}
 use Rattle.tinyjson_pointer.specs.Tokens.{tokens_of}
 use Rattle.tinyjson_pointer.specs.declared.pointer.Pointer.{Pointer}
-use Rattle.json_schema.specs.Report.{place_tree, with_line, report_tree}
-use Rattle.json_schema.specs.declared.verdict.Finding.{Finding}
+use Rattle.tinyjson_schema_report.specs.Report.{place_tree, with_line, report_tree}
+use Rattle.tinyjson_schema_report.specs.declared.found.Finding.{Finding}
 
 -- ---- the text of a pointer is scalar values
 

@@ -1,0 +1,14 @@
+//! What a value violates of a JSON Schema, and the report of it.
+//!
+//! ```
+//! if let Some(finding) = find(&schema, &value, limits_of(text.len()), alloc)? {
+//!     let report = output_unit(alloc, None, &finding)?; // {"error":"must be at most 10, is 12",..,"valid":false}
+//! }
+//! ```
+#![tactic(auto)]
+
+mod found;
+mod report;
+
+pub use found::{Finding, find, limits_of};
+pub use report::output_unit;
