@@ -1,4 +1,4 @@
-//! Tests of `i_regexp`, `general_category` and `uri_reference`: the examples of their documentation,
+//! Tests of `i_regexp`, `general_category`, `uri_reference` and `text_formats`: the examples of their documentation,
 //! and what none of their contracts says.
 #![tactic(auto)]
 
@@ -6,6 +6,8 @@
 mod categories;
 #[cfg(test)]
 mod examples;
+#[cfg(test)]
+mod formats;
 #[cfg(test)]
 mod matching;
 #[cfg(test)]

@@ -1,0 +1,12 @@
+pub mod Letters
+pub mod Scan
+pub mod Splitting
+pub mod Form
+pub mod Date
+pub mod Duration
+pub mod Pointer
+pub mod Host
+pub mod Ip
+pub mod Email
+pub mod Uri
+pub mod Format

@@ -1,0 +1,21 @@
+-- JSON Pointers (RFC 6901, section 3), and relative ones (draft-bhutton-relative-json-pointer-00, section 3).
+use Rattle.std.specs.Prelude.{ℕ, Bool, true, false, ◌&&◌, ◌||◌, ◌==◌, not, List, [], ◌∷◌}
+use Rattle.text_formats.specs.Letters.{each, is_empty, is_not_digit, is_pointer_letter}
+use Rattle.uri_reference.specs.Letters.{before, from}
+
+abbrev pub is_pointer : List ℕ → Bool
+is_pointer [] = true
+is_pointer (c ∷ cs) = (c == 47) && each is_pointer_letter cs
+
+abbrev pub is_number_sign : List ℕ → Bool
+is_number_sign [] = false
+is_number_sign (c ∷ cs) = (c == 35) && is_empty cs
+
+-- `non-negative-integer`: digits, without a leading zero
+abbrev pub is_number : List ℕ → Bool
+is_number [] = false
+is_number (c ∷ cs) = is_empty cs || not (c == 48)
+
+abbrev pub is_relative_pointer : List ℕ → Bool
+is_relative_pointer text = is_number (before is_not_digit text)
+    && (is_number_sign (from is_not_digit text) || is_pointer (from is_not_digit text))

@@ -1,0 +1,119 @@
+//! Addresses of mail.
+ghost use Rattle.std.specs.Prelude.{◌≡◌, option_map};
+ghost use Rattle.text_formats.specs.Email.{is_email, is_atom, is_dot_string, is_printable, is_quoted_letter};
+ghost use Rattle.text_formats.specs.Email.{after_quoted, is_literal, is_bracketed, is_domain, is_at_domain};
+ghost use Rattle.text_formats.specs.Email.{is_only_end};
+
+use crate::host::is_host;
+use crate::ip::{is_address, is_quad};
+use crate::letters::{End, Letters, are, cut};
+
+/// Whether the text is an address of mail: `Mailbox` of RFC 5321, section 4.1.2, whose domain is a name of a host,
+/// or an address of IPv4 or IPv6 in brackets.
+///
+/// ```
+/// assert!(rt; is_email("joe.bloggs@example.com"));
+/// assert!(rt; is_email("\"joe@bloggs\"@[127.0.0.1]"));
+/// ```
+pub fn is_email(text: &str) -> bool
+    ensures { result ≡ is_email text.now }
+{
+    is_mailbox(text.as_bytes())
+}
+
+fn is_mailbox(text: &[u8]) -> bool
+    ensures { result ≡ is_email text.now }
+{
+    match text {
+        [] => false,
+        [b'"', quoted @ ..] => match after_quoted(quoted) {
+            Some(rest) => is_at_domain(rest),
+            None => false,
+        },
+        _ => {
+            let (local, rest) = cut(text, End::User);
+            is_dot_string(local) && is_at_domain(rest)
+        }
+    }
+}
+
+fn is_dot_string(text: &[u8]) -> bool
+    ensures { result ≡ is_dot_string text.now }
+{
+    text.split(|c| *c == b'.').all(|atom| is_atom(atom))
+}
+
+fn is_atom(text: &[u8]) -> bool
+    ensures { result ≡ is_atom text.now }
+{
+    !text.is_empty() && are(Letters::Atom, text)
+}
+
+/// What follows the quotation mark that ends the string, if the text begins with the rest of one.
+fn after_quoted(text: &[u8]) -> Option<&[u8]>
+    ensures { option_map (λ x. x.now) result ≡ after_quoted text.now }
+{
+    let mut rest = text;
+    loop {
+        rest = match rest {
+            [b'"', after @ ..] => return Some(after),
+            [b'\\', c, more @ ..] if is_printable(*c) => more,
+            [c, more @ ..] if is_quoted_letter(*c) => more,
+            _ => return None,
+        };
+    }
+}
+
+fn is_printable(c: u8) -> bool
+    ensures { result ≡ is_printable c }
+{
+    matches!(c, b' '..=b'~')
+}
+
+fn is_quoted_letter(c: u8) -> bool
+    ensures { result ≡ is_quoted_letter c }
+{
+    is_printable(c) && c != b'"' && c != b'\\'
+}
+
+fn is_at_domain(text: &[u8]) -> bool
+    ensures { result ≡ is_at_domain text.now }
+{
+    match text {
+        [b'@', domain @ ..] => is_domain(domain),
+        _ => false,
+    }
+}
+
+fn is_domain(text: &[u8]) -> bool
+    ensures { result ≡ is_domain text.now }
+{
+    match text {
+        [] => false,
+        [b'[', literal @ ..] => is_bracketed(literal),
+        _ => is_host(text),
+    }
+}
+
+fn is_bracketed(text: &[u8]) -> bool
+    ensures { result ≡ is_bracketed text.now }
+{
+    let (literal, rest) = cut(text, End::Literal);
+    is_literal(literal) && is_only_end(rest)
+}
+
+/// Whether the text is a bracket alone, as it begins with one.
+fn is_only_end(text: &[u8]) -> bool
+    ensures { result ≡ is_only_end text.now }
+{
+    matches!(text, [_])
+}
+
+fn is_literal(text: &[u8]) -> bool
+    ensures { result ≡ is_literal text.now }
+{
+    match text {
+        [b'I', b'P', b'v', b'6', b':', address @ ..] => is_address(address),
+        _ => is_quad(text),
+    }
+}

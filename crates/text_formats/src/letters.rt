@@ -1,0 +1,168 @@
+//! Letters, and where texts of them end.
+ghost use Rattle.std.specs.Prelude.{◌≡◌, length};
+ghost use Rattle.text_formats.specs.Letters.{each, is_unreserved, is_sub_delimiter, begins_with_pair};
+ghost use Rattle.text_formats.specs.Letters.{is_uri_letter, is_label_letter, is_atom_letter, is_pointer_letter};
+ghost use Rattle.text_formats.specs.Letters.{is_among};
+ghost use Rattle.text_formats.specs.Scan.{ends, passes};
+ghost use Rattle.uri_reference.specs.Letters.{before, from};
+ghost use Rattle.uri_reference.specs.Parts.{is_scheme_letter};
+
+/// Where a part of a text ends.
+#[derive(Clone, Copy)]
+pub(crate) enum End {
+    Digits,
+    User,
+    Host,
+    Literal,
+    Version,
+    Scheme,
+    Authority,
+    Path,
+    Query,
+}
+
+/// Letters of one kind.
+#[derive(Clone, Copy)]
+pub(crate) enum Letters {
+    Digit,
+    Hex,
+    Label,
+    Atom,
+    Pointer,
+    Scheme,
+    Host,
+    User,
+    Path,
+    Query,
+    Future,
+}
+
+/// The part before the end, and the rest from there on.
+pub(crate) fn cut(text: &[u8], end: End) -> (&[u8], &[u8])
+    ensures front { result.0.now ≡ before (ends end) text.now }
+    ensures rest { result.1.now ≡ from (ends end) text.now }
+{
+    text.split_at(end_in(text, end))
+}
+
+/// The number of bytes before the end.
+fn end_in(bytes: &[u8], end: End) -> usize
+    ensures { result ≡ length (before (ends end) bytes.now) }
+{
+    for (i, byte) in bytes.iter().enumerate() {
+        if ends(end, *byte) {
+            return i;
+        }
+    }
+    bytes.len()
+}
+
+fn ends(end: End, byte: u8) -> bool
+    ensures { result ≡ ends end byte }
+{
+    match end {
+        End::Digits => !byte.is_ascii_digit(),
+        End::User => byte == b'@',
+        End::Host => byte == b':',
+        End::Literal => byte == b']',
+        End::Version => byte == b'.',
+        End::Scheme => matches!(byte, b':' | b'/' | b'?' | b'#'),
+        End::Authority => matches!(byte, b'/' | b'?' | b'#'),
+        End::Path => matches!(byte, b'?' | b'#'),
+        End::Query => byte == b'#',
+    }
+}
+
+/// Whether all letters of the text are of the kind.
+pub(crate) fn are(letters: Letters, text: &[u8]) -> bool
+    ensures { result ≡ each (passes letters) text.now }
+{
+    let mut rest = text;
+    while let Some((c, more)) = rest.split_first() {
+        if !passes(letters, *c, more) {
+            return false;
+        }
+        rest = more;
+    }
+    true
+}
+
+/// Whether the letter is of the kind, before the rest.
+fn passes(letters: Letters, c: u8, rest: &[u8]) -> bool
+    ensures { result ≡ passes letters c rest.now }
+{
+    match letters {
+        Letters::Digit => c.is_ascii_digit(),
+        Letters::Hex => c.is_ascii_hexdigit(),
+        Letters::Label => is_label_letter(c),
+        Letters::Atom => is_atom_letter(c),
+        Letters::Pointer => is_pointer_letter(c, rest),
+        Letters::Scheme => is_scheme_letter(c),
+        Letters::Host => is_uri_letter(b"", c, rest),
+        Letters::User => is_uri_letter(b":", c, rest),
+        Letters::Path => is_uri_letter(b":@/", c, rest),
+        Letters::Query => is_uri_letter(b":@/?", c, rest),
+        Letters::Future => is_unreserved(c) || is_sub_delimiter(c) || c == b':',
+    }
+}
+
+pub(crate) fn is_label_letter(c: u8) -> bool
+    ensures { result ≡ is_label_letter c }
+{
+    c.is_ascii_alphanumeric() || c == b'-'
+}
+
+fn is_atom_letter(c: u8) -> bool
+    ensures { result ≡ is_atom_letter c }
+{
+    c.is_ascii_alphanumeric() || is_among(b"!#$%&'*+-/=?^_`{|}~", c)
+}
+
+fn is_pointer_letter(c: u8, rest: &[u8]) -> bool
+    ensures { result ≡ is_pointer_letter c rest.now }
+{
+    c != b'~' || matches!(rest, [b'0' | b'1', ..])
+}
+
+fn is_scheme_letter(c: u8) -> bool
+    ensures { result ≡ is_scheme_letter c }
+{
+    matches!(c, b'A'..=b'Z' | b'a'..=b'z' | b'0'..=b'9' | b'+' | b'-' | b'.')
+}
+
+/// Whether the letter may be in a part of a URI that has such other letters, where the rest is after it.
+fn is_uri_letter(others: &[u8], c: u8, rest: &[u8]) -> bool
+    ensures { result ≡ is_uri_letter others.now c rest.now }
+{
+    is_unreserved(c)
+        || is_sub_delimiter(c)
+        || is_among(others, c)
+        || (c == b'%' && begins_with_pair(rest))
+}
+
+fn is_unreserved(c: u8) -> bool
+    ensures { result ≡ is_unreserved c }
+{
+    c.is_ascii_alphanumeric() || is_among(b"-._~", c)
+}
+
+fn is_sub_delimiter(c: u8) -> bool
+    ensures { result ≡ is_sub_delimiter c }
+{
+    is_among(b"!$&'()*+,;=", c)
+}
+
+fn begins_with_pair(text: &[u8]) -> bool
+    ensures { result ≡ begins_with_pair text.now }
+{
+    match text {
+        [a, b, ..] => a.is_ascii_hexdigit() && b.is_ascii_hexdigit(),
+        _ => false,
+    }
+}
+
+fn is_among(letters: &[u8], c: u8) -> bool
+    ensures { result ≡ is_among letters.now c }
+{
+    letters.iter().any(|d| *d == c)
+}
