@@ -1,5 +1,6 @@
 pub mod Document
 pub mod Merge
+pub mod Merging
 pub mod Message
 pub mod Operation
 pub mod Patch

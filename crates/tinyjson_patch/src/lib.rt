@@ -13,6 +13,7 @@
 //!
 //! ```
 //! let merged = merge(target, &patch, alloc)?;
+//! let merged = merge_documents(alloc, target.root(), patch.root())?; // of documents, without building a value
 //! ```
 #![tactic(auto)]
 
@@ -20,12 +21,14 @@ mod among;
 mod boxes;
 mod document;
 mod fault;
+mod merge_document;
 mod merge_patch;
 mod operation;
 mod patch;
 mod run;
 
 pub use fault::{Fault, Member, PatchError};
+pub use merge_document::merge_documents;
 pub use merge_patch::merge;
 pub use operation::{Operation, OperationError, Reason};
 pub use patch::{ApplyError, Patch};
