@@ -1,5 +1,6 @@
 pub mod Forms
 pub mod Loops
+pub mod Marks
 pub mod Operands
 pub mod Parts
 pub mod Patterns

@@ -4,7 +4,6 @@ use Rattle.std.proofs.Common.{[], ◌∷◌, suc, length, Vec, string_bytes, Glo
 use Rattle.std.proofs.lemmas.Str.{IsUtf8-string_bytes}
 use Rattle.std.specs.HashMap.{get_by_text}
 use Rattle.std.specs.Prelude.{option_and_then, slice_get}
-use Rattle.std.specs.Str.{chars}
 use Rattle.tinyjson.proofs.Callers.{view_Array, nth_items_view, item_count_view, no_array}
 use Rattle.tinyjson.proofs.Callers.{view_Object, view_String, view_ref, find_get, is_key, are_ascii}
 use Rattle.tinyjson.specs.Access.{JsonMap}
@@ -16,8 +15,6 @@ use Rattle.tinyjson.specs.JsonKind.{JsonKind}
 use Rattle.tinyjson.specs.JsonKind.TheVariants as kind
 use Rattle.tinyjson.specs.declared.value.JsonValue.{JsonValue}
 use Rattle.tinyjson.specs.declared.value.JsonValue.TheVariants as is
-use Rattle.tinyjson_schema_keywords.specs.Names.{name}
-use Rattle.tinyjson_schema_keywords.proofs.Callers.{at_literal}
 use Rattle.tinyjson_schema.specs.Assertions.{is_whole, is_type, is_present, member_count, length_of, items_count_of, members_count_of}
 use Rattle.tinyjson_schema.specs.Parts.{property, prefix_item}
 
@@ -61,12 +58,12 @@ key_present v s m bs e b =
     ∙ ap (λ x. is_present x (members_view m.entries)) (sym (ap view e ∙ view_String s))))
 
 -- the schema of a key, if there are any, and if there are none
-pub property_found : (s p : Tree) (k : List ℕ) (o : Option Tree) → Some p ≡ tree_at_key s (chars (codes "properties"))
+pub property_found : (s p : Tree) (k : List ℕ) (o : Option Tree) → Some p ≡ tree_at_key s (codes "properties")
     → o ≡ tree_at_key p k → o ≡ property s k
-property_found s p k o h e = e ∙ ap (option_and_then (λ q. tree_at_key q k)) (at_literal (Some p) s (codes "properties") refl h)
+property_found s p k o h e = e ∙ ap (option_and_then (λ q. tree_at_key q k)) h
 
-pub property_missing : (s : Tree) (k : List ℕ) → None ≡ tree_at_key s (chars (codes "properties")) → None ≡ property s k
-property_missing s k h = ap (option_and_then (λ q. tree_at_key q k)) (at_literal None s (codes "properties") refl h)
+pub property_missing : (s : Tree) (k : List ℕ) → None ≡ tree_at_key s (codes "properties") → None ≡ property s k
+property_missing s k h = ap (option_and_then (λ q. tree_at_key q k)) h
 
 -- ---- what is listed of a map
 
@@ -84,24 +81,24 @@ key_there s m bs b =
     ∙ ap is_some (sym (find_get m (string_bytes s) (IsUtf8-string_bytes s))))
 
 pub prefix_found : (s : Tree) (v : JsonValue) (l : Vec JsonValue Global) (i : ℕ) (r : Option (Bor JsonValue)) → v ≡ is.Array l
-    → Some (view v) ≡ tree_at_key s (chars (codes "prefixItems")) → option_map (λ x. x.now) r ≡ slice_get l.items i
+    → Some (view v) ≡ tree_at_key s (codes "prefixItems") → option_map (λ x. x.now) r ≡ slice_get l.items i
     → option_map (λ x. view x.now) r ≡ prefix_item s i
 prefix_found s v l i r e h g =
     view_ref r ∙ (ap (option_map view) g ∙ (sym (nth_items_view l.items i)
     ∙ (ap (λ t. tree_at t i) (sym (ap view e ∙ view_Array l))
-    ∙ ap (option_and_then (λ p. tree_at p i)) (at_literal (Some (view v)) s (codes "prefixItems") refl h))))
+    ∙ ap (option_and_then (λ p. tree_at p i)) h)))
 
 pub prefix_other : (s : Tree) (v : JsonValue) (i : ℕ) → ((l : Vec JsonValue Global) → v ≡ is.Array l → ⊥)
-    → Some (view v) ≡ tree_at_key s (chars (codes "prefixItems")) → None ≡ prefix_item s i
+    → Some (view v) ≡ tree_at_key s (codes "prefixItems") → None ≡ prefix_item s i
 prefix_other s v i other h = by (view v) (no_array v other)
-    ∙ ap (option_and_then (λ p. tree_at p i)) (at_literal (Some (view v)) s (codes "prefixItems") refl h)
+    ∙ ap (option_and_then (λ p. tree_at p i)) h
   where
     by : (t : Tree) → ((ts : Items) → t ≡ array ts → ⊥) → None ≡ tree_at t i
     by (array ts) n = absurd (n ts refl)
     by _ n = refl
 
-pub prefix_missing : (s : Tree) (i : ℕ) → None ≡ tree_at_key s (chars (codes "prefixItems")) → None ≡ prefix_item s i
-prefix_missing s i h = ap (option_and_then (λ p. tree_at p i)) (at_literal None s (codes "prefixItems") refl h)
+pub prefix_missing : (s : Tree) (i : ℕ) → None ≡ tree_at_key s (codes "prefixItems") → None ≡ prefix_item s i
+prefix_missing s i h = ap (option_and_then (λ p. tree_at p i)) h
 
 -- ---- counts
 

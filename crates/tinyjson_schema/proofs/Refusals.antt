@@ -1,6 +1,6 @@
 -- Places of what can't be applied.
 use Rattle.std.proofs.Common.{◌≡◌, ◌∷◌, [], ℕ, suc, ◌<◌, Bool, true, false, ◌&&◌, List, Option, Some, None, Result, Ok, Err, String, Global}
-use Rattle.std.proofs.Common.{Vec, length, get_or, encode_utf8_all, refl, sym, ap, ◌∙◌, subst, ◌||◌}
+use Rattle.std.proofs.Common.{length, get_or, encode_utf8_all, refl, sym, ap, ◌∙◌, subst}
 use Rattle.std.specs.declared.alloc.AllocError.{AllocError}
 use Rattle.i_regexp.specs.PatternDeciding.{is_pattern}
 use Rattle.tinyjson.proofs.Callers.{string_from_tree, no_object}
@@ -22,7 +22,7 @@ use Rattle.tinyjson_schema_keywords.specs.Subschemas.{item_parts, entry_parts}
 use Rattle.tinyjson_schema_keywords.specs.declared.subschemas.Part.{Part}
 use Rattle.tinyjson_schema_keywords.proofs.Callers.{Listed, listed_found, IsWay, part_step}
 use Rattle.tinyjson_schema.specs.Operands.{is_pattern_text, are_patterns, has_patterns}
-use Rattle.tinyjson_schema.specs.Refused.{IsRefusedAt, IsAboveAt, IsReason, IsTextReason, IsWhole, Refuses, RefusesWhole, has_own_form}
+use Rattle.tinyjson_schema.specs.Refused.{IsRefusedAt, IsReason, IsTextReason, IsWhole, Refuses, RefusesWhole, has_own_form}
 use Rattle.tinyjson_schema.specs.Refused.{has_shape, is_applied, IsBefore, whole_for}
 use Rattle.tinyjson_schema.specs.Refused.IsRefusedAt.{itself, no_pattern, inside}
 use Rattle.tinyjson_schema.specs.Refused.IsAboveAt.{value, key, within}

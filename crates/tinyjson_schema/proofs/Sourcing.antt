@@ -72,10 +72,10 @@ within_at n (y ∷ xs) (suc i) x h k e = within_at n xs i x h.1 (omega arith) e
 
 -- a schema, one step further in, and those that it applies
 pub schema_added : (w inner : Walk) (x : Source) (t : Tree) (xs ys zs : List Source) → IsDeeper w inner → x.asks ≡ false → x.walk ≡ inner
-    → ys ≡ xs ++ x ∷ [] → Adds inner (λ a c. inner_evaluate (view inner.whole.now.root.now) a (view x.schema.now) t c) ys zs
-    → Adds w (λ a c. a.evaluates (view x.schema.now) t c) xs zs
+    → ys ≡ xs ++ x ∷ [] → Adds inner (λ a c. inner_evaluate (view inner.whole.now.root.now) a (view x.applied.schema.now) t c) ys zs
+    → Adds w (λ a c. a.evaluates (view x.applied.schema.now) t c) xs zs
 schema_added w inner x t xs ys zs d answers_for same put k g c =
-    let s = view x.schema.now in
+    let s = view x.applied.schema.now in
     let root = view inner.whole.now.root.now in
     let old = sources_evaluate g xs c in
     let rest = is_some (schema_at s (rest_keyword c)) in
@@ -91,10 +91,10 @@ schema_added w inner x t xs ys zs d answers_for same put k g c =
 
 -- the schema that asks, and those that it applies
 pub asking_added : (w : Walk) (x : Source) (t : Tree) (ys zs : List Source) → x.asks ≡ true → x.walk ≡ w → ys ≡ x ∷ []
-    → Adds w (λ a c. inner_evaluate (view w.whole.now.root.now) a (view x.schema.now) t c) ys zs → (g : Answers) (c : Child)
-    → sources_evaluate g zs c ≡ others_evaluate (view w.whole.now.root.now) (answers_in w g) (view x.schema.now) t c
+    → Adds w (λ a c. inner_evaluate (view w.whole.now.root.now) a (view x.applied.schema.now) t c) ys zs → (g : Answers) (c : Child)
+    → sources_evaluate g zs c ≡ others_evaluate (view w.whole.now.root.now) (answers_in w g) (view x.applied.schema.now) t c
 asking_added w x t ys zs asked same put k g c =
-    let s = view x.schema.now in
+    let s = view x.applied.schema.now in
     let rest = is_some (schema_at s (rest_keyword c)) in
     let more = inner_evaluate (view w.whole.now.root.now) (answers_in w g) s t c in
     let one : source_evaluates g x c ≡ applies_to (says w g) s c

@@ -35,6 +35,10 @@ use Rattle.tinyjson_schema.specs.Valid.{Follows, Decides, Judges, Finds, IsUnapp
 use Rattle.tinyjson_schema.specs.Valid.{in_dependent, in_patterned, in_reference, in_part}
 use Rattle.tinyjson_schema.specs.declared.violation.Violation.{Violation}
 
+pub flipped : (b c : Bool) → c ≡ not b → b ≡ not c
+flipped true c h = ap not (sym h)
+flipped false c h = ap not (sym h)
+
 -- ---- what a valid value meets
 
 pub record IsMet (root : Tree) (a : Answers) (s t : Tree) : Type 0 where

@@ -2,6 +2,7 @@ pub mod Applicators
 pub mod Assertions
 pub mod Circles
 pub mod Evaluated
+pub mod Marks
 pub mod Operands
 pub mod Parts
 pub mod Places

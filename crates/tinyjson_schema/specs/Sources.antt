@@ -16,8 +16,8 @@ use Rattle.tinyjson_schema.specs.declared.violation.Violation.{Violation}
 
 -- A keyword of the schema evaluates the child. The keyword for the rest counts except in the schema that asks.
 abbrev pub source_evaluates : Answers → Source → Child → Bool
-source_evaluates g x c = (not x.asks && is_some (schema_at (view x.schema.now) (rest_keyword c)))
-    || applies_to (says x.walk g) (view x.schema.now) c
+source_evaluates g x c = (not x.asks && is_some (schema_at (view x.applied.schema.now) (rest_keyword c)))
+    || applies_to (says x.walk g) (view x.applied.schema.now) c
 
 abbrev pub sources_evaluate : Answers → List Source → Child → Bool
 sources_evaluate g [] c = false

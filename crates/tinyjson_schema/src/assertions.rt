@@ -4,7 +4,7 @@ ghost use Rattle.std.specs.Option.{option_map_or};
 ghost use Rattle.tinyjson.specs.Kind.{kind_of, kind_name};
 ghost use Rattle.tinyjson.specs.Tree.{number};
 ghost use Rattle.tinyjson.specs.View.{view, text, items_view, members_view, members_listed};
-ghost use Rattle.tinyjson_schema.specs.Assertions.{accepts, meets, IsUnmet, IsUnmetAmong, count};
+ghost use Rattle.tinyjson_schema.specs.Assertions.{accepts, meets, IsUnmetAmong, count};
 ghost use Rattle.tinyjson_schema.specs.Assertions.{is_whole, is_type, has_some_type, has_type};
 ghost use Rattle.tinyjson_schema.specs.Assertions.{is_among, is_in, are_ordered, are_apart};
 ghost use Rattle.tinyjson_schema.specs.Assertions.{is_present, are_present, has_keys};
@@ -14,16 +14,17 @@ ghost use Rattle.tinyjson_schema.specs.Assertions.{items_count_of, members_count
 ghost use Rattle.tinyjson_schema.specs.Assertions.{is_count_at_most, is_count_at_least};
 ghost use Rattle.tinyjson_schema.specs.Assertions.{has_pattern};
 
+use crate::applied::Applied;
 use crate::multiple::are_multiple;
 use crate::unique::are_unique;
 use std::alloc::{AllocError, Global};
 use std::collections::HashMap;
 use tinyjson::{JsonNumber, JsonValue, sorted_members};
 use tinyjson_compare::is_at_most;
-use tinyjson_schema_keywords::{Keyword, Walk, operand};
+use tinyjson_schema_keywords::{Keyword, Walk};
 
 /// The assertions, in the order in which they are checked.
-const ASSERTIONS: [Keyword; 18] = [
+pub const ASSERTIONS: [Keyword; 18] = [
     Keyword::Type,
     Keyword::Enum,
     Keyword::Const,
@@ -44,30 +45,20 @@ const ASSERTIONS: [Keyword; 18] = [
     Keyword::DependentRequired,
 ];
 
-/// An assertion of the schema that the value violates, if there is one. Not inlined, since its frame takes 9 KB,
+/// One of the keywords that the schema has and the value violates, if there is one. Not inlined, since its frame takes 9 KB,
 /// and the recursion over schemas calls it at each level.
 #[inline(never)]
 pub fn unmet(
-    schema: &JsonValue,
-    value: &JsonValue,
-    walk: Walk<'_, '_>,
-) -> Result<Option<Keyword>, AllocError>
-    ensures { IfOk result (λ found. IsUnmet (view schema.now) (view value.now) found) }
-{
-    unmet_among(&ASSERTIONS, schema, value, walk)
-}
-
-fn unmet_among(
     keywords: &[Keyword],
-    schema: &JsonValue,
+    here: Applied<'_>,
     value: &JsonValue,
     walk: Walk<'_, '_>,
 ) -> Result<Option<Keyword>, AllocError>
     ensures { IfOk result
-        (λ found. IsUnmetAmong keywords.now (view schema.now) (view value.now) found) }
+        (λ found. IsUnmetAmong keywords.now (view here.entry.schema.now) (view value.now) found) }
 {
     for keyword in keywords {
-        let is_met = meets(*keyword, schema, value, walk)?;
+        let is_met = meets(*keyword, here, value, walk)?;
         if !is_met {
             return Ok(Some(*keyword));
         }
@@ -77,13 +68,13 @@ fn unmet_among(
 
 fn meets(
     keyword: Keyword,
-    schema: &JsonValue,
+    here: Applied<'_>,
     value: &JsonValue,
     walk: Walk<'_, '_>,
 ) -> Result<bool, AllocError>
-    ensures { IfOk result (λ is. is ≡ meets keyword (view schema.now) (view value.now)) }
+    ensures { IfOk result (λ is. is ≡ meets keyword (view here.entry.schema.now) (view value.now)) }
 {
-    match operand(schema, keyword.name()) {
+    match here.schema_at(keyword) {
         Some(operand) => accepts(keyword, operand, value, walk),
         None => Ok(true),
     }

@@ -7,16 +7,17 @@ ghost use Rattle.tinyjson_schema_keywords.specs.declared.keyword.Keyword.TheVari
 ghost use Rattle.tinyjson_schema.specs.Applicators.{contains_some, contains_at_most};
 ghost use Rattle.tinyjson_schema.specs.Applicators.{contains_at_least, is_zero};
 
+use crate::applied::Applied;
 use crate::assertions::{is_count_at_least, is_count_at_most};
 use std::alloc::{AllocError, Global};
 use tinyjson::JsonValue;
-use tinyjson_schema_keywords::{Keyword, schema_at};
+use tinyjson_schema_keywords::Keyword;
 
 /// Whether the count is at least 1, unless `minContains` is 0; true for `None`.
-pub fn contains_some(count: Option<usize>, schema: &JsonValue) -> bool
-    ensures { result ≡ contains_some count (view schema.now) }
+pub fn contains_some(count: Option<usize>, here: Applied<'_>) -> bool
+    ensures { result ≡ contains_some count (view here.entry.schema.now) }
 {
-    if needs_none(schema) {
+    if needs_none(here) {
         return true;
     }
     match count {
@@ -25,10 +26,11 @@ pub fn contains_some(count: Option<usize>, schema: &JsonValue) -> bool
     }
 }
 
-fn needs_none(schema: &JsonValue) -> bool
-    ensures { result ≡ option_map_or is_zero (schema_at (view schema.now) kw.MinContains) false }
+fn needs_none(here: Applied<'_>) -> bool
+    ensures { result
+        ≡ option_map_or is_zero (schema_at (view here.entry.schema.now) kw.MinContains) false }
 {
-    match schema_at(schema, Keyword::MinContains) {
+    match here.schema_at(Keyword::MinContains) {
         Some(least) => is_zero(least),
         None => false,
     }
@@ -46,12 +48,12 @@ fn is_zero(value: &JsonValue) -> bool
 /// Whether the count is at most `maxContains`; true for `None`.
 pub fn contains_at_most(
     count: Option<usize>,
-    schema: &JsonValue,
+    here: Applied<'_>,
     alloc: Global,
 ) -> Result<bool, AllocError>
-    ensures { IfOk result (λ is. is ≡ contains_at_most count (view schema.now)) }
+    ensures { IfOk result (λ is. is ≡ contains_at_most count (view here.entry.schema.now)) }
 {
-    match schema_at(schema, Keyword::MaxContains) {
+    match here.schema_at(Keyword::MaxContains) {
         Some(limit) => is_count_at_most(count, limit, alloc),
         None => Ok(true),
     }
@@ -60,12 +62,12 @@ pub fn contains_at_most(
 /// Whether the count is at least `minContains`; true for `None`.
 pub fn contains_at_least(
     count: Option<usize>,
-    schema: &JsonValue,
+    here: Applied<'_>,
     alloc: Global,
 ) -> Result<bool, AllocError>
-    ensures { IfOk result (λ is. is ≡ contains_at_least count (view schema.now)) }
+    ensures { IfOk result (λ is. is ≡ contains_at_least count (view here.entry.schema.now)) }
 {
-    match schema_at(schema, Keyword::MinContains) {
+    match here.schema_at(Keyword::MinContains) {
         Some(limit) => is_count_at_least(count, limit, alloc),
         None => Ok(true),
     }

@@ -5,6 +5,7 @@
 //! ```
 #![tactic(auto)]
 
+mod applied;
 mod assertions;
 mod circles;
 mod contains;

@@ -6,8 +6,9 @@ ghost use Rattle.tinyjson_schema.specs.Parts.{property, prefix_item, some_found,
 ghost use Rattle.tinyjson_schema.specs.Parts.{additional};
 ghost use Rattle.tinyjson_schema.specs.Places.{IsMemberPart, IsItemPart};
 
+use crate::applied::Applied;
 use tinyjson::JsonValue;
-use tinyjson_schema_keywords::{CheckError, Keyword, Walk, operand, schema_map_at};
+use tinyjson_schema_keywords::{CheckError, Keyword, Walk, operand};
 
 /// The schema for a part of the value, and the keyword that applies it.
 #[derive(Clone, Copy)]
@@ -19,20 +20,20 @@ pub struct Part<'s> {
 /// The schema for the member at the key: that of `properties`, or else `additionalProperties`, unless a pattern of
 /// `patternProperties` matches the key. It takes a step.
 pub fn member_part<'s>(
-    schema: &'s JsonValue,
+    here: Applied<'s>,
     key: &str,
     walk: Walk<'_, '_>,
 ) -> Result<Option<Part<'s>>, CheckError>
-    ensures { IfOk result (λ part. IsMemberPart (view schema.now) (chars key.now) part) }
+    ensures { IfOk result (λ part. IsMemberPart (view here.entry.schema.now) (chars key.now) part) }
 {
     walk.whole.budget.spend(1)?;
-    if let Some(part) = property(schema, key) {
+    if let Some(part) = property(here, key) {
         return Ok(Some(Part {
             applicator: Keyword::Properties,
             schema: part,
         }));
     }
-    match additional(schema, key, walk)? {
+    match additional(here, key, walk)? {
         Some(part) => Ok(Some(Part {
             applicator: Keyword::AdditionalProperties,
             schema: part,
@@ -42,16 +43,16 @@ pub fn member_part<'s>(
 }
 
 /// The schema for the item at the index: that of `prefixItems`, or else `items`.
-pub fn item_part(schema: &JsonValue, index: usize) -> Option<Part<'_>>
-    ensures { IsItemPart (view schema.now) index result }
+pub fn item_part(here: Applied<'_>, index: usize) -> Option<Part<'_>>
+    ensures { IsItemPart (view here.entry.schema.now) index result }
 {
-    if let Some(part) = prefix_item(schema, index) {
+    if let Some(part) = prefix_item(here, index) {
         return Some(Part {
             applicator: Keyword::PrefixItems,
             schema: part,
         });
     }
-    match operand(schema, "items") {
+    match here.schema_at(Keyword::Items) {
         Some(part) => Some(Part {
             applicator: Keyword::Items,
             schema: part,
@@ -61,25 +62,27 @@ pub fn item_part(schema: &JsonValue, index: usize) -> Option<Part<'_>>
 }
 
 /// The schema that `properties` has at a key.
-fn property<'s>(schema: &'s JsonValue, key: &str) -> Option<&'s JsonValue>
-    ensures { option_map (λ x. view x.now) result ≡ property (view schema.now) (chars key.now) }
+fn property<'s>(here: Applied<'s>, key: &str) -> Option<&'s JsonValue>
+    ensures { option_map (λ x. view x.now) result
+        ≡ property (view here.entry.schema.now) (chars key.now) }
 {
-    operand(operand(schema, "properties")?, key)
+    operand(here.schema_at(Keyword::Properties)?, key)
 }
 
 /// The schema of `additionalProperties` for a key that no pattern matches.
 fn additional<'s>(
-    schema: &'s JsonValue,
+    here: Applied<'s>,
     key: &str,
     walk: Walk<'_, '_>,
 ) -> Result<Option<&'s JsonValue>, CheckError>
     ensures { IfOk result (λ part.
-        option_map (λ x. view x.now) part ≡ additional (view schema.now) (chars key.now)) }
+        option_map (λ x. view x.now) part
+        ≡ additional (view here.entry.schema.now) (chars key.now)) }
 {
-    let Some(part) = operand(schema, "additionalProperties") else {
+    let Some(part) = here.schema_at(Keyword::AdditionalProperties) else {
         return Ok(None);
     };
-    let patterned = is_patterned(schema, key, walk)?;
+    let patterned = is_patterned(here, key, walk)?;
     if patterned {
         return Ok(None);
     }
@@ -89,10 +92,10 @@ fn additional<'s>(
 /// Whether a pattern of `patternProperties` matches the key. Not inlined, since the recursion over schemas calls it
 /// at each level.
 #[inline(never)]
-pub fn is_patterned(schema: &JsonValue, key: &str, walk: Walk<'_, '_>) -> Result<bool, CheckError>
-    ensures { IfOk result (λ is. is ≡ is_patterned (view schema.now) (chars key.now)) }
+pub fn is_patterned(here: Applied<'_>, key: &str, walk: Walk<'_, '_>) -> Result<bool, CheckError>
+    ensures { IfOk result (λ is. is ≡ is_patterned (view here.entry.schema.now) (chars key.now)) }
 {
-    let patterns = schema_map_at(schema, Keyword::PatternProperties, walk.alloc)?;
+    let patterns = here.schema_map_at(Keyword::PatternProperties, walk.alloc)?;
     some_found(patterns.as_slice(), key, walk)
 }
 
@@ -114,10 +117,10 @@ fn some_found(
 }
 
 /// The schema that `prefixItems` has at an index.
-fn prefix_item(schema: &JsonValue, index: usize) -> Option<&JsonValue>
-    ensures { option_map (λ x. view x.now) result ≡ prefix_item (view schema.now) index }
+fn prefix_item(here: Applied<'_>, index: usize) -> Option<&JsonValue>
+    ensures { option_map (λ x. view x.now) result ≡ prefix_item (view here.entry.schema.now) index }
 {
-    match operand(schema, "prefixItems")? {
+    match here.schema_at(Keyword::PrefixItems)? {
         JsonValue::Array(schemas) => schemas.get(index),
         _ => None,
     }

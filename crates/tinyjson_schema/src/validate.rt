@@ -1,5 +1,5 @@
 //! What a value violates of a schema.
-ghost use Rattle.std.specs.Prelude.{◌≡◌, IfOk, not, is_some, true};
+ghost use Rattle.std.specs.Prelude.{◌≡◌, IfOk, true};
 ghost use Rattle.tinyjson.specs.Tree.{array, object};
 ghost use Rattle.tinyjson.specs.View.{view, items_view, members_listed};
 ghost use Rattle.tinyjson.specs.Soundness.{IsSorted};
@@ -16,16 +16,14 @@ ghost use Rattle.tinyjson_schema.specs.Valid.{target_accepts};
 mod tested;
 mod unevaluated;
 
-use crate::assertions::unmet;
+use crate::applied::{Applied, marks_of};
+use crate::assertions::{ASSERTIONS, unmet};
 use crate::part::{item_part, member_part};
 use crate::validate::tested::unmet_test;
 use crate::validate::unevaluated::in_rest;
 use crate::violation::Violation;
 use tinyjson::{JsonValue, sorted_members};
-use tinyjson_schema_keywords::{
-    CheckError, Keyword, Walk, branch, has_key, listed_members, referenced, schema_at,
-    schema_map_at, schemas_at,
-};
+use tinyjson_schema_keywords::{CheckError, Keyword, Walk, branch, has_key, listed_members};
 
 /// What the value violates of the whole schema, if it violates it; `None` means that the value is valid. Nested
 /// schemas are applied, by keywords and by references, up to the steps that the walk has left; for more the error
@@ -61,31 +59,35 @@ fn violation_in(
     if refuses_all(schema) {
         return Ok(Some(Violation::of_schema(walk.alloc)));
     }
-    if let Some(keyword) = unmet(schema, value, walk)? {
+    let here = Applied {
+        schema,
+        marks: marks_of(schema),
+    };
+    if let Some(keyword) = unmet(&ASSERTIONS, here, value, walk)? {
         return Ok(Some(Violation::of_keyword(walk.alloc, keyword)?));
     }
-    if let Some(keyword) = unmet_test(value, schema, inner)? {
+    if let Some(keyword) = unmet_test(value, here, inner)? {
         return Ok(Some(Violation::of_keyword(walk.alloc, keyword)?));
     }
-    if let Some(found) = in_all_of(value, schema, inner)? {
+    if let Some(found) = in_all_of(value, here, inner)? {
         return Ok(Some(found));
     }
-    if let Some(found) = in_branch(value, schema, inner)? {
+    if let Some(found) = in_branch(value, here, inner)? {
         return Ok(Some(found));
     }
-    if let Some(found) = in_dependents(value, schema, inner)? {
+    if let Some(found) = in_dependents(value, here, inner)? {
         return Ok(Some(found));
     }
-    if let Some(found) = in_patterned(value, schema, inner)? {
+    if let Some(found) = in_patterned(value, here, inner)? {
         return Ok(Some(found));
     }
-    if let Some(found) = in_reference(value, schema, inner)? {
+    if let Some(found) = in_reference(value, here, inner)? {
         return Ok(Some(found));
     }
-    if let Some(found) = in_parts(value, schema, inner)? {
+    if let Some(found) = in_parts(value, here, inner)? {
         return Ok(Some(found));
     }
-    in_rest(value, schema, inner)
+    in_rest(value, here, inner)
 }
 
 /// Whether it is the schema `false`.
@@ -109,30 +111,21 @@ fn is_accepted(
         (λ is. Follows walk.entry is (λ f. f (view schema.now) (view value.now))) }
 {
     let found = violation_in(value, schema, walk)?;
-    Ok(is_nothing(&found))
-}
-
-fn is_nothing(found: &Option<Violation>) -> bool
-    ensures { result ≡ not (is_some found.now) }
-{
-    match found {
-        Some(_) => false,
-        None => true,
-    }
+    Ok(found.is_none())
 }
 
 /// What the value violates of a schema of `allOf`.
 #[cycle(validate)]
 fn in_all_of(
     value: &JsonValue,
-    schema: &JsonValue,
+    here: Applied<'_>,
     walk: Walk<'_, '_>,
 ) -> Result<Option<Violation>, CheckError>
     ensures { Finds walk.entry
-        (λ f. applies f kw.AllOf (view schema.now) (view value.now))
-        (view schema.now) (view value.now) result }
+        (λ f. applies f kw.AllOf (view here.entry.schema.now) (view value.now))
+        (view here.entry.schema.now) (view value.now) result }
 {
-    let parts = schemas_at(schema, Keyword::AllOf);
+    let parts = here.schemas_at(Keyword::AllOf);
     for (index, part) in parts.iter().enumerate() {
         if let Some(mut found) = violation_in(value, part, walk)? {
             found.enter_listed(walk.alloc, Keyword::AllOf, index)?;
@@ -146,18 +139,18 @@ fn in_all_of(
 #[cycle(validate)]
 fn in_branch(
     value: &JsonValue,
-    schema: &JsonValue,
+    here: Applied<'_>,
     walk: Walk<'_, '_>,
 ) -> Result<Option<Violation>, CheckError>
-    ensures { Finds walk.entry (λ f. applies f kw.If (view schema.now) (view value.now))
-        (view schema.now) (view value.now) result }
+    ensures { Finds walk.entry (λ f. applies f kw.If (view here.entry.schema.now) (view value.now))
+        (view here.entry.schema.now) (view value.now) result }
 {
-    let Some(test) = schema_at(schema, Keyword::If) else {
+    let Some(test) = here.schema_at(Keyword::If) else {
         return Ok(None);
     };
     let accepted = is_accepted(value, test, walk)?;
     let chosen = branch(accepted);
-    let Some(part) = schema_at(schema, chosen) else {
+    let Some(part) = here.schema_at(chosen) else {
         return Ok(None);
     };
     let Some(mut found) = violation_in(value, part, walk)? else {
@@ -171,14 +164,14 @@ fn in_branch(
 #[cycle(validate)]
 fn in_dependents(
     value: &JsonValue,
-    schema: &JsonValue,
+    here: Applied<'_>,
     walk: Walk<'_, '_>,
 ) -> Result<Option<Violation>, CheckError>
     ensures { Finds walk.entry
-        (λ f. applies f kw.DependentSchemas (view schema.now) (view value.now))
-        (view schema.now) (view value.now) result }
+        (λ f. applies f kw.DependentSchemas (view here.entry.schema.now) (view value.now))
+        (view here.entry.schema.now) (view value.now) result }
 {
-    let listed = schema_map_at(schema, Keyword::DependentSchemas, walk.alloc)?;
+    let listed = here.schema_map_at(Keyword::DependentSchemas, walk.alloc)?;
     let dependents = listed.as_slice();
     walk.whole.budget.charge(dependents.len());
     for &(key, part) in dependents {
@@ -197,14 +190,14 @@ fn in_dependents(
 #[inline(never)]
 fn in_patterned(
     value: &JsonValue,
-    schema: &JsonValue,
+    here: Applied<'_>,
     walk: Walk<'_, '_>,
 ) -> Result<Option<Violation>, CheckError>
     ensures { Finds walk.entry
-        (λ f. applies f kw.PatternProperties (view schema.now) (view value.now))
-        (view schema.now) (view value.now) result }
+        (λ f. applies f kw.PatternProperties (view here.entry.schema.now) (view value.now))
+        (view here.entry.schema.now) (view value.now) result }
 {
-    let listed = schema_map_at(schema, Keyword::PatternProperties, walk.alloc)?;
+    let listed = here.schema_map_at(Keyword::PatternProperties, walk.alloc)?;
     let patterns = listed.as_slice();
     walk.whole.budget.charge(patterns.len());
     for &(pattern, part) in patterns {
@@ -246,18 +239,18 @@ fn in_found(
 #[cycle(validate)]
 fn in_reference(
     value: &JsonValue,
-    schema: &JsonValue,
+    here: Applied<'_>,
     walk: Walk<'_, '_>,
 ) -> Result<Option<Violation>, CheckError>
     ensures { Finds walk.entry
-        (λ f. reference_accepts (view walk.entry.whole.now.root.now) f (view schema.now)
+        (λ f. reference_accepts (view walk.entry.whole.now.root.now) f (view here.entry.schema.now)
         (view value.now))
-        (view schema.now) (view value.now) result }
+        (view here.entry.schema.now) (view value.now) result }
 {
-    if let Some(found) = in_target(value, schema, Keyword::Ref, walk)? {
+    if let Some(found) = in_target(value, here, Keyword::Ref, walk)? {
         return Ok(Some(found));
     }
-    in_target(value, schema, Keyword::DynamicRef, walk)
+    in_target(value, here, Keyword::DynamicRef, walk)
 }
 
 /// What the value violates of the schema to which the reference leads.
@@ -265,15 +258,16 @@ fn in_reference(
 #[inline(never)]
 fn in_target(
     value: &JsonValue,
-    schema: &JsonValue,
+    here: Applied<'_>,
     keyword: Keyword,
     walk: Walk<'_, '_>,
 ) -> Result<Option<Violation>, CheckError>
     requires { is_reference keyword ≡ true }
     ensures { Finds walk.entry (λ f. target_accepts (view walk.entry.whole.now.root.now) keyword f
-        (view schema.now) (view value.now)) (view schema.now) (view value.now) result }
+        (view here.entry.schema.now) (view value.now))
+        (view here.entry.schema.now) (view value.now) result }
 {
-    let Some(part) = referenced(schema, keyword, walk)? else {
+    let Some(part) = here.referenced(keyword, walk)? else {
         return Ok(None);
     };
     let Some(mut found) = violation_in(value, part, walk)? else {
@@ -287,18 +281,18 @@ fn in_target(
 #[cycle(validate)]
 fn in_parts(
     value: &JsonValue,
-    schema: &JsonValue,
+    here: Applied<'_>,
     walk: Walk<'_, '_>,
 ) -> Result<Option<Violation>, CheckError>
-    ensures { Finds walk.entry (λ f. parts_accepted f (view schema.now) (view value.now))
-        (view schema.now) (view value.now) result }
+    ensures { Finds walk.entry (λ f. parts_accepted f (view here.entry.schema.now) (view value.now))
+        (view here.entry.schema.now) (view value.now) result }
 {
     match value {
         JsonValue::Object(members) => {
             let sorted = sorted_members(walk.alloc, members)?;
-            in_members(sorted.as_slice(), schema, walk)
+            in_members(sorted.as_slice(), here, walk)
         }
-        JsonValue::Array(items) => in_items(items.as_slice(), schema, walk),
+        JsonValue::Array(items) => in_items(items.as_slice(), here, walk),
         _ => Ok(None),
     }
 }
@@ -306,16 +300,16 @@ fn in_parts(
 #[cycle(validate)]
 fn in_members(
     members: &[(&String, &JsonValue)],
-    schema: &JsonValue,
+    here: Applied<'_>,
     walk: Walk<'_, '_>,
 ) -> Result<Option<Violation>, CheckError>
     requires { IsSorted (members_listed members.now) }
     ensures { Finds walk.entry
-        (λ f. members_accepted f (view schema.now) (members_listed members.now))
-        (view schema.now) (object (members_listed members.now)) result }
+        (λ f. members_accepted f (view here.entry.schema.now) (members_listed members.now))
+        (view here.entry.schema.now) (object (members_listed members.now)) result }
 {
     for &(key, member) in members {
-        if let Some(part) = member_part(schema, key.as_str(), walk)? {
+        if let Some(part) = member_part(here, key.as_str(), walk)? {
             if let Some(mut found) = violation_in(member, part.schema, walk)? {
                 found.enter_member(walk.alloc, part.applicator, key.as_str())?;
                 return Ok(Some(found));
@@ -328,15 +322,15 @@ fn in_members(
 #[cycle(validate)]
 fn in_items(
     items: &[JsonValue],
-    schema: &JsonValue,
+    here: Applied<'_>,
     walk: Walk<'_, '_>,
 ) -> Result<Option<Violation>, CheckError>
     ensures { Finds walk.entry
-        (λ f. items_accepted f (view schema.now) 0 (items_view items.now))
-        (view schema.now) (array (items_view items.now)) result }
+        (λ f. items_accepted f (view here.entry.schema.now) 0 (items_view items.now))
+        (view here.entry.schema.now) (array (items_view items.now)) result }
 {
     for (index, item) in items.iter().enumerate() {
-        if let Some(part) = item_part(schema, index) {
+        if let Some(part) = item_part(here, index) {
             if let Some(mut found) = violation_in(item, part.schema, walk)? {
                 found.enter_item(walk.alloc, part.applicator, index)?;
                 return Ok(Some(found));

@@ -8,41 +8,41 @@ ghost use Rattle.tinyjson_schema.specs.Applicators.{applies, keys_pass, passing,
 ghost use Rattle.tinyjson_schema.specs.Applicators.{counts};
 ghost use Rattle.tinyjson_schema.specs.Valid.{Follows, IsUnapplied};
 
+use crate::applied::Applied;
 use crate::contains::{contains_at_least, contains_at_most, contains_some};
 use crate::validate::is_accepted;
 use tinyjson::JsonValue;
-use tinyjson_schema_keywords::{
-    CheckError, Keyword, Walk, is_some_item, listed_members, name_of, schema_at, schemas_at,
-};
+use tinyjson_schema_keywords::{CheckError, Keyword, Walk, is_some_item, listed_members, name_of};
 
 /// One of these keywords that the value violates, if there is one.
 #[cycle(validate)]
 #[inline(never)]
 pub fn unmet_test(
     value: &JsonValue,
-    schema: &JsonValue,
+    here: Applied<'_>,
     walk: Walk<'_, '_>,
 ) -> Result<Option<Keyword>, CheckError>
     ensures { IfOk result
-        (λ found. IsUnapplied walk.entry tests (view schema.now) (view value.now) found) }
+        (λ found. IsUnapplied walk.entry tests (view here.entry.schema.now) (view value.now)
+        found) }
 {
-    let any = is_any_met(value, schemas_at(schema, Keyword::AnyOf), walk)?;
+    let any = is_any_met(value, here.schemas_at(Keyword::AnyOf), walk)?;
     if !any {
         return Ok(Some(Keyword::AnyOf));
     }
-    let one = is_one_met(value, schemas_at(schema, Keyword::OneOf), walk)?;
+    let one = is_one_met(value, here.schemas_at(Keyword::OneOf), walk)?;
     if !one {
         return Ok(Some(Keyword::OneOf));
     }
-    let other = is_not_met(value, schema, walk)?;
+    let other = is_not_met(value, here, walk)?;
     if !other {
         return Ok(Some(Keyword::Not));
     }
-    let names = are_names_met(value, schema, walk)?;
+    let names = are_names_met(value, here, walk)?;
     if !names {
         return Ok(Some(Keyword::PropertyNames));
     }
-    unmet_count(value, schema, walk)
+    unmet_count(value, here, walk)
 }
 
 /// The keyword that the value violates by how many items the schema of `contains` accepts.
@@ -50,22 +50,23 @@ pub fn unmet_test(
 #[inline(never)]
 fn unmet_count(
     value: &JsonValue,
-    schema: &JsonValue,
+    here: Applied<'_>,
     walk: Walk<'_, '_>,
 ) -> Result<Option<Keyword>, CheckError>
     ensures { IfOk result
-        (λ found. IsUnapplied walk.entry counts (view schema.now) (view value.now) found) }
+        (λ found. IsUnapplied walk.entry counts (view here.entry.schema.now) (view value.now)
+        found) }
 {
-    let count = contained(value, schema, walk)?;
-    let some = contains_some(count, schema);
+    let count = contained(value, here, walk)?;
+    let some = contains_some(count, here);
     if !some {
         return Ok(Some(Keyword::Contains));
     }
-    let most = contains_at_most(count, schema, walk.alloc)?;
+    let most = contains_at_most(count, here, walk.alloc)?;
     if !most {
         return Ok(Some(Keyword::MaxContains));
     }
-    let least = contains_at_least(count, schema, walk.alloc)?;
+    let least = contains_at_least(count, here, walk.alloc)?;
     if !least {
         return Ok(Some(Keyword::MinContains));
     }
@@ -154,12 +155,12 @@ fn count_accepting(
 /// Whether the schema of `not` does not accept the value.
 #[cycle(validate)]
 #[inline(never)]
-fn is_not_met(value: &JsonValue, schema: &JsonValue, walk: Walk<'_, '_>) -> Result<bool, CheckError>
+fn is_not_met(value: &JsonValue, here: Applied<'_>, walk: Walk<'_, '_>) -> Result<bool, CheckError>
     ensures { IfOk result
         (λ is. Follows walk.entry is
-        (λ f. applies f kw.Not (view schema.now) (view value.now))) }
+        (λ f. applies f kw.Not (view here.entry.schema.now) (view value.now))) }
 {
-    match schema_at(schema, Keyword::Not) {
+    match here.schema_at(Keyword::Not) {
         Some(part) => {
             let accepted = is_accepted(value, part, walk)?;
             Ok(!accepted)
@@ -173,14 +174,14 @@ fn is_not_met(value: &JsonValue, schema: &JsonValue, walk: Walk<'_, '_>) -> Resu
 #[inline(never)]
 fn are_names_met(
     value: &JsonValue,
-    schema: &JsonValue,
+    here: Applied<'_>,
     walk: Walk<'_, '_>,
 ) -> Result<bool, CheckError>
     ensures { IfOk result
         (λ is. Follows walk.entry is
-        (λ f. applies f kw.PropertyNames (view schema.now) (view value.now))) }
+        (λ f. applies f kw.PropertyNames (view here.entry.schema.now) (view value.now))) }
 {
-    match schema_at(schema, Keyword::PropertyNames) {
+    match here.schema_at(Keyword::PropertyNames) {
         Some(part) => {
             let members = listed_members(value, walk.alloc)?;
             let accepted = are_keys_met(members.as_slice(), part, walk)?;
@@ -216,14 +217,14 @@ fn are_keys_met(
 #[inline(never)]
 fn contained(
     value: &JsonValue,
-    schema: &JsonValue,
+    here: Applied<'_>,
     walk: Walk<'_, '_>,
 ) -> Result<Option<usize>, CheckError>
     ensures { IfOk result
         (λ count. Follows walk.entry count
-        (λ f. contained f (view schema.now) (view value.now))) }
+        (λ f. contained f (view here.entry.schema.now) (view value.now))) }
 {
-    let Some(part) = schema_at(schema, Keyword::Contains) else {
+    let Some(part) = here.schema_at(Keyword::Contains) else {
         return Ok(None);
     };
     match value {

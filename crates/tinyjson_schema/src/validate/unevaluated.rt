@@ -20,19 +20,18 @@ ghost use Rattle.tinyjson_schema.specs.Sources.{source_evaluates, sources_evalua
 ghost use Rattle.tinyjson_schema.specs.Sources.{Adds, StaysWithin, FindsLeft};
 ghost use Rattle.tinyjson_schema.specs.Valid.{Follows, FindsRest, answers_in};
 
+use crate::applied::{Applied, marks_of};
 use crate::part::{is_patterned, item_part, member_part};
 use crate::validate::{is_accepted, violation_in};
 use crate::violation::Violation;
 use std::alloc::AllocError;
 use tinyjson::{JsonValue, sorted_members};
-use tinyjson_schema_keywords::{
-    CheckError, Keyword, Walk, branch, has_key, referenced, schema_at, schema_map_at, schemas_at,
-};
+use tinyjson_schema_keywords::{CheckError, Keyword, Walk, branch, has_key};
 
 /// A schema whose keywords evaluate members and items, and the walk in it.
 #[derive(Clone, Copy)]
 pub struct Source<'d, 's> {
-    pub schema: &'s JsonValue,
+    pub applied: Applied<'s>,
     pub walk: Walk<'d, 's>,
     /// Whether it is the schema that asks. Its own `unevaluatedProperties` and `unevaluatedItems` do not count.
     pub asks: bool,
@@ -43,25 +42,25 @@ pub struct Source<'d, 's> {
 #[inline(never)]
 pub fn in_rest(
     value: &JsonValue,
-    schema: &JsonValue,
+    here: Applied<'_>,
     walk: Walk<'_, '_>,
 ) -> Result<Option<Violation>, CheckError>
-    ensures { FindsRest walk.entry (view schema.now) (view value.now) result }
+    ensures { FindsRest walk.entry (view here.entry.schema.now) (view value.now) result }
 {
     match value {
         JsonValue::Object(members) => {
-            let Some(rest) = schema_at(schema, Keyword::UnevaluatedProperties) else {
+            let Some(rest) = here.schema_at(Keyword::UnevaluatedProperties) else {
                 return Ok(None);
             };
-            let sources = sources_of(value, schema, walk)?;
+            let sources = sources_of(value, here, walk)?;
             let sorted = sorted_members(walk.alloc, members)?;
             in_members_left(sorted.as_slice(), rest, sources.as_slice(), walk)
         }
         JsonValue::Array(items) => {
-            let Some(rest) = schema_at(schema, Keyword::UnevaluatedItems) else {
+            let Some(rest) = here.schema_at(Keyword::UnevaluatedItems) else {
                 return Ok(None);
             };
-            let sources = sources_of(value, schema, walk)?;
+            let sources = sources_of(value, here, walk)?;
             in_items_left(items.as_slice(), rest, sources.as_slice(), walk)
         }
         _ => Ok(None),
@@ -141,22 +140,22 @@ fn evaluates_member(source: &Source<'_, '_>, key: &str) -> Result<bool, CheckErr
     if has_rest {
         return Ok(true);
     }
-    let part = member_part(source.schema, key, source.walk)?;
+    let part = member_part(source.applied, key, source.walk)?;
     if part.is_some() {
         return Ok(true);
     }
-    is_patterned(source.schema, key, source.walk)
+    is_patterned(source.applied, key, source.walk)
 }
 
 /// Whether the source has the keyword for the unevaluated parts, and is not the schema that asks.
 fn counts_rest(source: &Source<'_, '_>, keyword: Keyword) -> bool
     ensures { result ≡ (not source.now.asks
-        && is_some (schema_at (view source.now.schema.now) keyword)) }
+        && is_some (schema_at (view source.now.applied.schema.now) keyword)) }
 {
     if source.asks {
         return false;
     }
-    schema_at(source.schema, keyword).is_some()
+    source.applied.schema_at(keyword).is_some()
 }
 
 /// Whether one of the sources evaluates the item at the index.
@@ -195,11 +194,11 @@ fn evaluates_item(
     if has_rest {
         return Ok(true);
     }
-    let applied = item_part(source.schema, index);
+    let applied = item_part(source.applied, index);
     if applied.is_some() {
         return Ok(true);
     }
-    let Some(part) = schema_at(source.schema, Keyword::Contains) else {
+    let Some(part) = source.applied.schema_at(Keyword::Contains) else {
         return Ok(false);
     };
     let accepted = is_accepted(item, part, source.walk)?;
@@ -211,22 +210,22 @@ fn evaluates_item(
 #[inline(never)]
 fn sources_of<'d, 's>(
     value: &JsonValue,
-    schema: &'s JsonValue,
+    here: Applied<'s>,
     walk: Walk<'d, 's>,
 ) -> Result<Vec<Source<'d, 's>>, CheckError>
     ensures evaluated { IfOk result (λ sources. (g : Answers) (c : Child) →
         sources_evaluate g sources.items c
         ≡ others_evaluate (view walk.entry.whole.now.root.now) (answers_in walk.entry g)
-        (view schema.now) (view value.now) c) }
+        (view here.entry.schema.now) (view value.now) c) }
     ensures within { IfOk result (λ sources. AreWithin walk.entry.steps sources.items) }
 {
     let mut sources = Vec::new(walk.alloc);
     sources.push(Source {
-        schema,
+        applied: here,
         walk,
         asks: true,
     })?;
-    add_inner(value, schema, walk, &mut sources)?;
+    add_inner(value, here, walk, &mut sources)?;
     Ok(sources)
 }
 
@@ -245,12 +244,16 @@ fn add_schema<'d, 's>(
     ensures within { OnOk result (StaysWithin walk.entry sources.old.items sources.new.items) }
 {
     let inner = walk.deeper()?;
-    sources.push(Source {
+    let here = Applied {
         schema,
+        marks: marks_of(schema),
+    };
+    sources.push(Source {
+        applied: here,
         walk: inner,
         asks: false,
     })?;
-    add_inner(value, schema, inner, sources)?;
+    add_inner(value, here, inner, sources)?;
     Ok(())
 }
 
@@ -259,25 +262,25 @@ fn add_schema<'d, 's>(
 #[inline(never)]
 fn add_inner<'d, 's>(
     value: &JsonValue,
-    schema: &'s JsonValue,
+    here: Applied<'s>,
     walk: Walk<'d, 's>,
     sources: &mut Vec<Source<'d, 's>>,
 ) -> Result<(), CheckError>
     ensures evaluated { OnOk result (Adds walk.entry
-        (λ a c. inner_evaluate (view walk.entry.whole.now.root.now) a (view schema.now)
+        (λ a c. inner_evaluate (view walk.entry.whole.now.root.now) a (view here.entry.schema.now)
         (view value.now) c)
         sources.old.items sources.new.items) }
     ensures within { OnOk result (StaysWithin walk.entry sources.old.items sources.new.items) }
 {
-    let all = schemas_at(schema, Keyword::AllOf);
+    let all = here.schemas_at(Keyword::AllOf);
     add_listed(value, all, walk, sources)?;
-    let any = schemas_at(schema, Keyword::AnyOf);
+    let any = here.schemas_at(Keyword::AnyOf);
     add_accepting(value, any, walk, sources)?;
-    let one = schemas_at(schema, Keyword::OneOf);
+    let one = here.schemas_at(Keyword::OneOf);
     add_accepting(value, one, walk, sources)?;
-    add_branch(value, schema, walk, sources)?;
-    add_dependents(value, schema, walk, sources)?;
-    add_reference(value, schema, walk, sources)?;
+    add_branch(value, here, walk, sources)?;
+    add_dependents(value, here, walk, sources)?;
+    add_reference(value, here, walk, sources)?;
     Ok(())
 }
 
@@ -352,21 +355,21 @@ fn add_if_accepting<'d, 's>(
 #[inline(never)]
 fn add_branch<'d, 's>(
     value: &JsonValue,
-    schema: &'s JsonValue,
+    here: Applied<'s>,
     walk: Walk<'d, 's>,
     sources: &mut Vec<Source<'d, 's>>,
 ) -> Result<(), CheckError>
     ensures evaluated { OnOk result (Adds walk.entry
-        (λ a c. branch_evaluates a (view schema.now) (view value.now) c)
+        (λ a c. branch_evaluates a (view here.entry.schema.now) (view value.now) c)
         sources.old.items sources.new.items) }
     ensures within { OnOk result (StaysWithin walk.entry sources.old.items sources.new.items) }
 {
-    let Some(test) = schema_at(schema, Keyword::If) else {
+    let Some(test) = here.schema_at(Keyword::If) else {
         return Ok(());
     };
     let accepted = add_if_accepting(value, test, walk, sources)?;
     let chosen = branch(accepted);
-    let Some(part) = schema_at(schema, chosen) else {
+    let Some(part) = here.schema_at(chosen) else {
         return Ok(());
     };
     add_schema(value, part, walk, sources)?;
@@ -378,17 +381,18 @@ fn add_branch<'d, 's>(
 #[inline(never)]
 fn add_dependents<'d, 's>(
     value: &JsonValue,
-    schema: &'s JsonValue,
+    here: Applied<'s>,
     walk: Walk<'d, 's>,
     sources: &mut Vec<Source<'d, 's>>,
 ) -> Result<(), CheckError>
     ensures evaluated { OnOk result (Adds walk.entry
-        (λ a c. dependents_evaluate a (schema_map_at (view schema.now) kw.DependentSchemas)
+        (λ a c. dependents_evaluate a
+        (schema_map_at (view here.entry.schema.now) kw.DependentSchemas)
         (view value.now) c)
         sources.old.items sources.new.items) }
     ensures within { OnOk result (StaysWithin walk.entry sources.old.items sources.new.items) }
 {
-    let listed = schema_map_at(schema, Keyword::DependentSchemas, walk.alloc)?;
+    let listed = here.schema_map_at(Keyword::DependentSchemas, walk.alloc)?;
     let dependents = listed.as_slice();
     for &(key, part) in dependents {
         add_dependent(value, key.as_str(), part, walk, sources)?;
@@ -424,18 +428,18 @@ fn add_dependent<'d, 's>(
 #[inline(never)]
 fn add_reference<'d, 's>(
     value: &JsonValue,
-    schema: &'s JsonValue,
+    here: Applied<'s>,
     walk: Walk<'d, 's>,
     sources: &mut Vec<Source<'d, 's>>,
 ) -> Result<(), CheckError>
     ensures evaluated { OnOk result (Adds walk.entry
-        (λ a c. reference_evaluates (view walk.entry.whole.now.root.now) a (view schema.now)
-        (view value.now) c)
+        (λ a c. reference_evaluates (view walk.entry.whole.now.root.now) a
+        (view here.entry.schema.now) (view value.now) c)
         sources.old.items sources.new.items) }
     ensures within { OnOk result (StaysWithin walk.entry sources.old.items sources.new.items) }
 {
-    add_target(value, schema, Keyword::Ref, walk, sources)?;
-    add_target(value, schema, Keyword::DynamicRef, walk, sources)?;
+    add_target(value, here, Keyword::Ref, walk, sources)?;
+    add_target(value, here, Keyword::DynamicRef, walk, sources)?;
     Ok(())
 }
 
@@ -444,18 +448,18 @@ fn add_reference<'d, 's>(
 #[inline(never)]
 fn add_target<'d, 's>(
     value: &JsonValue,
-    schema: &'s JsonValue,
+    here: Applied<'s>,
     keyword: Keyword,
     walk: Walk<'d, 's>,
     sources: &mut Vec<Source<'d, 's>>,
 ) -> Result<(), CheckError>
     ensures evaluated { OnOk result (Adds walk.entry
-        (λ a c. target_evaluates (view walk.entry.whole.now.root.now) keyword a (view schema.now)
-        (view value.now) c)
+        (λ a c. target_evaluates (view walk.entry.whole.now.root.now) keyword a
+        (view here.entry.schema.now) (view value.now) c)
         sources.old.items sources.new.items) }
     ensures within { OnOk result (StaysWithin walk.entry sources.old.items sources.new.items) }
 {
-    let Some(part) = referenced(schema, keyword, walk)? else {
+    let Some(part) = here.referenced(keyword, walk)? else {
         return Ok(());
     };
     add_schema(value, part, walk, sources)?;

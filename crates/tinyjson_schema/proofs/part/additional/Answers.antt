@@ -1,18 +1,17 @@
-use Rattle.std.proofs.Common.{Some, None, false, codes, refl, sym, ◌∙◌}
+use Rattle.std.proofs.Common.{Some, false, sym, ◌∙◌}
 use Rattle.std.specs.Str.{chars}
 use Rattle.tinyjson.specs.View.{view}
-use Rattle.tinyjson_schema_keywords.proofs.Callers.{at_literal}
 use Rattle.tinyjson_schema.proofs.Parts.{no_additional, by_patterned}
 use Rattle.tinyjson_schema.proofs.part.additional.Goals as goal
 
 pub returns-in_default : goal.returns-in_default
 returns-in_default c =
-    let s = view c.args.schema.now in
-    no_additional s (chars c.args.key.now) (at_literal None s (codes "additionalProperties") refl c.in_default.ensures)
+    let s = view c.args.here.schema.now in
+    no_additional s (chars c.args.key.now) c.in_default.ensures
 
 pub returns : goal.returns
 returns c =
-    let s = view c.args.schema.now in
+    let s = view c.args.here.schema.now in
     let r = view c.in-Some.part.now in
     by_patterned s (chars c.args.key.now) (Some r) false (sym c.if-patterned.false ∙ c.in_ok-patterned.ensures)
-    (at_literal (Some r) s (codes "additionalProperties") refl c.in-Some.ensures)
+    c.in-Some.ensures

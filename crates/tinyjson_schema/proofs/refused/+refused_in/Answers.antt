@@ -1,4 +1,4 @@
-use Rattle.std.proofs.Common.{◌≡◌, ◌<◌, ◌+◌, ◌∙◌, ◌&&◌, true, false, Ok, Some, None, drop, refl, arith, rules, sym, ap, subst}
+use Rattle.std.proofs.Common.{◌≡◌, ◌<◌, ◌+◌, ◌∙◌, ◌&&◌, true, false, Ok, Some, None, drop, refl, rules, sym, ap, subst}
 use Rattle.tinyjson.specs.Tree.{tree_depth}
 use Rattle.tinyjson.specs.View.{view}
 use Rattle.tinyjson_schema_keywords.specs.Subschemas.{all_parts, parts_of}

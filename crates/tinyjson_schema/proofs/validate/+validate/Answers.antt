@@ -1,6 +1,6 @@
 use Rattle.std.proofs.Common.{◌≡◌, ◌==◌, ◌<◌, ◌≤◌, ◌+◌, ◌*◌, ◌∙◌, ◌∷◌, ◌++◌, [], not, ◌&&◌, ◌||◌, Bool, true, false, Ok}
 use Rattle.std.proofs.Common.{Some, None, drop, is_some, option_map, suc, arith, rules, refl}
-use Rattle.std.proofs.Common.{sym, ap, ap₂, subst, cond}
+use Rattle.std.proofs.Common.{sym, ap, subst, cond}
 use Rattle.std.proofs.lemmas.Bool.{or_left, or_right}
 use Rattle.std.specs.Option.{option_map_or}
 use Rattle.std.specs.Prelude.{option_and_then}
@@ -37,7 +37,7 @@ use Rattle.tinyjson_schema.proofs.Sourcing.{adds_none, adds_both, adds_as, adds_
 use Rattle.tinyjson_schema.proofs.Sourcing.{inner_added, asking_added, branch_none, branch_some, no_branch_added, target_added}
 use Rattle.tinyjson_schema.proofs.Sourcing.{no_target_added, left_turn, left_end, no_member_rest, no_item_rest, members_found, items_found}
 use Rattle.tinyjson_schema.proofs.Sourcing.{evaluated_by, item_applied}
-use Rattle.tinyjson_schema.proofs.Validity.{reported, verdict, placed, last_tested, last_found, before, no_branch, branch_met, branch_place}
+use Rattle.tinyjson_schema.proofs.Validity.{reported, flipped, verdict, placed, last_tested, last_found, before, no_branch, branch_met, branch_place}
 use Rattle.tinyjson_schema.proofs.Validity.{reference_met, no_reference, both_met}
 use Rattle.tinyjson_schema.proofs.validate.+validate.Goals.{in_dependents-then-has_key+in_ok-found+in_default, in_dependents-else-has_key}
 use Rattle.tinyjson_schema.proofs.validate.+validate.Goals.{in_found-then-is_found+in_ok-found+in_default, in_found-else-is_found}
@@ -195,7 +195,7 @@ violation_in-returns t c =
     c.in_rest.ensures)
 
 pub is_accepted-returns : goal.is_accepted-returns
-is_accepted-returns t c g = c.is_nothing.ensures
+is_accepted-returns t c g = flipped c.is_none.result _ c.is_none.ensures
     ∙ verdict (view c.args.walk.whole.now.root.now) c.args.walk.steps (view c.args.schema.now) (view c.args.value.now) c.in_ok-found.found
     c.in_ok-found.ensures g
 
@@ -220,7 +220,7 @@ tested::unmet_test-returns-then-not-names t c g = sym (c.in_ok-names.ensures g) 
 pub tested::unmet_test-returns : goal.tested::unmet_test-returns
 tested::unmet_test-returns t c =
     let w = c.args.walk in
-    let s = view c.args.schema.now in
+    let s = view c.args.here.schema.now in
     let v = view c.args.value.now in
     last_tested w s v c.unmet_count.result (λ g. (
       sym (c.in_ok-any.ensures g ∙ ap (λ rs. any_of (says w g) rs v) c.schemas_at.ensures) ∙ c.if-not-any.false,
@@ -231,7 +231,7 @@ tested::unmet_test-returns t c =
 
 pub tested::unmet_count-returns : goal.tested::unmet_count-returns
 tested::unmet_count-returns t c g =
-    let s = view c.args.schema.now in
+    let s = view c.args.here.schema.now in
     let counted = c.in_ok-count.ensures g in
     let some : contains_some c.in_ok-count.count s ≡ true = sym c.contains_some-some.ensures ∙ c.if-not-some.false in
     let most : contains_at_most c.in_ok-count.count s ≡ true = sym c.in_ok-most.ensures ∙ c.if-not-most.false in
@@ -383,24 +383,24 @@ tested::count_passing-returns t c g =
 
 pub tested::unmet_count-returns-then-not-some : goal.tested::unmet_count-returns-then-not-some
 tested::unmet_count-returns-then-not-some t c g =
-    let s = view c.args.schema.now in
+    let s = view c.args.here.schema.now in
     ap (λ n. contains_some n s) (sym (c.in_ok-count.ensures g)) ∙ (sym c.contains_some-some.ensures ∙ c.if-not-some.true)
 
 pub tested::unmet_count-returns-then-not-most : goal.tested::unmet_count-returns-then-not-most
 tested::unmet_count-returns-then-not-most t c g =
-    let s = view c.args.schema.now in
+    let s = view c.args.here.schema.now in
     ap (λ n. contains_at_most n s) (sym (c.in_ok-count.ensures g)) ∙ (sym c.in_ok-most.ensures ∙ c.if-not-most.true)
 
 pub tested::unmet_count-returns-then-not-least : goal.tested::unmet_count-returns-then-not-least
 tested::unmet_count-returns-then-not-least t c g =
-    let s = view c.args.schema.now in
+    let s = view c.args.here.schema.now in
     ap (λ n. contains_at_least n s) (sym (c.in_ok-count.ensures g)) ∙ (sym c.in_ok-least.ensures ∙ c.if-not-least.true)
 
 -- ---- where a schema in this one is not met
 
 pub in_all_of-returns-in-Some : goal.in_all_of-returns-in-Some
 in_all_of-returns-in-Some t c =
-    let s = view c.args.schema.now in
+    let s = view c.args.here.schema.now in
     let v = view c.args.value.now in
     let vs = c.schemas_at-parts.result.now in
     let i = c.loop-index.index in
@@ -435,26 +435,26 @@ in_all_of-returns t c g =
 pub in_branch-returns-in_default : goal.in_branch-returns-in_default
 in_branch-returns-in_default t c g =
     let f = says c.args.walk g in
-    let s = view c.args.schema.now in
+    let s = view c.args.here.schema.now in
     let v = view c.args.value.now in
     ap (λ o. option_map_or (λ r. branch_accepts f s v (f r v)) o true) (sym c.in_default.ensures)
 
 pub in_branch-returns-in_default-schema_at : goal.in_branch-returns-in_default-schema_at
 in_branch-returns-in_default-schema_at t c =
-    no_branch c.args.walk (view c.args.schema.now) (view c.args.value.now) (view c.in-Some.test.now) c.in_ok-accepted.accepted
+    no_branch c.args.walk (view c.args.here.schema.now) (view c.args.value.now) (view c.in-Some.test.now) c.in_ok-accepted.accepted
     c.branch-chosen.result c.in-Some.ensures c.in_ok-accepted.ensures c.branch-chosen.ensures c.in_default-schema_at.ensures
 
 pub in_branch-returns-in_default-2 : goal.in_branch-returns-in_default-2
 in_branch-returns-in_default-2 t c =
     let v = view c.args.value.now in
     let r = view c.in-Some-schema_at.part.now in
-    branch_met c.args.walk (view c.args.schema.now) v (view c.in-Some.test.now) c.in_ok-accepted.accepted c.branch-chosen.result
+    branch_met c.args.walk (view c.args.here.schema.now) v (view c.in-Some.test.now) c.in_ok-accepted.accepted c.branch-chosen.result
     c.in-Some.ensures c.in_ok-accepted.ensures c.branch-chosen.ensures r c.in-Some-schema_at.ensures
     (subst (λ o. Judges c.args.walk r v (Ok o)) c.in_default-2.is c.in_ok-found.ensures)
 
 pub in_branch-returns : goal.in_branch-returns
 in_branch-returns t c =
-    let s = view c.args.schema.now in
+    let s = view c.args.here.schema.now in
     let v = view c.args.value.now in
     let r = view c.in-Some-schema_at.part.now in
     let inner = subst (λ o. Judges c.args.walk r v (Ok o)) c.in-Some-2.is c.in_ok-found.ensures in
@@ -464,7 +464,7 @@ in_branch-returns t c =
 
 pub in_dependents-returns-in-Some : goal.in_dependents-returns-in-Some
 in_dependents-returns-in-Some t c =
-    let s = view c.args.schema.now in
+    let s = view c.args.here.schema.now in
     let v = view c.args.value.now in
     let ps = c.as_slice-dependents.result.now in
     let i = c.loop-key.key-index in
@@ -513,7 +513,7 @@ in_dependents-returns t c g =
 
 pub in_patterned-returns-in-Some : goal.in_patterned-returns-in-Some
 in_patterned-returns-in-Some t c =
-    let s = view c.args.schema.now in
+    let s = view c.args.here.schema.now in
     let v = view c.args.value.now in
     let ps = c.as_slice-patterns.result.now in
     let i = c.loop-pattern.pattern-index in
@@ -614,7 +614,7 @@ in_found-returns t c g =
 pub in_reference-returns : goal.in_reference-returns
 in_reference-returns t c =
     let w = c.args.walk in
-    let s = view c.args.schema.now in
+    let s = view c.args.here.schema.now in
     let v = view c.args.value.now in
     both_met w s v c.in_target-2.result
     (subst (λ o. Finds w (λ f. target_accepts (view w.whole.now.root.now) kw.Ref f s v) s v (Ok o)) c.in_default.is c.in_ok-found.ensures)
@@ -623,7 +623,7 @@ in_reference-returns t c =
 pub in_target-returns-in_default : goal.in_target-returns-in_default
 in_target-returns-in_default t c g =
     let w = c.args.walk in
-    no_reference (view w.whole.now.root.now) (says w g) (view c.args.schema.now) (view c.args.value.now) c.args.keyword
+    no_reference (view w.whole.now.root.now) (says w g) (view c.args.here.schema.now) (view c.args.value.now) c.args.keyword
     (ap (option_map (λ x. view x.now)) (sym c.in_default.is) ∙ c.in_ok-part.ensures)
 
 pub in_target-returns-in_default-2 : goal.in_target-returns-in_default-2
@@ -631,14 +631,14 @@ in_target-returns-in_default-2 t c g =
     let w = c.args.walk in
     let v = view c.args.value.now in
     let r = view c.in-Some.part.now in
-    reference_met (view w.whole.now.root.now) (says w g) (view c.args.schema.now) v r c.args.keyword
+    reference_met (view w.whole.now.root.now) (says w g) (view c.args.here.schema.now) v r c.args.keyword
     (ap (option_map (λ x. view x.now)) (sym c.in-Some.is) ∙ c.in_ok-part.ensures)
     (subst (λ o. Judges w r v (Ok o)) c.in_default-2.is c.in_ok-found.ensures g)
 
 pub in_target-returns : goal.in_target-returns
 in_target-returns t c =
     let w = c.args.walk in
-    let s = view c.args.schema.now in
+    let s = view c.args.here.schema.now in
     let v = view c.args.value.now in
     let r = view c.in-Some.part.now in
     let inner = subst (λ o. Judges w r v (Ok o)) c.in-Some-2.is c.in_ok-found.ensures in
@@ -648,7 +648,7 @@ in_target-returns t c =
 
 pub in_members-returns-in-Some-2 : goal.in_members-returns-in-Some-2
 in_members-returns-in-Some-2 t c =
-    let s = view c.args.schema.now in
+    let s = view c.args.here.schema.now in
     let ps = c.args.members.now in
     let i = c.loop-key.key-index in
     let p = c.loop-key-item.result in
@@ -667,7 +667,7 @@ in_members-returns-in-Some-2 t c =
 
 pub in_members-loop-key-preserved : goal.in_members-loop-key-preserved
 in_members-loop-key-preserved t c g =
-    let s = view c.args.schema.now in
+    let s = view c.args.here.schema.now in
     let ps = c.args.members.now in
     let i = c.loop-key.key-index in
     let p = c.loop-key-item.result in
@@ -693,13 +693,13 @@ in_members-loop-key-preserved t c g =
 
 pub in_members-returns : goal.in_members-returns
 in_members-returns t c g =
-    let s = view c.args.schema.now in
+    let s = view c.args.here.schema.now in
     turn_end (λ xs. members_accepted (says c.args.walk g) s (members_listed xs)) c.args.members.now c.loop-key.key-index true
     c.loop-key-test.false refl (c.loop-key.invariant g)
 
 pub in_items-returns-in-Some-2 : goal.in_items-returns-in-Some-2
 in_items-returns-in-Some-2 t c =
-    let s = view c.args.schema.now in
+    let s = view c.args.here.schema.now in
     let vs = c.args.items.now in
     let i = c.loop-index.index in
     let x = c.index-items-index.result in
@@ -719,7 +719,7 @@ in_items-returns-in-Some-2 t c =
 
 pub in_items-loop-index-preserved : goal.in_items-loop-index-preserved
 in_items-loop-index-preserved t c g =
-    let s = view c.args.schema.now in
+    let s = view c.args.here.schema.now in
     let vs = c.args.items.now in
     let i = c.loop-index.index in
     let x = c.index-items-index.result in
@@ -737,7 +737,7 @@ in_items-loop-index-preserved t c g =
     ]
 
 pub in_items-returns : goal.in_items-returns
-in_items-returns t c g = items_end (says c.args.walk g) (view c.args.schema.now) c.args.items.now c.loop-index.index
+in_items-returns t c g = items_end (says c.args.walk g) (view c.args.here.schema.now) c.args.items.now c.loop-index.index
     c.loop-index-test.false (c.loop-index.invariant g)
 
 pub in_parts-in_members-requires : goal.in_parts-in_members-requires
@@ -748,7 +748,7 @@ in_parts-in_members-requires t c =
 
 pub in_parts-returns-in_ok-sorted-in-Object : goal.in_parts-returns-in_ok-sorted-in-Object
 in_parts-returns-in_ok-sorted-in-Object t c =
-    let s = view c.args.schema.now in
+    let s = view c.args.here.schema.now in
     let same : object (members_listed c.as_slice.result.now) ≡ view c.args.value.now
     = ap object (ap members_listed c.as_slice.ensures.value ∙ c.in_ok-sorted-in-Object.ensures)
     ∙ sym (ap view c.in-Object.is ∙ view_Object c.in-Object.members) in
@@ -756,13 +756,13 @@ in_parts-returns-in_ok-sorted-in-Object t c =
 
 pub in_parts-returns-in-Array : goal.in_parts-returns-in-Array
 in_parts-returns-in-Array t c =
-    let s = view c.args.schema.now in
+    let s = view c.args.here.schema.now in
     let same : array (items_view c.as_slice-in-Array.result.now) ≡ view c.args.value.now
     = ap (λ xs. array (items_view xs)) c.as_slice-in-Array.ensures.value ∙ sym (ap view c.in-Array.is ∙ view_Array c.in-Array.items) in
     subst (λ x. Finds c.args.walk (λ f. parts_accepted f s x) s x c.in_items.result) same c.in_items.ensures
 
 pub in_parts-returns-in_default : goal.in_parts-returns-in_default
-in_parts-returns-in_default t c g = no_parts (says c.args.walk g) (view c.args.schema.now) c.args.value.now c.in_default.not-Object
+in_parts-returns-in_default t c g = no_parts (says c.args.walk g) (view c.args.here.schema.now) c.args.value.now c.in_default.not-Object
     c.in_default.not-Array
 
 -- ---- what is not evaluated
@@ -903,14 +903,14 @@ unevaluated::evaluates_item-returns-then-has_rest t c g =
 pub unevaluated::evaluates_item-returns-then-is_some : goal.unevaluated::evaluates_item-returns-then-is_some
 unevaluated::evaluates_item-returns-then-is_some t c g =
     let x = c.args.source.now in
-    let s = view x.schema.now in
+    let s = view x.applied.schema.now in
     sym (or_right _ _ (or_left _ _ (sym (item_applied s c.args.index c.item_part-applied.result c.item_part-applied.ensures)
     ∙ (sym c.is_some.ensures ∙ c.if-is_some.true))))
 
 pub unevaluated::evaluates_item-returns-in_default : goal.unevaluated::evaluates_item-returns-in_default
 unevaluated::evaluates_item-returns-in_default t c g =
     let x = c.args.source.now in
-    let s = view x.schema.now in
+    let s = view x.applied.schema.now in
     evaluated_by _ _ _ false (sym c.counts_rest-has_rest.ensures ∙ c.if-has_rest.false)
     (sym (item_applied s c.args.index c.item_part-applied.result c.item_part-applied.ensures)
     ∙ (sym c.is_some.ensures ∙ c.if-is_some.false))
@@ -919,7 +919,7 @@ unevaluated::evaluates_item-returns-in_default t c g =
 pub unevaluated::evaluates_item-returns : goal.unevaluated::evaluates_item-returns
 unevaluated::evaluates_item-returns t c g =
     let x = c.args.source.now in
-    let s = view x.schema.now in
+    let s = view x.applied.schema.now in
     evaluated_by _ _ _ c.in_ok-accepted.accepted (sym c.counts_rest-has_rest.ensures ∙ c.if-has_rest.false)
     (sym (item_applied s c.args.index c.item_part-applied.result c.item_part-applied.ensures)
     ∙ (sym c.is_some.ensures ∙ c.if-is_some.false))
@@ -944,7 +944,7 @@ unevaluated::in_rest-in_items_left-requires t c =
 pub unevaluated::in_rest-returns-in_default-schema_at : goal.unevaluated::in_rest-returns-in_default-schema_at
 unevaluated::in_rest-returns-in_default-schema_at t c g =
     let w = c.args.walk in
-    let s = view c.args.schema.now in
+    let s = view c.args.here.schema.now in
     let same : object (members_view c.in-Object.members.entries) ≡ view c.args.value.now
     = sym (ap view c.in-Object.is ∙ view_Object c.in-Object.members) in
     subst (λ x. rest_accepted (view w.whole.now.root.now) (answers_in w g) s x ≡ true) same
@@ -954,7 +954,7 @@ unevaluated::in_rest-returns-in_default-schema_at t c g =
 pub unevaluated::in_rest-returns-in_default-schema_at-2 : goal.unevaluated::in_rest-returns-in_default-schema_at-2
 unevaluated::in_rest-returns-in_default-schema_at-2 t c g =
     let w = c.args.walk in
-    let s = view c.args.schema.now in
+    let s = view c.args.here.schema.now in
     let same : array (items_view c.in-Array.items.items) ≡ view c.args.value.now
     = sym (ap view c.in-Array.is ∙ view_Array c.in-Array.items) in
     subst (λ x. rest_accepted (view w.whole.now.root.now) (answers_in w g) s x ≡ true) same
@@ -963,7 +963,7 @@ unevaluated::in_rest-returns-in_default-schema_at-2 t c g =
 pub unevaluated::in_rest-returns-in_ok-sorted-in-Object : goal.unevaluated::in_rest-returns-in_ok-sorted-in-Object
 unevaluated::in_rest-returns-in_ok-sorted-in-Object t c =
     let w = c.args.walk in
-    let s = view c.args.schema.now in
+    let s = view c.args.here.schema.now in
     let v = view c.args.value.now in
     let xs = c.as_slice-in-Object.result.now in
     let ms = members_listed c.as_slice.result.now in
@@ -980,7 +980,7 @@ unevaluated::in_rest-returns-in_ok-sorted-in-Object t c =
 pub unevaluated::in_rest-returns-in_ok-sources-in-Array : goal.unevaluated::in_rest-returns-in_ok-sources-in-Array
 unevaluated::in_rest-returns-in_ok-sources-in-Array t c =
     let w = c.args.walk in
-    let s = view c.args.schema.now in
+    let s = view c.args.here.schema.now in
     let v = view c.args.value.now in
     let xs = c.as_slice-in-Array-2.result.now in
     let us = items_view c.as_slice-in-Array.result.now in
@@ -998,14 +998,14 @@ unevaluated::in_rest-returns-in_ok-sources-in-Array t c =
 
 pub unevaluated::sources_of-returns-clause-evaluated : goal.unevaluated::sources_of-returns-clause-evaluated
 unevaluated::sources_of-returns-clause-evaluated t c =
-    let x : Source = record { schema = c.args.schema; walk = c.args.walk; asks = true } in
+    let x : Source = record { applied = c.args.here; walk = c.args.walk; asks = true } in
     asking_added c.args.walk x (view c.args.value.now) c.push.new.self.items c.add_inner.new.sources.items refl refl
     (c.in_ok-push.ensures.items ∙ ap (λ ys. ys ++ x ∷ []) c.new-sources.ensures.items) c.in_ok-add_inner.ensures.evaluated
 
 pub unevaluated::sources_of-returns-clause-within : goal.unevaluated::sources_of-returns-clause-within
 unevaluated::sources_of-returns-clause-within t c =
     let w = c.args.walk in
-    let x : Source = record { schema = c.args.schema; walk = w; asks = true } in
+    let x : Source = record { applied = c.args.here; walk = w; asks = true } in
     let one : c.push.new.self.items ≡ x ∷ [] = c.in_ok-push.ensures.items ∙ ap (λ ys. ys ++ x ∷ []) c.new-sources.ensures.items in
     let same : w.steps ≤ w.steps = omega arith in
     c.in_ok-add_inner.ensures.within w.steps same (subst (AreWithin w.steps) (sym one) (same, tt))
@@ -1013,21 +1013,20 @@ unevaluated::sources_of-returns-clause-within t c =
 pub unevaluated::add_schema-returns-clause-evaluated : goal.unevaluated::add_schema-returns-clause-evaluated
 unevaluated::add_schema-returns-clause-evaluated t c =
     let inner = c.in_ok-inner.inner in
-    schema_added c.args.walk inner (record { schema = c.args.schema; walk = inner; asks = false }) (view c.args.value.now)
+    schema_added c.args.walk inner _ (view c.args.value.now)
     c.args.sources.now.items c.push.new.self.items c.add_inner.new.sources.items c.in_ok-inner.ensures refl refl
     c.in_ok-push.ensures.items c.in_ok-add_inner.ensures.evaluated
 
 pub unevaluated::add_schema-returns-clause-within : goal.unevaluated::add_schema-returns-clause-within
 unevaluated::add_schema-returns-clause-within t c n h k =
     let inner = c.in_ok-inner.inner in
-    let x : Source = record { schema = c.args.schema; walk = inner; asks = false } in
     let less : inner.steps ≤ n = omega (arith, c.in_ok-inner.ensures.1, h) in
     c.in_ok-add_inner.ensures.within n less
-    (subst (AreWithin n) (sym c.in_ok-push.ensures.items) (within_pushed n c.args.sources.now.items x k less))
+    (subst (AreWithin n) (sym c.in_ok-push.ensures.items) (within_pushed n c.args.sources.now.items _ k less))
 
 pub unevaluated::add_inner-returns-clause-evaluated : goal.unevaluated::add_inner-returns-clause-evaluated
 unevaluated::add_inner-returns-clause-evaluated t c =
-    inner_added c.args.walk (view c.args.schema.now) (view c.args.value.now) (items_view c.schemas_at-all.result.now)
+    inner_added c.args.walk (view c.args.here.schema.now) (view c.args.value.now) (items_view c.schemas_at-all.result.now)
     (items_view c.schemas_at-any.result.now) (items_view c.schemas_at-one.result.now) c.args.sources.now.items
     c.add_listed.new.sources.items c.add_accepting.new.sources.items c.add_accepting-2.new.sources.items
     c.add_branch.new.sources.items c.add_dependents.new.sources.items c.add_reference.new.sources.items c.schemas_at-all.ensures
@@ -1091,7 +1090,7 @@ unevaluated::add_if_accepting-returns-clause-evaluated t c =
 
 pub unevaluated::add_branch-returns-in_default-clause-evaluated : goal.unevaluated::add_branch-returns-in_default-clause-evaluated
 unevaluated::add_branch-returns-in_default-clause-evaluated t c =
-    let s = view c.args.schema.now in
+    let s = view c.args.here.schema.now in
     let v = view c.args.value.now in
     adds_none c.args.walk (λ a k. branch_evaluates a s v k) _
     (λ g k. no_branch_added (answers_in c.args.walk g) s v k c.in_default.ensures)
@@ -1100,7 +1099,7 @@ pub unevaluated::add_branch-returns-in_default-schema_at-clause-evaluated
     : goal.unevaluated::add_branch-returns-in_default-schema_at-clause-evaluated
 unevaluated::add_branch-returns-in_default-schema_at-clause-evaluated t c =
     let w = c.args.walk in
-    let s = view c.args.schema.now in
+    let s = view c.args.here.schema.now in
     let v = view c.args.value.now in
     let r = view c.in-Some.test.now in
     let b = c.in_ok-accepted.accepted in
@@ -1111,7 +1110,7 @@ unevaluated::add_branch-returns-in_default-schema_at-clause-evaluated t c =
 pub unevaluated::add_branch-returns-clause-evaluated : goal.unevaluated::add_branch-returns-clause-evaluated
 unevaluated::add_branch-returns-clause-evaluated t c =
     let w = c.args.walk in
-    let s = view c.args.schema.now in
+    let s = view c.args.here.schema.now in
     let v = view c.args.value.now in
     let r = view c.in-Some.test.now in
     let u = view c.in-Some-schema_at.part.now in
@@ -1170,7 +1169,7 @@ unevaluated::add_dependent-returns-clause-evaluated t c =
 pub unevaluated::add_reference-returns-clause-evaluated : goal.unevaluated::add_reference-returns-clause-evaluated
 unevaluated::add_reference-returns-clause-evaluated t c =
     let root = view c.args.walk.whole.now.root.now in
-    let s = view c.args.schema.now in
+    let s = view c.args.here.schema.now in
     let v = view c.args.value.now in
     adds_both c.args.walk (λ a k. target_evaluates root kw.Ref a s v k) (λ a k. target_evaluates root kw.DynamicRef a s v k)
     c.args.sources.now.items c.add_target.new.sources.items c.add_target-2.new.sources.items c.in_ok-add_target.ensures.evaluated
@@ -1183,7 +1182,7 @@ unevaluated::add_reference-returns-clause-within t c n h k =
 pub unevaluated::add_target-returns-in_default-clause-evaluated : goal.unevaluated::add_target-returns-in_default-clause-evaluated
 unevaluated::add_target-returns-in_default-clause-evaluated t c =
     let root = view c.args.walk.whole.now.root.now in
-    let s = view c.args.schema.now in
+    let s = view c.args.here.schema.now in
     let v = view c.args.value.now in
     adds_none c.args.walk (λ a k. target_evaluates root c.args.keyword a s v k) _
     (λ g k. no_target_added root (answers_in c.args.walk g) s v c.args.keyword k
@@ -1192,7 +1191,7 @@ unevaluated::add_target-returns-in_default-clause-evaluated t c =
 pub unevaluated::add_target-returns-clause-evaluated : goal.unevaluated::add_target-returns-clause-evaluated
 unevaluated::add_target-returns-clause-evaluated t c =
     let root = view c.args.walk.whole.now.root.now in
-    let s = view c.args.schema.now in
+    let s = view c.args.here.schema.now in
     let v = view c.args.value.now in
     let r = view c.in-Some.part.now in
     adds_as c.args.walk (λ a k. a.evaluates r v k) (λ a k. target_evaluates root c.args.keyword a s v k) _ _

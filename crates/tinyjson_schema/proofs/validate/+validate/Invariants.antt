@@ -1,6 +1,6 @@
 use Rattle.std.proofs.Common.{◌≡◌, ◌+◌, ◌*◌, ◌≤◌, ◌||◌, drop}
 use Rattle.std.specs.Str.{chars}
-use Rattle.tinyjson.specs.View.{view, text, items_view, members_listed}
+use Rattle.tinyjson.specs.View.{view, items_view, members_listed}
 use Rattle.tinyjson_schema_keywords.specs.Applied.{members_in}
 use Rattle.tinyjson_schema.specs.Applicators.{all_accept, some_accepts, accepting, keys_pass, passing, dependents_accept, members_accepted}
 use Rattle.tinyjson_schema.specs.Applicators.{items_accepted, found_pass, patterns_accept}
@@ -120,12 +120,13 @@ invariant-in_found-loop-key l = (g : Answers) →
 
 abbrev pub invariant-in_members-loop-key : goal.invariant-in_members-loop-key
 invariant-in_members-loop-key l = (g : Answers) →
-    members_accepted (says l.walk g) (view l.schema) (members_listed (drop l.key-index l.members))
-    ≡ members_accepted (says l.walk g) (view l.schema) (members_listed l.members)
+    members_accepted (says l.walk g) (view l.here.schema.now) (members_listed (drop l.key-index l.members))
+    ≡ members_accepted (says l.walk g) (view l.here.schema.now) (members_listed l.members)
 
 abbrev pub invariant-in_items-loop-index : goal.invariant-in_items-loop-index
-invariant-in_items-loop-index l = (g : Answers) → items_accepted (says l.walk g) (view l.schema) l.index (items_view (drop l.index l.items))
-    ≡ items_accepted (says l.walk g) (view l.schema) 0 (items_view l.items)
+invariant-in_items-loop-index l = (g : Answers) →
+    items_accepted (says l.walk g) (view l.here.schema.now) l.index (items_view (drop l.index l.items))
+    ≡ items_accepted (says l.walk g) (view l.here.schema.now) 0 (items_view l.items)
 
 -- ---- what is not evaluated
 

@@ -1,0 +1,9 @@
+use Rattle.std.proofs.Common.{ap, ◌∙◌}
+use Rattle.tinyjson_schema.specs.Marks.{mark}
+use Rattle.tinyjson_schema.proofs.Marks.{marked_turn}
+use Rattle.tinyjson_schema.proofs.applied.marks_among.Goals as goal
+
+pub loop-key-preserved : goal.loop-key-preserved
+loop-key-preserved c bs h = marked_turn c.loop-key.key-iterator c.next.new.self c.in-Some.key.now c.in-Some.field-0-1.now
+    c.loop-key.marks c.mark.result _ bs c.in-Some.ensures.steps (c.mark.ensures.is ∙ ap mark c.as_str.ensures.value)
+    c.mark.ensures.below (c.loop-key.invariant bs) h

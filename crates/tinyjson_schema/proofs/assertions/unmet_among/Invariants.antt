@@ -1,8 +1,0 @@
-use Rattle.std.proofs.Common.{◌≡◌, drop}
-use Rattle.tinyjson.specs.View.{view}
-use Rattle.tinyjson_schema.specs.Assertions.{meets_all}
-use Rattle.tinyjson_schema.proofs.assertions.unmet_among.Given as goal
-
-abbrev pub invariant-loop-keyword : goal.invariant-loop-keyword
-invariant-loop-keyword l = meets_all (drop l.keyword-index l.keywords) (view l.schema) (view l.value)
-    ≡ meets_all l.keywords (view l.schema) (view l.value)
