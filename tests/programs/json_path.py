@@ -3,8 +3,10 @@
 With the query of all of it, it reads a value and writes all of it: so the texts of `jsonnorm` are read by it too.
 """
 
+import ast
 import itertools
 import json
+import re
 
 import whole
 from checks import shared
@@ -525,6 +527,9 @@ ROWS = [
     (["$"], b"\x1b", reported(3, "json_path", "Parse error at line:1, col:0: Invalid character: U+001B")),
 ]
 
+# What is told where -v leaves nothing.
+NOTHING_LEFT = reported(1, "json_path", "nothing is left")
+
 # The same with options.
 FOUR = rb'{"a":["x\ny","\"\u00e9",1.0,["z"]],"b":"w"}'
 OPTIONS = [
@@ -545,6 +550,26 @@ OPTIONS = [
     # -f: each value on a line, as without -l.
     (["-f", "$.a[2:]"], FOUR, printed(b"1", b'["z"]')),
     (["--flat", "-p", "$.a[2:]"], FOUR, printed(b"$['a'][2]", b"$['a'][3]")),
+    # -v: the text without what is selected, whatever else is asked for.
+    (["-v", "$.a[2:]"], FOUR, printed(rb'{"a":["x\ny","\"' + "\u00e9".encode() + rb'"],"b":"w"}')),
+    (["--rest", "$.x"], b'[1.0, {"x": 2}]', printed(b'[1,{"x":2}]')),
+    (["-v", "$"], b"1", NOTHING_LEFT),
+    (["-vrefp", "$"], b"[]", NOTHING_LEFT),
+    (["-vrefp", "$.b"], b'{"a":"x","b":1}', printed(b'{"a":"x"}')),
+    (["-v", "$[0,0,-1]"], b"[1,2,3,1]", printed(b"[2,3]")),
+    (["-v", "$[?@>1]"], b"[1,2,3,1.0]", printed(b"[1,1]")),
+    (["-v", "$..a"], b'{"a":{"a":1},"b":[{"a":2},{"aa":3}]}', printed(b'{"b":[{},{"aa":3}]}')),
+    (["-v", "$[0]"], b'{"0":1}', printed(b'{"0":1}')),
+    (["-v", "$['0','[0]']"], b'{"0":1,"[0]":2,"a":[3],"\'][\'":4}', printed(b'{"\'][\'":4,"a":[3]}')),
+    (["-v", "$['a','']"], b'{"a":1,"b":2,"a":3,"":4}', printed(b'{"b":2}')),
+    (["-v", "$.a"], b"[1,]", reported(3, "json_path", "Parse error at line:1, col:3: Invalid character: ]")),
+    (["-v", "$[?match(@, 'a{10001}')]"], b'["a"]', reported(4, "json_path", "a regular expression is too large")),
+    (["-v", "$[1]"], NESTED, printed(NESTED)),
+    (["-v", "$[0]"], b"[" + NESTED + b",1]", printed(b"[1]")),
+    (["-v", "$[1]"], b"[" + NESTED + b",1]", printed(b"[" + NESTED + b"]")),
+    (["-v", "$[0]"], b"[0," + LONG + b"]", printed(b"[" + LONG + b"]")),
+    (["-v", "$[1:]"], b"[" + b"1.0," * MANY + b"1]", printed(b"[1]")),
+    (["-v", "$[::2]"], b"[" + b"1,2," * MANY + b"1]", printed(b"[" + b"2," * (MANY - 1) + b"2]")),
 ]
 
 
@@ -580,6 +605,8 @@ LINES = [
     (["-l", "$[0]"], b"[1.0]\n[]\n" * 35_000, told(b"[1]\n" * 35_000, *(NOTHING_AT % n for n in range(2, 70_001, 2)))),
     (["-l", "$"], NESTED + b"\n" + LONG, printed(b"[" + NESTED + b"]", b"[" + LONG + b"]")),
     (["-l", "$[*]"], b"[" + b"1.0," * MANY + b"1.0]", printed(b"[" + b"1," * MANY + b"1]")),
+    (["-lv", "$.a"], b'{"a":1,"b":2.0}\n{}\n[1,]\n{"a":{"a":3}}', told(b'{"b":2}\n{}\n{}\n', b"3, col 3: Invalid character: ]")),
+    (["-lvf", "$"], b"1\n[\n[2]\n", told(b"", b"1: nothing is left", b"2, col 1: Unexpected EOF", b"3: nothing is left")),
 ]
 
 # Deep lines among others.
@@ -621,6 +648,7 @@ REFUSED_MEMORY = [
         SOME,
     ),
     (["-re", "$..b[0]"], SOME),
+    (["-v", "$..b[0]"], SOME),
     (["-l", "$.c[*]"], SOME + b"\n{}\n[1,]\n" + SOME + b"\n"),
     (["-lp", "$..*"], SOME + b"\n\xff\n"),
 ]
@@ -631,6 +659,33 @@ def selected(document, query, parts):
     values, places = [normal(json.loads(value)) for value, _ in parts], [path.encode() for _, path in parts]
     for words, lines in (([query], values), (["-p", query], places)):
         yield words, document.encode(), printed(*lines) if lines else NO_NODE
+
+
+STEP = re.compile(r"\[('(?:[^'\\]|\\.)*'|\d+)\]")
+
+
+def steps_of(path):
+    """The steps of a normalized path, whose quotes and escapes are some of Python's."""
+    return tuple(ast.literal_eval(step) for step in STEP.findall(path))
+
+
+def without(value, places, here=()):
+    """The value without these places of it."""
+    if isinstance(value, list):
+        return [without(item, places, (*here, i)) for i, item in enumerate(value) if (*here, i) not in places]
+    if isinstance(value, dict):
+        return {name: without(member, places, (*here, name)) for name, member in value.items() if (*here, name) not in places}
+    return value
+
+
+def rests():
+    """What is left of each document of `SELECTED` without what is selected, as Python removes it."""
+    for document, queries in SELECTED:
+        for row in queries:
+            query, parts = row
+            places = {steps_of(path) for _, path in parts}
+            left = normal(without(json.loads(document), places))
+            yield row, ["-v", query], document.encode(), NOTHING_LEFT if () in places else printed(left)
 
 
 def sliced(count):
@@ -647,6 +702,7 @@ def answers():
     for document, queries in SELECTED:
         for row in queries:
             yield from ((row, *it) for it in selected(document, *row))
+    yield from rests()
     for count in range(5):
         yield from ((it, *it) for it in sliced(count))
     for rows, words in ((REFUSED, NO_QUERY), (OUT_OF_RANGE, NO_POWER)):

@@ -11,13 +11,14 @@ use Rattle.tinyjson_cli.specs.declared.texts.NoAnswer.{NoAnswer}
 use Rattle.tinyjson_cli.specs.declared.texts.NoAnswer.TheVariants as no
 use Rattle.tinyjson_lines.specs.declared.refusal.Cause.TheVariants.{NotJson}
 use Rattle.json_path.specs.Selected.{GivesText, unanswered_message}
-use Rattle.json_path.specs.declared.selected.Form.{Form}
+use Rattle.json_path.specs.declared.selected.Wanted.{Wanted}
 use Rattle.json_path.specs.declared.selected.Unanswered.{Unanswered}
-use Rattle.json_path.specs.declared.selected.Unanswered.TheVariants.{Refused, NoNode, Pattern}
+use Rattle.json_path.specs.declared.selected.Unanswered.TheVariants.{Refused, NoNode, NothingLeft, Pattern}
 
 -- the status with which the program ends: 1, 3 or 4
 abbrev pub status_of : Unanswered → Status
 status_of NoNode = status.No
+status_of NothingLeft = status.No
 status_of (Refused e) = status.Refused
 status_of (Pattern l) = status.Failed
 
@@ -34,10 +35,10 @@ IsNoAnswer why (no.No w) = string_bytes w ≡ unanswered_message why
 IsNoAnswer why n = ⊥
 
 -- the answer for a line, or what is reported of it
-abbrev pub GivesLineBy : Judge → Form → Query → List ℕ → Result (List ℕ) NoAnswer → Type 0
-GivesLineBy judge form q text (Ok bytes) = GivesText judge form q text (Ok bytes)
-GivesLineBy judge form q text (Err n) = (why : Unanswered) × GivesText judge form q text (Err why) × IsNoAnswer why n
+abbrev pub GivesLineBy : Judge → Wanted → Query → List ℕ → Result (List ℕ) NoAnswer → Type 0
+GivesLineBy judge wanted q text (Ok bytes) = GivesText judge wanted q text (Ok bytes)
+GivesLineBy judge wanted q text (Err n) = (why : Unanswered) × GivesText judge wanted q text (Err why) × IsNoAnswer why n
 
 -- the same with right answers for regular expressions
-abbrev pub GivesLine : Form → Query → List ℕ → Result (List ℕ) NoAnswer → Type 0
-GivesLine form q text f = (judge : Judge) × IsRight judge × GivesLineBy judge form q text f
+abbrev pub GivesLine : Wanted → Query → List ℕ → Result (List ℕ) NoAnswer → Type 0
+GivesLine wanted q text f = (judge : Judge) × IsRight judge × GivesLineBy judge wanted q text f

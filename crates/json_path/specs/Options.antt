@@ -1,5 +1,5 @@
 -- The program's arguments.
-use Rattle.std.specs.Prelude.{◌≡◌, ◌≢◌, ◌⊎◌, ℕ, Bool, true, false, ◌&&◌, not, List, [], ◌∷◌, ◌++◌, Option, option_map}
+use Rattle.std.specs.Prelude.{◌≡◌, ◌≢◌, ◌⊎◌, ℕ, Bool, true, false, ◌&&◌, not, cond, List, [], ◌∷◌, ◌++◌, Option, option_map}
 use Rattle.tinyjson.specs.Characters.{line_feed}
 use Rattle.tinyjson_cli.specs.Arguments.{Given, first_operand, is_given}
 use Rattle.tinyjson_cli.specs.Texts.{texts_given}
@@ -7,6 +7,8 @@ use Rattle.tinyjson_cli.specs.declared.texts.Texts.{Texts}
 use Rattle.json_path.specs.declared.selected.Form.{Form}
 use Rattle.json_path.specs.declared.selected.Shape.{Shape}
 use Rattle.json_path.specs.declared.selected.Shape.TheVariants.{Value, Raw, Path}
+use Rattle.json_path.specs.declared.selected.Wanted.{Wanted}
+use Rattle.json_path.specs.declared.selected.Wanted.TheVariants.{Selected, Rest}
 
 -- what is written of a part: its path with `-p`; else, with `-r`, the characters of a string
 abbrev pub shape_asked : Bool → Bool → Shape
@@ -22,10 +24,14 @@ form_asked a = record {
   or_none = is_given 101 a;
 }
 
--- how the texts are found; how what is selected is written; whether a file has the query; the query or its file; and
+-- with `-v` the rest, whatever else is given
+abbrev pub wanted_asked : Given → Wanted
+wanted_asked a = cond (is_given 118 a) Rest (Selected (form_asked a))
+
+-- how the texts are found; what is asked of each; whether a file has the query; the query or its file; and
 -- the files with the texts
-abbrev pub asks : Given → Option ((Texts × (Form × Bool)) × (List ℕ × List (List ℕ)))
-asks a = option_map (λ o. ((texts_given a, (form_asked a, is_given 113 a)), o)) (first_operand a.operands)
+abbrev pub asks : Given → Option ((Texts × (Wanted × Bool)) × (List ℕ × List (List ℕ)))
+asks a = option_map (λ o. ((texts_given a, (wanted_asked a, is_given 113 a)), o)) (first_operand a.operands)
 
 -- the text of a file, and the same without the line feed that ends it, if one does
 abbrev pub IsWithoutEnd : List ℕ → List ℕ → Type 0

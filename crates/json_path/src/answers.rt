@@ -2,17 +2,17 @@
 ghost use Rattle.json_path.specs.Answers.{GivesLine};
 
 use crate::failure::{no_answer, unanswered_failure};
-use crate::selected::{Form, write_selected};
+use crate::selected::{Wanted, write_answer};
 use std::alloc::Global;
 use std::io::{self, Write};
 use tinyjson_cli::{Answer, Failure, NoAnswer, Status, TextAnswer, writing_error};
 use tinyjson_path::Query;
 
-/// What is asked of each text: what a query selects, in a form.
+/// What is asked of each text: what a query selects, or the rest.
 #[derive(Clone, Copy)]
 pub struct Asked<'a> {
     pub query: &'a Query,
-    pub form: Form,
+    pub wanted: Wanted,
 }
 
 /// The answer for an input as one text.
@@ -23,7 +23,7 @@ impl Answer for Asked<'_> {
         text: &str,
         output: &mut W,
     ) -> Result<Status, Failure> {
-        match write_selected(alloc, self.query, text, self.form, output) {
+        match write_answer(alloc, self.query, text, self.wanted, output) {
             Ok(None) => Ok(Status::Done),
             Ok(Some(why)) => Err(unanswered_failure(alloc, why)),
             Err(error) => Err(writing_error(error)),
@@ -34,7 +34,7 @@ impl Answer for Asked<'_> {
 /// The answer for a line. A regular expression that is too deep or too large is reported as other lines without an
 /// answer are.
 impl TextAnswer for Asked<'_> {
-    ghost gives = { λ a text f. GivesLine a.form a.query.now text f };
+    ghost gives = { λ a text f. GivesLine a.wanted a.query.now text f };
 
     fn answer_text<W: Write>(
         &self,
@@ -42,7 +42,7 @@ impl TextAnswer for Asked<'_> {
         text: &str,
         output: &mut W,
     ) -> io::Result<Option<NoAnswer>> {
-        match write_selected(alloc, self.query, text, self.form, output)? {
+        match write_answer(alloc, self.query, text, self.wanted, output)? {
             None => Ok(None),
             Some(why) => Ok(Some(no_answer(alloc, why)?)),
         }

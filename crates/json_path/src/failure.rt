@@ -16,7 +16,7 @@ pub fn unanswered_failure(alloc: Global, why: Unanswered) -> Failure
     };
     match why {
         Unanswered::Refused(error) => Failure::NotJson(error),
-        Unanswered::NoNode => Failure::No(words),
+        Unanswered::NoNode | Unanswered::NothingLeft => Failure::No(words),
         Unanswered::Pattern(_) => Failure::Failed(words),
     }
 }

@@ -7,11 +7,13 @@ mod array;
 mod failure;
 mod lines;
 mod options;
+mod places;
 mod query;
+mod rest;
 mod selected;
 
 use answers::Asked;
-use options::{EMPTY, FLAT, PATHS, QUERY_FILE, RAW, Request, requested, without_end};
+use options::{EMPTY, FLAT, PATHS, QUERY_FILE, RAW, REST, Request, requested, without_end};
 use query::read_query;
 use std::process::ExitCode;
 use tinyjson_cli::{
@@ -23,10 +25,10 @@ use tinyjson_path::Query;
 const PROGRAM: Program<'static> = Program {
     name: "json_path",
     options: &[
-        LINES, MAX_LINE, FLAT, PATHS, RAW, EMPTY, QUERY_FILE, HELP, VERSION,
+        LINES, MAX_LINE, FLAT, PATHS, RAW, EMPTY, REST, QUERY_FILE, HELP, VERSION,
     ],
     help: "\
-Usage: json_path [-l [-m N] [-f]] [-p] [-r] [-e] [-q] QUERY [FILE..]
+Usage: json_path [-l [-m N] [-f]] [-p] [-r] [-e] [-v] [-q] QUERY [FILE..]
 
 Prints what a JSONPath query (RFC 9535) selects in each JSON text, each value as
 compact text with sorted keys on a line.
@@ -44,13 +46,16 @@ Options:
   -p, --paths       print the normalized path of each value in place of the value
   -r, --raw         print strings without quotes and escapes, but in arrays
   -e, --empty       take it as an answer that nothing is selected
+  -v, --rest        print each text without what is selected, on a line; -f, -p,
+                    -r and -e change nothing then
   -q, --query-file  read the query from the file QUERY
   -h, --help        print this page
   -V, --version     print the version
 
 Exit status:
   0  something was selected in each text
-  1  nothing was selected in a text; with -l: or a line is refused
+  1  nothing was selected in a text, or with -v nothing is left of one; with
+     -l: or a line is refused
   2  the arguments are not understood, or QUERY is no query
   3  an input is no JSON text, or not UTF-8
   4  memory ran out, a read or a write failed, or a regular expression of the
@@ -97,8 +102,8 @@ fn query_of(rt: &HostRuntime, request: &Request<'_, '_>) -> Result<Query, Failur
 
 /// Answers each input.
 fn answer(rt: &HostRuntime, request: &Request<'_, '_>, query: &Query) -> Status {
-    let form = request.form;
-    let asked = Asked { query, form };
+    let wanted = request.wanted;
+    let asked = Asked { query, wanted };
     if request.texts.by_lines {
         return answer_texts(rt, PROGRAM, request.texts, request.files, asked);
     }

@@ -1,9 +1,9 @@
 //! The program's arguments.
 ghost use Rattle.std.specs.Prelude.{◌≡◌, ◌&&◌, not, option_map, map};
 ghost use Rattle.tinyjson_cli.specs.Arguments.{given_of};
-ghost use Rattle.json_path.specs.Options.{asks, form_asked, shape_asked, IsWithoutEnd};
+ghost use Rattle.json_path.specs.Options.{asks, form_asked, shape_asked, wanted_asked, IsWithoutEnd};
 
-use crate::selected::{Form, Shape};
+use crate::selected::{Form, Shape, Wanted};
 use tinyjson_cli::{Arguments, Known, Texts, texts_asked};
 
 /// `-p` and `--paths`.
@@ -34,6 +34,13 @@ pub const EMPTY: Known<'static> = Known {
     takes_number: false,
 };
 
+/// `-v` and `--rest`.
+pub const REST: Known<'static> = Known {
+    letter: b'v',
+    name: "rest",
+    takes_number: false,
+};
+
 /// `-q` and `--query-file`.
 pub const QUERY_FILE: Known<'static> = Known {
     letter: b'q',
@@ -41,13 +48,13 @@ pub const QUERY_FILE: Known<'static> = Known {
     takes_number: false,
 };
 
-/// A query, how what it selects is written, and the files that are searched.
+/// A query, what is asked of texts, and the files with them.
 #[derive(Drop)]
 pub struct Request<'w, 'a> {
     /// How the texts of an input are found.
     pub texts: Texts,
-    /// How what is selected is written.
-    pub form: Form,
+    /// What is asked of each text.
+    pub wanted: Wanted,
     /// Whether a file with the query is named in its place.
     pub is_file: bool,
     /// The text of the query, or the name of its file.
@@ -56,24 +63,35 @@ pub struct Request<'w, 'a> {
     pub files: &'a [&'w str],
 }
 
-/// Parses the arguments: `[-l [-m N] [-f]] [-p] [-r] [-e] [-q] QUERY [FILE..]`.
+/// Parses the arguments: `[-l [-m N] [-f]] [-p] [-r] [-e] [-v] [-q] QUERY [FILE..]`.
 pub fn requested<'w, 'a>(arguments: &'a Arguments<'w>) -> Option<Request<'w, 'a>>
     ensures { option_map (λ r. (
-      (r.texts, (r.form, r.is_file)),
+      (r.texts, (r.wanted, r.is_file)),
       (r.query.now, map (λ f. f.now) r.files.now),
     )) result ≡ asks (given_of arguments.now) }
 {
     let texts = texts_asked(arguments);
-    let form = form_of(arguments);
+    let wanted = wanted_of(arguments);
     let is_file = arguments.has(b'q');
     let (query, files) = arguments.first()?;
     Some(Request {
         texts,
-        form,
+        wanted,
         is_file,
         query,
         files,
     })
+}
+
+fn wanted_of(arguments: &Arguments<'_>) -> Wanted
+    ensures { result ≡ wanted_asked (given_of arguments.now) }
+{
+    let form = form_of(arguments);
+    if arguments.has(b'v') {
+        Wanted::Rest
+    } else {
+        Wanted::Selected(form)
+    }
 }
 
 fn form_of(arguments: &Arguments<'_>) -> Form

@@ -1,20 +1,23 @@
-//! What a query selects in a text.
+//! What a query selects in a text, or what is left without it.
 ghost use Rattle.std.specs.Prelude.{◌≡◌, Some};
 ghost use Rattle.std.specs.Str.{chars};
 ghost use Rattle.tinyjson.specs.Written.{WritesPrefix};
 ghost use Rattle.tinyjson_document.specs.Document.{tree};
 ghost use Rattle.tinyjson_path.specs.Nodes.{parts_view};
 ghost use Rattle.tinyjson_path.specs.Patterns.{judged};
-ghost use Rattle.json_path.specs.Selected.{Answers, AnswersSelected, GivesNodes, GivesText};
-ghost use Rattle.json_path.specs.Selected.{is_answer, printed, unanswered_message};
+ghost use Rattle.json_path.specs.Selected.{Answers, AnswersWanted, GivesNodes, GivesParts, GivesText};
+ghost use Rattle.json_path.specs.Selected.{GivesSelected, GivesRest, is_answer, printed, unanswered_message};
 
 use crate::array::write_array;
 use crate::lines::write_lines;
+use crate::places::Places;
+use crate::rest::write_without;
 use std::alloc::Global;
 use std::fmt;
 use std::io::{self, ErrorKind, Write};
 use tinyjson::JsonParseError;
 use tinyjson_document::Document;
+use tinyjson_lines::write_all;
 use tinyjson_path::{FindError, Node, PatternLimit, Query, find_in};
 
 /// What is written of a node.
@@ -39,6 +42,15 @@ pub struct Form {
     pub or_none: bool,
 }
 
+/// What is asked of a text.
+#[derive(Clone, Copy)]
+pub enum Wanted {
+    /// What the query selects, in this form.
+    Selected(Form),
+    /// The text without what the query selects.
+    Rest,
+}
+
 /// Why a text has no answer.
 #[derive(Drop)]
 pub enum Unanswered {
@@ -46,6 +58,8 @@ pub enum Unanswered {
     Refused(JsonParseError),
     /// The query selects no node.
     NoNode,
+    /// The query selects the whole value, and nothing would be left.
+    NothingLeft,
     /// A regular expression of `match` or `search` is too deep or too large.
     Pattern(PatternLimit),
 }
@@ -58,43 +72,46 @@ impl fmt::Display for Unanswered {
         match self {
             Unanswered::Refused(error) => write!(f, "{error}"),
             Unanswered::NoNode => f.write_str("the query selects no node"),
+            Unanswered::NothingLeft => f.write_str("nothing is left"),
             Unanswered::Pattern(limit) => write!(f, "{limit}"),
         }
     }
 }
 
-/// Writes what the query selects in the text's value, in order, or returns why there is no answer.
+/// Writes what the query selects in the text's value, in order, or the value without it; or returns why there is no
+/// answer.
 ///
 /// After an error of the writer, or if memory runs out, a prefix may be written. The value may be nested to any depth.
 ///
 /// ```
-/// write_selected(alloc, &query, r#"{"a":[1,2,3.0]}"#, form, &mut output)?; // of $.a[1:]: 2 and 3, on a line each
+/// // of $.a[1:]: 2 and 3, on a line each; or {"a":[1]}
+/// write_answer(alloc, &query, r#"{"a":[1,2,3.0]}"#, wanted, &mut output)?;
 /// ```
-pub fn write_selected<W: Write>(
+pub fn write_answer<W: Write>(
     alloc: Global,
     query: &Query,
     text: &str,
-    form: Form,
+    wanted: Wanted,
     output: &mut W,
 ) -> io::Result<Option<Unanswered>>
-    ensures { AnswersSelected form query.now (chars text.now)
+    ensures { AnswersWanted wanted query.now (chars text.now)
         (W.contents output.old) (W.contents output.new) result }
 {
-    write_of_text(alloc, query, text, form, output)
+    write_of_text(alloc, query, text, wanted, output)
 }
 
 fn write_of_text<W: Write>(
     alloc: Global,
     query: &Query,
     text: &str,
-    form: Form,
+    wanted: Wanted,
     output: &mut W,
 ) -> io::Result<Option<Unanswered>>
-    ensures { Answers (GivesText judged form query.now (chars text.now))
+    ensures { Answers (GivesText judged wanted query.now (chars text.now))
         (W.contents output.old) (W.contents output.new) result }
 {
     match Document::read(alloc, text) {
-        Ok(document) => write_found(alloc, query, document.root(), form, output),
+        Ok(document) => write_found(alloc, query, document.root(), wanted, output),
         Err(error) => {
             if error.is_out_of_memory() {
                 return Err(error.into());
@@ -108,23 +125,50 @@ fn write_found<W: Write>(
     alloc: Global,
     query: &Query,
     root: tinyjson_document::Node,
-    form: Form,
+    wanted: Wanted,
     output: &mut W,
 ) -> io::Result<Option<Unanswered>>
-    ensures { Answers (GivesNodes judged form query.now (tree root.entry))
+    ensures { Answers (GivesNodes judged wanted query.now (tree root.entry))
         (W.contents output.old) (W.contents output.new) result }
 {
     match find_in(query, alloc, root) {
-        Ok(nodes) => {
-            if !is_answer(nodes.as_slice(), form) {
-                return Ok(Some(Unanswered::NoNode));
-            }
-            write_nodes(alloc, nodes.as_slice(), form, output)?;
-            Ok(None)
-        }
+        Ok(nodes) => write_wanted(alloc, root, nodes.as_slice(), wanted, output),
         Err(FindError::Pattern(limit)) => Ok(Some(Unanswered::Pattern(limit))),
         Err(FindError::OutOfMemory) => Err(io::Error::from(ErrorKind::OutOfMemory)),
     }
+}
+
+/// Writes what is asked for, where these nodes are selected.
+fn write_wanted<W: Write>(
+    alloc: Global,
+    root: tinyjson_document::Node,
+    nodes: &[Node],
+    wanted: Wanted,
+    output: &mut W,
+) -> io::Result<Option<Unanswered>>
+    ensures { Answers (GivesParts wanted (tree root.entry) (parts_view nodes.now))
+        (W.contents output.old) (W.contents output.new) result }
+{
+    match wanted {
+        Wanted::Selected(form) => write_selected(alloc, nodes, form, output),
+        Wanted::Rest => write_rest(alloc, root, nodes, output),
+    }
+}
+
+fn write_selected<W: Write>(
+    alloc: Global,
+    nodes: &[Node],
+    form: Form,
+    output: &mut W,
+) -> io::Result<Option<Unanswered>>
+    ensures { Answers (GivesSelected form (parts_view nodes.now))
+        (W.contents output.old) (W.contents output.new) result }
+{
+    if !is_answer(nodes, form) {
+        return Ok(Some(Unanswered::NoNode));
+    }
+    write_nodes(alloc, nodes, form, output)?;
+    Ok(None)
 }
 
 fn is_answer(nodes: &[Node], form: Form) -> bool
@@ -150,4 +194,22 @@ fn write_nodes<W: Write>(
     } else {
         write_lines(alloc, nodes, form.shape, output)
     }
+}
+
+fn write_rest<W: Write>(
+    alloc: Global,
+    root: tinyjson_document::Node,
+    nodes: &[Node],
+    output: &mut W,
+) -> io::Result<Option<Unanswered>>
+    ensures { Answers (GivesRest (tree root.entry) (parts_view nodes.now))
+        (W.contents output.old) (W.contents output.new) result }
+{
+    let places = Places::of_nodes(alloc, nodes)?;
+    if places.contains("$") {
+        return Ok(Some(Unanswered::NothingLeft));
+    }
+    write_without(alloc, root, &places, output)?;
+    write_all(output, b"\n")?;
+    Ok(None)
 }

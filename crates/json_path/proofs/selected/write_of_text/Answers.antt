@@ -13,7 +13,7 @@ pub returns-in-Ok : goal.returns-in-Ok
 returns-in-Ok g c =
     let text = chars c.args.text.now in
     let h = c.in-Ok.ensures.answer in
-    of_tree c.args.form c.args.query.now _ _ (tree c.root.result) text c.write_found.result
+    of_tree c.args.wanted c.args.query.now _ _ (tree c.root.result) text c.write_found.result
     (subst (IsText None text) (sym (c.root.ensures ∙ h.3)) h.2) c.write_found.ensures
 
 pub returns-else-is_out_of_memory : goal.returns-else-is_out_of_memory
