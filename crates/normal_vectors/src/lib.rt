@@ -1,4 +1,5 @@
-//! Tests of `tinyjson_normal` and `tinyjson_document`: the examples of the documentation, and what no clause says.
+//! Tests of `tinyjson_normal`, `tinyjson_document`, `tinyjson_replay` and merges of documents: the examples of the
+//! documentation, and what no clause says.
 #![tactic(auto)]
 
 #[cfg(test)]
@@ -7,6 +8,8 @@ mod comparing;
 mod documents;
 #[cfg(test)]
 mod examples;
+#[cfg(test)]
+mod merging;
 #[cfg(test)]
 mod reading;
 #[cfg(test)]
