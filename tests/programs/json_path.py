@@ -531,6 +531,8 @@ ROWS = [
 NOTHING_LEFT = reported(1, "json_path", "nothing is left")
 
 # The same with options.
+INDENTABLE = b'{"c":{},"a":[1.0,{"b":null}],"d":"x"}'
+INDENTED_ARRAY = json.dumps([1, {"b": None}], indent=2).encode()
 FOUR = rb'{"a":["x\ny","\"\u00e9",1.0,["z"]],"b":"w"}'
 OPTIONS = [
     # -r: strings without quotes and escapes, all else as it is; not paths.
@@ -540,6 +542,14 @@ OPTIONS = [
     (["-r", "$[0]"], b'["' + b"x" * 100_000 + b'"]', printed(b"x" * 100_000)),
     (["-rp", "$.b"], FOUR, printed(b"$['b']")),
     (["-pr", "$['x\\ny']"], rb'{"x\ny":"w"}', printed(b"$['x\\ny']")),
+    # -i: indented by two spaces, each value on its own; not in arrays, not what -v leaves.
+    (["-i", "$.a"], INDENTABLE, printed(INDENTED_ARRAY)),
+    (["--indent", "$[*]"], INDENTABLE, printed(INDENTED_ARRAY, b"{}", b'"x"')),
+    (["-ir", "$[*]"], INDENTABLE, printed(INDENTED_ARRAY, b"{}", b"x")),
+    (["-ip", "$.a"], INDENTABLE, printed(b"$['a']")),
+    (["-il", "$[*]"], INDENTABLE, printed(b'[[1,{"b":null}],{},"x"]')),
+    (["-ilf", "$.a"], INDENTABLE, printed(INDENTED_ARRAY)),
+    (["-iv", "$.a[1]"], INDENTABLE, printed(b'{"a":[1],"c":{},"d":"x"}')),
     # -e: it is an answer that nothing is selected.
     (["-e", "$.x"], FOUR, (0, b"", b"")),
     (["--empty", "$.b"], FOUR, printed(b'"w"')),
@@ -555,7 +565,7 @@ OPTIONS = [
     (["--rest", "$.x"], b'[1.0, {"x": 2}]', printed(b'[1,{"x":2}]')),
     (["-v", "$"], b"1", NOTHING_LEFT),
     (["-vrefp", "$"], b"[]", NOTHING_LEFT),
-    (["-vrefp", "$.b"], b'{"a":"x","b":1}', printed(b'{"a":"x"}')),
+    (["-virefp", "$.b"], b'{"a":"x","b":1}', printed(b'{"a":"x"}')),
     (["-v", "$[0,0,-1]"], b"[1,2,3,1]", printed(b"[2,3]")),
     (["-v", "$[?@>1]"], b"[1,2,3,1.0]", printed(b"[1,1]")),
     (["-v", "$..a"], b'{"a":{"a":1},"b":[{"a":2},{"aa":3}]}', printed(b'{"b":[{},{"aa":3}]}')),

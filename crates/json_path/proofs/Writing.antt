@@ -23,10 +23,11 @@ use Rattle.tinyjson_path.specs.declared.node.Node.{Node}
 use Rattle.tinyjson_path.specs.declared.patterns.PatternLimit.{PatternLimit}
 use Rattle.json_path.specs.Selected.{Answers, GivesNodes, GivesParts, GivesRest, GivesSelected, GivesText, is_answer, printed}
 use Rattle.json_path.specs.Places.{has_path}
-use Rattle.json_path.specs.Shapes.{raw_text}
+use Rattle.json_path.specs.Shapes.{layout_text, raw_text}
 use Rattle.json_path.specs.Without.{is_at, path_bytes, without}
 use Rattle.json_path.specs.declared.places.Places.{Places}
 use Rattle.json_path.specs.declared.selected.Form.{Form}
+use Rattle.json_path.specs.declared.selected.Layout.{Layout}
 use Rattle.json_path.specs.declared.selected.Unanswered.{Unanswered}
 use Rattle.json_path.specs.declared.selected.Unanswered.TheVariants.{Refused, NoNode, NothingLeft, Pattern}
 use Rattle.json_path.specs.declared.selected.Wanted.{Wanted}
@@ -40,21 +41,21 @@ some_parts (m ∷ ns) n e =
 
 -- ---- a string
 
-pub raw_string : (t : Tree) (cs : List ℕ) → string_in t ≡ Some cs → encode_utf8_all cs ≡ encode_utf8_all (raw_text t)
-raw_string (string ds) cs h = let same : cs ≡ ds = cc in ap encode_utf8_all same
-raw_string null cs h = cc
-raw_string (boolean b) cs h = cc
-raw_string (number n) cs h = cc
-raw_string (array ts) cs h = cc
-raw_string (object ms) cs h = cc
+pub raw_string : (l : Layout) (t : Tree) (cs : List ℕ) → string_in t ≡ Some cs → encode_utf8_all cs ≡ encode_utf8_all (raw_text l t)
+raw_string l (string ds) cs h = let same : cs ≡ ds = cc in ap encode_utf8_all same
+raw_string l null cs h = cc
+raw_string l (boolean b) cs h = cc
+raw_string l (number n) cs h = cc
+raw_string l (array ts) cs h = cc
+raw_string l (object ms) cs h = cc
 
-pub raw_other : (t : Tree) → string_in t ≡ None → encode_utf8_all (compact t) ≡ encode_utf8_all (raw_text t)
-raw_other (string ds) h = cc
-raw_other null h = refl
-raw_other (boolean b) h = refl
-raw_other (number n) h = refl
-raw_other (array ts) h = refl
-raw_other (object ms) h = refl
+pub raw_other : (l : Layout) (t : Tree) → string_in t ≡ None → encode_utf8_all (layout_text l t) ≡ encode_utf8_all (raw_text l t)
+raw_other l (string ds) h = cc
+raw_other l null h = refl
+raw_other l (boolean b) h = refl
+raw_other l (number n) h = refl
+raw_other l (array ts) h = refl
+raw_other l (object ms) h = refl
 
 -- ---- the answer
 

@@ -5,21 +5,26 @@ use Rattle.tinyjson_cli.specs.Arguments.{Given, first_operand, is_given}
 use Rattle.tinyjson_cli.specs.Texts.{texts_given}
 use Rattle.tinyjson_cli.specs.declared.texts.Texts.{Texts}
 use Rattle.json_path.specs.declared.selected.Form.{Form}
+use Rattle.json_path.specs.declared.selected.Layout.{Layout}
+use Rattle.json_path.specs.declared.selected.Layout.TheVariants.{Compact, Indented}
 use Rattle.json_path.specs.declared.selected.Shape.{Shape}
 use Rattle.json_path.specs.declared.selected.Shape.TheVariants.{Value, Raw, Path}
 use Rattle.json_path.specs.declared.selected.Wanted.{Wanted}
 use Rattle.json_path.specs.declared.selected.Wanted.TheVariants.{Selected, Rest}
 
+abbrev pub layout_asked : Bool → Layout
+layout_asked is_indented = cond is_indented Indented Compact
+
 -- what is written of a part: its path with `-p`; else, with `-r`, the characters of a string
-abbrev pub shape_asked : Bool → Bool → Shape
-shape_asked true is_raw = Path
-shape_asked false true = Raw
-shape_asked false false = Value
+abbrev pub shape_asked : Bool → Bool → Layout → Shape
+shape_asked true is_raw l = Path
+shape_asked false true l = Raw l
+shape_asked false false l = Value l
 
 -- with `-l` an array for each text, but a line for each part with `-f`; with `-e` also where nothing is selected
 abbrev pub form_asked : Given → Form
 form_asked a = record {
-  shape = shape_asked (is_given 112 a) (is_given 114 a);
+  shape = shape_asked (is_given 112 a) (is_given 114 a) (layout_asked (is_given 105 a));
   is_array = is_given 108 a && not (is_given 102 a);
   or_none = is_given 101 a;
 }

@@ -1,23 +1,29 @@
 -- What is written of the parts that a query selects.
 use Rattle.std.specs.Prelude.{ℕ, Bool, true, false, List, [], ◌∷◌, ◌++◌, codes, encode_utf8_all}
 use Rattle.tinyjson.specs.Characters.{line_feed}
-use Rattle.tinyjson.specs.Text.{compact}
+use Rattle.tinyjson.specs.Text.{compact, indented}
 use Rattle.tinyjson.specs.Tree.{Tree, string}
 use Rattle.tinyjson_path.specs.Nodes.{Part}
 use Rattle.tinyjson_path.specs.Paths.{path_text}
+use Rattle.json_path.specs.declared.selected.Layout.{Layout}
+use Rattle.json_path.specs.declared.selected.Layout.TheVariants.{Compact, Indented}
 use Rattle.json_path.specs.declared.selected.Shape.{Shape}
 use Rattle.json_path.specs.declared.selected.Shape.TheVariants.{Value, Raw, Path}
 
 -- ---- on a line each
 
--- the characters of a string, or the compact text of another tree
-abbrev pub raw_text : Tree → List ℕ
-raw_text (string cs) = cs
-raw_text t = compact t
+abbrev pub layout_text : Layout → Tree → List ℕ
+layout_text Compact t = compact t
+layout_text Indented t = indented t (codes "  ") 0
+
+-- the characters of a string, or the text of another tree
+abbrev pub raw_text : Layout → Tree → List ℕ
+raw_text l (string cs) = cs
+raw_text l t = layout_text l t
 
 abbrev pub shape_text : Shape → Part → List ℕ
-shape_text Value p = compact p.tree
-shape_text Raw p = raw_text p.tree
+shape_text (Value l) p = layout_text l p.tree
+shape_text (Raw l) p = raw_text l p.tree
 shape_text Path p = path_text p.path
 
 -- that in UTF-8, and a line feed
@@ -32,8 +38,8 @@ lines_of s (p ∷ ps) = line_of s p ++ lines_of s ps
 
 -- the compact text of the value, or of the path as a string
 abbrev pub item_text : Shape → Part → List ℕ
-item_text Value p = compact p.tree
-item_text Raw p = compact p.tree
+item_text (Value l) p = compact p.tree
+item_text (Raw l) p = compact p.tree
 item_text Path p = compact (string (path_text p.path))
 
 -- that in UTF-8, behind a comma if it is not the first

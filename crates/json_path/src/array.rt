@@ -69,8 +69,8 @@ fn write_item<W: Write>(alloc: Global, node: &Node, shape: Shape, output: &mut W
         (encode_utf8_all (item_text shape (part_view node.now))) result }
 {
     match shape {
-        Shape::Value => node.value.write_to(alloc, output),
-        Shape::Raw => node.value.write_to(alloc, output),
+        Shape::Value(_) => node.value.write_to(alloc, output),
+        Shape::Raw(_) => node.value.write_to(alloc, output),
         Shape::Path => write_quoted_path(alloc, &node.location, output),
     }
 }

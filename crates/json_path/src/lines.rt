@@ -2,11 +2,11 @@
 ghost use Rattle.std.specs.Prelude.{◌≡◌, ◌∷◌, [], encode_utf8_all};
 ghost use Rattle.std.specs.Str.{chars};
 ghost use Rattle.tinyjson.specs.Written.{WritesPrefix};
-ghost use Rattle.json_path.specs.Shapes.{line_of, lines_of, raw_text, shape_text};
+ghost use Rattle.json_path.specs.Shapes.{layout_text, line_of, lines_of, raw_text, shape_text};
 ghost use Rattle.tinyjson_path.specs.Nodes.{path_view, part_view, parts_view, tree_of};
 ghost use Rattle.tinyjson_path.specs.Paths.{path_text};
 
-use crate::selected::Shape;
+use crate::selected::{Layout, Shape};
 use std::alloc::Global;
 use std::io::{self, Write};
 use tinyjson_document::JsonView;
@@ -42,19 +42,39 @@ fn write_node<W: Write>(alloc: Global, node: &Node, shape: Shape, output: &mut W
         (encode_utf8_all (shape_text shape (part_view node.now))) result }
 {
     match shape {
-        Shape::Value => node.value.write_to(alloc, output),
-        Shape::Raw => write_raw(alloc, &node.value, output),
+        Shape::Value(layout) => write_text(alloc, &node.value, layout, output),
+        Shape::Raw(layout) => write_raw(alloc, &node.value, layout, output),
         Shape::Path => write_path(alloc, &node.location, output),
     }
 }
 
-fn write_raw<W: Write>(alloc: Global, value: &NodeValue<'_>, output: &mut W) -> io::Result<()>
+fn write_raw<W: Write>(
+    alloc: Global,
+    value: &NodeValue<'_>,
+    layout: Layout,
+    output: &mut W,
+) -> io::Result<()>
     ensures { WritesPrefix (W.contents output.old) (W.contents output.new)
-        (encode_utf8_all (raw_text (tree_of value.now))) result }
+        (encode_utf8_all (raw_text layout (tree_of value.now))) result }
 {
     match value.string() {
         Some(characters) => write_characters(characters, output),
-        None => value.write_to(alloc, output),
+        None => write_text(alloc, value, layout, output),
+    }
+}
+
+fn write_text<W: Write>(
+    alloc: Global,
+    value: &NodeValue<'_>,
+    layout: Layout,
+    output: &mut W,
+) -> io::Result<()>
+    ensures { WritesPrefix (W.contents output.old) (W.contents output.new)
+        (encode_utf8_all (layout_text layout (tree_of value.now))) result }
+{
+    match layout {
+        Layout::Compact => value.write_to(alloc, output),
+        Layout::Indented => value.format_to(alloc, output),
     }
 }
 

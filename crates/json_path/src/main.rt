@@ -17,18 +17,18 @@ use options::{EMPTY, FLAT, PATHS, QUERY_FILE, RAW, REST, Request, requested, wit
 use query::read_query;
 use std::process::ExitCode;
 use tinyjson_cli::{
-    Failure, HELP, LINES, MAX_LINE, Misuse, Program, Status, VERSION, answer_files, answer_texts,
-    argument_words, arguments_of, misused, read_named, report,
+    Failure, HELP, INDENT, LINES, MAX_LINE, Misuse, Program, Status, VERSION, answer_files,
+    answer_texts, argument_words, arguments_of, misused, read_named, report,
 };
 use tinyjson_path::Query;
 
 const PROGRAM: Program<'static> = Program {
     name: "json_path",
     options: &[
-        LINES, MAX_LINE, FLAT, PATHS, RAW, EMPTY, REST, QUERY_FILE, HELP, VERSION,
+        LINES, MAX_LINE, FLAT, PATHS, INDENT, RAW, EMPTY, REST, QUERY_FILE, HELP, VERSION,
     ],
     help: "\
-Usage: json_path [-l [-m N] [-f]] [-p] [-r] [-e] [-v] [-q] QUERY [FILE..]
+Usage: json_path [-l [-m N] [-f]] [-p] [-i] [-r] [-e] [-v] [-q] QUERY [FILE..]
 
 Prints what a JSONPath query (RFC 9535) selects in each JSON text, each value as
 compact text with sorted keys on a line.
@@ -44,10 +44,11 @@ Options:
                     it in memory
   -f, --flat        with -l: print each value on a line
   -p, --paths       print the normalized path of each value in place of the value
+  -i, --indent      indent by two spaces, but not in arrays
   -r, --raw         print strings without quotes and escapes, but in arrays
   -e, --empty       take it as an answer that nothing is selected
   -v, --rest        print each text without what is selected, on a line; -f, -p,
-                    -r and -e change nothing then
+                    -i, -r and -e change nothing then
   -q, --query-file  read the query from the file QUERY
   -h, --help        print this page
   -V, --version     print the version

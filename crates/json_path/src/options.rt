@@ -1,9 +1,10 @@
 //! The program's arguments.
 ghost use Rattle.std.specs.Prelude.{◌≡◌, ◌&&◌, not, option_map, map};
 ghost use Rattle.tinyjson_cli.specs.Arguments.{given_of};
-ghost use Rattle.json_path.specs.Options.{asks, form_asked, shape_asked, wanted_asked, IsWithoutEnd};
+ghost use Rattle.json_path.specs.Options.{asks, form_asked, layout_asked, shape_asked, wanted_asked};
+ghost use Rattle.json_path.specs.Options.{IsWithoutEnd};
 
-use crate::selected::{Form, Shape, Wanted};
+use crate::selected::{Form, Layout, Shape, Wanted};
 use tinyjson_cli::{Arguments, Known, Texts, texts_asked};
 
 /// `-p` and `--paths`.
@@ -63,7 +64,7 @@ pub struct Request<'w, 'a> {
     pub files: &'a [&'w str],
 }
 
-/// Parses the arguments: `[-l [-m N] [-f]] [-p] [-r] [-e] [-v] [-q] QUERY [FILE..]`.
+/// Parses the arguments: `[-l [-m N] [-f]] [-p] [-i] [-r] [-e] [-v] [-q] QUERY [FILE..]`.
 pub fn requested<'w, 'a>(arguments: &'a Arguments<'w>) -> Option<Request<'w, 'a>>
     ensures { option_map (λ r. (
       (r.texts, (r.wanted, r.is_file)),
@@ -99,7 +100,8 @@ fn form_of(arguments: &Arguments<'_>) -> Form
 {
     let or_none = arguments.has(b'e');
     let is_array = is_array(arguments.has(b'l'), arguments.has(b'f'));
-    let shape = shape_of(arguments.has(b'p'), arguments.has(b'r'));
+    let layout = layout_of(arguments.has(b'i'));
+    let shape = shape_of(arguments.has(b'p'), arguments.has(b'r'), layout);
     Form {
         shape,
         is_array,
@@ -113,15 +115,25 @@ fn is_array(by_lines: bool, is_flat: bool) -> bool
     by_lines && !is_flat
 }
 
-fn shape_of(is_path: bool, is_raw: bool) -> Shape
-    ensures { result ≡ shape_asked is_path is_raw }
+fn layout_of(is_indented: bool) -> Layout
+    ensures { result ≡ layout_asked is_indented }
+{
+    if is_indented {
+        Layout::Indented
+    } else {
+        Layout::Compact
+    }
+}
+
+fn shape_of(is_path: bool, is_raw: bool, layout: Layout) -> Shape
+    ensures { result ≡ shape_asked is_path is_raw layout }
 {
     if is_path {
         Shape::Path
     } else if is_raw {
-        Shape::Raw
+        Shape::Raw(layout)
     } else {
-        Shape::Value
+        Shape::Value(layout)
     }
 }
 

@@ -20,13 +20,21 @@ use tinyjson_document::Document;
 use tinyjson_lines::write_all;
 use tinyjson_path::{FindError, Node, PatternLimit, Query, find_in};
 
-/// What is written of a node.
+/// The form of a value's text.
+#[derive(Clone, Copy)]
+pub enum Layout {
+    Compact,
+    /// Indented with two spaces.
+    Indented,
+}
+
+/// What is written of a node. In an array each text is compact.
 #[derive(Clone, Copy)]
 pub enum Shape {
-    /// The compact text of its value.
-    Value,
-    /// The characters of a string, or else the compact text of its value.
-    Raw,
+    /// The text of its value.
+    Value(Layout),
+    /// The characters of a string, or else the text of its value.
+    Raw(Layout),
     /// Its normalized path.
     Path,
 }

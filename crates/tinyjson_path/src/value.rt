@@ -1,8 +1,8 @@
 //! The value of a node.
-ghost use Rattle.std.specs.Prelude.{◌≡◌, IfOk, string_bytes};
+ghost use Rattle.std.specs.Prelude.{◌≡◌, IfOk, codes, string_bytes};
 ghost use Rattle.std.specs.Str.{chars};
 ghost use Rattle.tinyjson.specs.Equality.{tree_eq};
-ghost use Rattle.tinyjson.specs.Text.{compact};
+ghost use Rattle.tinyjson.specs.Text.{compact, indented};
 ghost use Rattle.tinyjson.specs.Written.{WritesText};
 ghost use Rattle.tinyjson_path.specs.Nodes.{tree_of};
 
@@ -49,6 +49,21 @@ impl<'v> NodeValue<'v> {
         match self {
             NodeValue::InDocument(node) => node.write_to(alloc, out),
             NodeValue::InValue(value) => value.write_to(alloc, out),
+        }
+    }
+
+    /// Writes the text indented with two spaces, in UTF-8. The errors are those of `JsonValue::format_to`.
+    ///
+    /// ```
+    /// nodes[0].value.format_to(alloc, &mut output)?; // of [2.50]: writes "[\n  2.5\n]"
+    /// ```
+    pub fn format_to<W: Write>(&self, alloc: Global, out: &mut W) -> io::Result<()>
+        ensures { WritesText (W.contents out.old) (W.contents out.new)
+            (indented (tree_of self.now) (codes "  ") 0) result }
+    {
+        match self {
+            NodeValue::InDocument(node) => node.format_to(alloc, out),
+            NodeValue::InValue(value) => value.format_to(alloc, out),
         }
     }
 
