@@ -63,7 +63,7 @@ module _ (path : List Step) where
   items_step k (suc i) (item t ts) = items_step k i ts
 
   module _ (t : Tree) where
-    abbrev one_at : ℕ → List Part
+    abbrev pub one_at : ℕ → List Part
     one_at i = one_below path (at_index i) (tree_at t i)
 
     pub step_items : (acc more goal : List Part) (i : ℕ) → more ≡ acc ++ one_at i

@@ -6,6 +6,7 @@ pub mod Judging
 pub mod Within
 pub mod Selected
 pub mod Stated
+pub mod Wanting
 pub mod Waits
 pub mod Errors
 pub mod Callers

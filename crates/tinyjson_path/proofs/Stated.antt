@@ -101,7 +101,7 @@ are_one_by_one g k [] root zs ps h = h
 are_one_by_one g k (x ∷ xs) root zs ps h =
     are_one_by_one g k xs root zs (from_each (g x root) ps) (are_each zs (g x root) ps (k x root) h)
 
-are_kept : (zs : Texts) (f : Tree → Bool) (ps : List Part) → AreWithin zs ps → AreWithin zs (kept f ps)
+pub are_kept : (zs : Texts) (f : Tree → Bool) (ps : List Part) → AreWithin zs ps → AreWithin zs (kept f ps)
 are_kept zs f [] h = tt
 are_kept zs f (p ∷ ps) h =
     are_chosen zs (f p.tree) (p ∷ kept f ps) (kept f ps) (h.0, are_kept zs f ps h.1) (are_kept zs f ps h.1)

@@ -1,19 +1,21 @@
 -- What waits on a stack, the first one last: what it selects, how long that takes, and whose strings it has.
-use Rattle.std.proofs.Common.{◌≡◌, ℕ, suc, ◌+◌, ◌<◌, List, [], ◌∷◌, ◌++◌, reverse, map, drop, length, get_or, refl, sym, ap, ◌∙◌, subst}
+use Rattle.std.proofs.Common.{◌≡◌, ℕ, suc, ◌+◌, ◌<◌, ◌≤◌, List, [], ◌∷◌, ◌++◌, reverse, map, drop, length, get_or, refl, sym, ap, ◌∙◌, subst}
 use Rattle.std.proofs.Common.{arith, append_assoc, append-nil, rules, Vec, Global}
 use Rattle.std.proofs.lemmas.List.{map-append, reverse-append, reverse-reverse, length-append}
 use Rattle.tinyjson.specs.Tree.{Tree}
 use Rattle.tinyjson_path.specs.Nodes.{Part, part_view, parts_view, children, visited, root_part}
-use Rattle.tinyjson_path.specs.Queries.{Selects, one_by_one, segment_parts, selected_by, found_by}
+use Rattle.tinyjson_path.specs.Queries.{Selects, one_by_one, segment_parts, selected_by, found_by, kept}
 use Rattle.tinyjson_path.specs.Selecting.{from_each}
 use Rattle.tinyjson_path.specs.Strings.{Texts, strings_in}
-use Rattle.tinyjson_path.specs.Waiting.{Wait, waits_view, rest_of, waits_at, waits_left}
+use Rattle.tinyjson_path.specs.Waiting.{Wait, waits_view, rest_of, waits_at, waits_left, wants}
+use Rattle.tinyjson_path.specs.declared.children.Wanted.TheVariants.{Containers}
 use Rattle.tinyjson_path.specs.declared.node.Node.{Node}
 use Rattle.tinyjson_path.specs.declared.select.Waiting.{Waiting}
 use Rattle.tinyjson_path.proofs.Items.{drop_at}
 use Rattle.tinyjson_path.proofs.Parts.{each_append, each_of_each, visited_of, visited_is}
 use Rattle.tinyjson_path.proofs.Selected.{AreWithin, are_both, are_first, are_last}
 use Rattle.tinyjson_path.proofs.Stated.{segment_keeps}
+use Rattle.tinyjson_path.proofs.Wanting.{each_container, fewer_kept, visited_scalar}
 use Rattle.tinyjson_path.proofs.Within.{Within}
 use Rattle.tinyjson_path_query.specs.declared.query.Segment.{Segment, the_lemmas}
 use Rattle.tinyjson_path_query.specs.declared.query.Segment.TheVariants as segment
@@ -146,6 +148,9 @@ module _ (ss : List Segment) (root : Tree) where
     abbrev below : List Part
     below = children p.path p.tree
 
+    abbrev inner : List Part
+    inner = kept (wants Containers) below
+
     child_selects : s ≡ segment.Child sels → segment_parts s root p ≡ chosen
     child_selects e = ap (λ x. segment_parts x root p) e ∙ search (rules, the_lemmas)
 
@@ -201,43 +206,51 @@ module _ (ss : List Segment) (root : Tree) where
             ap (λ z. z ++ from_each (segment_parts s root) qs) (descendant_selects e q)
             ∙ ap (λ z. from_each (selected_by sels.items root) (visited_of q) ++ z) (same qs)
 
+    each_inner : s ≡ segment.Descendant sels
+        → from_each (segment_parts s root) inner ≡ from_each (selected_by sels.items root) (from_each visited_of below)
+    each_inner e =
+        each_container (segment_parts s root) (λ q h. descendant_selects e q ∙ visited_scalar sels.items root q h) below
+        ∙ each_below e below
+
     both : s ≡ segment.Descendant sels → segment_parts s root p ≡ chosen ++ deeper
     both e = descendant_selects e p ∙ ap (from_each (selected_by sels.items root)) (visited_is p.path p.tree)
 
     pub left_descendant : (ws mid low new : List Wait) → s ≡ segment.Descendant sels → ws ≡ mid ++ (i, p) ∷ []
-        → low ≡ mid ++ reverse (waits_at i below) → new ≡ low ++ reverse (waits_at (i + 1) chosen)
+        → low ≡ mid ++ reverse (waits_at i inner) → new ≡ low ++ reverse (waits_at (i + 1) chosen)
         → waits_left ss root new ≡ waits_left ss root ws
     left_descendant ws mid low new e popped lower pushed =
         let fs : List Selects = segments_from (i + 1) in
         let old : List Part = waits_left ss root mid in
         ap (waits_left ss root) pushed
         ∙ (left_pushed low (i + 1) chosen
-        ∙ (ap (λ z. one_by_one root fs chosen ++ z) (ap (waits_left ss root) lower ∙ (left_pushed mid i below
-        ∙ ap (λ z. z ++ old) (ap (λ gs. one_by_one root gs below) from_here ∙ ap (one_by_one root fs) (each_below e below))))
+        ∙ (ap (λ z. one_by_one root fs chosen ++ z) (ap (waits_left ss root) lower ∙ (left_pushed mid i inner
+        ∙ ap (λ z. z ++ old) (ap (λ gs. one_by_one root gs inner) from_here ∙ ap (one_by_one root fs) (each_inner e))))
         ∙ (sym (append_assoc (one_by_one root fs chosen) (one_by_one root fs deeper) old)
         ∙ (ap (λ z. z ++ old) (sym (obo_append root fs chosen deeper))
         ∙ sym (left_popped ws mid (i, p) popped ∙ ap (λ z. z ++ old) (rest_here ∙ ap (one_by_one root fs) (both e)))))))
 
     pub less_descendant : (ws mid low new : List Wait) → s ≡ segment.Descendant sels → ws ≡ mid ++ (i, p) ∷ []
-        → low ≡ mid ++ reverse (waits_at i below) → new ≡ low ++ reverse (waits_at (i + 1) chosen) → pops_of new < pops_of ws
+        → low ≡ mid ++ reverse (waits_at i inner) → new ≡ low ++ reverse (waits_at (i + 1) chosen) → pops_of new < pops_of ws
     less_descendant ws mid low new e popped lower pushed =
         let fs : List Selects = segments_from (i + 1) in
         let was : pops_of ws ≡ pops_of mid + pops_of ((i, p) ∷ []) = ap pops_of popped ∙ pops_of_append mid ((i, p) ∷ []) in
         let is : pops_of new ≡ pops_of low + pops root fs chosen
         = ap pops_of pushed
         ∙ (pops_of_append low (reverse (waits_at (i + 1) chosen)) ∙ ap (λ n. pops_of low + n) (pops_of_at (i + 1) chosen)) in
-        let under : pops_of low ≡ pops_of mid + pops root (segments_from i) below
-        = ap pops_of lower ∙ (pops_of_append mid (reverse (waits_at i below)) ∙ ap (λ n. pops_of mid + n) (pops_of_at i below)) in
-        let each : pops root (segments_from i) below ≡ length (from_each visited_of below) + pops root fs deeper
-        = ap (λ gs. pops root gs below) from_here
-        ∙ ap (λ qs. length (from_each visited_of below) + pops root fs qs) (each_below e below) in
+        let under : pops_of low ≡ pops_of mid + pops root (segments_from i) inner
+        = ap pops_of lower ∙ (pops_of_append mid (reverse (waits_at i inner)) ∙ ap (λ n. pops_of mid + n) (pops_of_at i inner)) in
+        let each : pops root (segments_from i) inner ≡ length (from_each visited_of inner) + pops root fs deeper
+        = ap (λ gs. pops root gs inner) from_here
+        ∙ ap (λ qs. length (from_each visited_of inner) + pops root fs qs) (each_inner e) in
+        let fewer : length (from_each visited_of inner) ≤ length (from_each visited_of below)
+        = fewer_kept visited_of (wants Containers) below in
         let here : pops root (segments_from i) (p ∷ [])
         ≡ length (from_each visited_of (p ∷ [])) + pops root fs (from_each (segment_parts s root) (p ∷ []))
         = ap (λ gs. pops root gs (p ∷ [])) from_here in
         let more : pops root fs (from_each (segment_parts s root) (p ∷ [])) ≡ pops root fs chosen + pops root fs deeper
         = ap (pops root fs) (append-nil (segment_parts s root p) ∙ both e) ∙ pops_append root fs chosen deeper in
         let some : length (from_each visited_of (p ∷ [])) ≡ suc (length (from_each visited_of below)) = ap length seen in
-        omega (arith, was, is, under, each, here, more, some)
+        omega (arith, was, is, under, each, fewer, here, more, some)
 
 -- ---- whose strings they have
 

@@ -1,9 +1,11 @@
 -- Nodes that wait for segments. Only private contracts use these words.
-use Rattle.std.specs.Prelude.{ℕ, List, ◌∷◌, [], map, drop, reverse}
-use Rattle.tinyjson.specs.Tree.{Tree}
+use Rattle.std.specs.Prelude.{ℕ, Bool, true, false, List, ◌∷◌, [], map, drop, reverse}
+use Rattle.tinyjson.specs.Tree.{Tree, array, object}
 use Rattle.tinyjson_path.specs.Nodes.{Part, part_view}
 use Rattle.tinyjson_path.specs.Queries.{one_by_one, segment_parts}
 use Rattle.tinyjson_path.specs.Selecting.{from_each}
+use Rattle.tinyjson_path.specs.declared.children.Wanted.{Wanted}
+use Rattle.tinyjson_path.specs.declared.children.Wanted.TheVariants.{All, Containers}
 use Rattle.tinyjson_path.specs.declared.select.Waiting.{Waiting}
 use Rattle.tinyjson_path_query.specs.declared.query.Segment.{Segment}
 
@@ -24,3 +26,14 @@ rest_of ss root w = one_by_one root (map segment_parts (drop w.0 ss)) (w.1 ∷ [
 -- of those that wait the last one is the next
 abbrev pub waits_left : List Segment → Tree → List Wait → List Part
 waits_left ss root ws = from_each (rest_of ss root) (reverse ws)
+
+-- ---- the children that wait
+
+abbrev pub is_container : Tree → Bool
+is_container (array ts) = true
+is_container (object ms) = true
+is_container _ = false
+
+abbrev pub wants : Wanted → Tree → Bool
+wants All t = true
+wants Containers t = is_container t

@@ -8,9 +8,12 @@ ghost use Rattle.tinyjson_document.specs.Parts.{items_in as items_of, members_in
 ghost use Rattle.tinyjson_path.specs.Comparing.{one_child};
 ghost use Rattle.tinyjson_path.specs.Nodes.{at_key, at_index, path_of, parts_view, tree_of};
 ghost use Rattle.tinyjson_path.specs.Nodes.{items_from, members_at, children};
+ghost use Rattle.tinyjson_path.specs.Queries.{kept};
 ghost use Rattle.tinyjson_path.specs.Selecting.{one_below, by_name, by_index, by_slice, taken};
 ghost use Rattle.tinyjson_path.specs.Selecting.{items_in, tree_at_place};
 ghost use Rattle.tinyjson_path.specs.Slices.{place_of, is_up, is_down};
+ghost use Rattle.tinyjson_path.specs.Waiting.{wants};
+ghost use Rattle.tinyjson_path.specs.declared.children.Wanted.TheVariants.{Containers};
 
 use crate::node::Node;
 use crate::slice::{Bounds, Steps, bound, bound_after, is_down, is_up, place, steps_of};
@@ -19,6 +22,23 @@ use std::alloc::{AllocError, Global};
 use tinyjson::{JsonKind, JsonValue, sorted_members};
 use tinyjson_document::{JsonView, Members};
 use tinyjson_path_query::SingularSegment;
+
+/// Which children are wanted.
+#[derive(Clone, Copy)]
+pub(crate) enum Wanted {
+    All,
+    /// Those that may have children.
+    Containers,
+}
+
+fn wants(wanted: Wanted, value: &NodeValue<'_>) -> bool
+    ensures { result ≡ wants wanted (tree_of value.now) }
+{
+    match wanted {
+        Wanted::All => true,
+        Wanted::Containers => matches!(value.kind(), JsonKind::Array | JsonKind::Object),
+    }
+}
 
 /// The children of the node: the items in order, or the members in the order of their keys' bytes.
 pub(crate) fn children<'v>(alloc: Global, node: &Node<'v>) -> Result<Vec<Node<'v>>, AllocError>
@@ -30,6 +50,16 @@ pub(crate) fn children<'v>(alloc: Global, node: &Node<'v>) -> Result<Vec<Node<'v
     Ok(nodes)
 }
 
+/// The children that may have children.
+pub(crate) fn containers<'v>(alloc: Global, node: &Node<'v>) -> Result<Vec<Node<'v>>, AllocError>
+    ensures { IfOk result (λ v. parts_view v.items
+        ≡ kept (wants Containers) (children (path_of node.now) (tree_of node.now.value))) }
+{
+    let mut nodes = Vec::new(alloc);
+    push_wanted(alloc, node, Wanted::Containers, &mut nodes)?;
+    Ok(nodes)
+}
+
 pub(crate) fn push_children<'v>(
     alloc: Global,
     node: &Node<'v>,
@@ -38,9 +68,21 @@ pub(crate) fn push_children<'v>(
     ensures { OnOk result (parts_view nodes.new.items ≡ parts_view nodes.old.items
         ++ children (path_of node.now) (tree_of node.now.value)) }
 {
+    push_wanted(alloc, node, Wanted::All, nodes)
+}
+
+fn push_wanted<'v>(
+    alloc: Global,
+    node: &Node<'v>,
+    wanted: Wanted,
+    nodes: &mut Vec<Node<'v>>,
+) -> Result<(), AllocError>
+    ensures { OnOk result (parts_view nodes.new.items ≡ parts_view nodes.old.items
+        ++ kept (wants wanted) (children (path_of node.now) (tree_of node.now.value))) }
+{
     match node.value.kind() {
-        JsonKind::Array => push_items(alloc, node, nodes),
-        JsonKind::Object => push_members(alloc, node, nodes),
+        JsonKind::Array => push_items(alloc, node, wanted, nodes),
+        JsonKind::Object => push_members(alloc, node, wanted, nodes),
         _ => Ok(()),
     }
 }
@@ -48,16 +90,18 @@ pub(crate) fn push_children<'v>(
 fn push_members<'v>(
     alloc: Global,
     node: &Node<'v>,
+    wanted: Wanted,
     nodes: &mut Vec<Node<'v>>,
 ) -> Result<(), AllocError>
     ensures { OnOk result (parts_view nodes.new.items ≡ parts_view nodes.old.items
-        ++ members_at (path_of node.now) (members_in (tree_of node.now.value))) }
+        ++ kept (wants wanted)
+        (members_at (path_of node.now) (members_in (tree_of node.now.value)))) }
 {
     match node.value {
-        NodeValue::InDocument(value) => push_ordered(alloc, node, value.members(), nodes),
+        NodeValue::InDocument(value) => push_ordered(alloc, node, value.members(), wanted, nodes),
         NodeValue::InValue(JsonValue::Object(members)) => {
             let sorted = sorted_members(alloc, members)?;
-            push_sorted(alloc, node, sorted.as_slice(), nodes)
+            push_sorted(alloc, node, sorted.as_slice(), wanted, nodes)
         }
         NodeValue::InValue(_) => Ok(()),
     }
@@ -68,13 +112,21 @@ fn push_ordered<'v>(
     alloc: Global,
     node: &Node<'v>,
     members: Members<'v>,
+    wanted: Wanted,
     nodes: &mut Vec<Node<'v>>,
 ) -> Result<(), AllocError>
     ensures { OnOk result (parts_view nodes.new.items ≡ parts_view nodes.old.items
-        ++ members_at (path_of node.now) (members_left members.entry)) }
+        ++ kept (wants wanted) (members_at (path_of node.now) (members_left members.entry))) }
 {
     for (name, value) in members {
-        push_member(alloc, node, name, NodeValue::InDocument(value), nodes)?;
+        push_member_if(
+            alloc,
+            node,
+            name,
+            NodeValue::InDocument(value),
+            wanted,
+            nodes,
+        )?;
     }
     Ok(())
 }
@@ -84,19 +136,40 @@ fn push_sorted<'v>(
     alloc: Global,
     node: &Node<'v>,
     members: &[(&'v String, &'v JsonValue)],
+    wanted: Wanted,
     nodes: &mut Vec<Node<'v>>,
 ) -> Result<(), AllocError>
     ensures { OnOk result (parts_view nodes.new.items ≡ parts_view nodes.old.items
-        ++ members_at (path_of node.now) (members_listed members.now)) }
+        ++ kept (wants wanted) (members_at (path_of node.now) (members_listed members.now))) }
 {
     for member in members {
-        push_member(
+        push_member_if(
             alloc,
             node,
             member.0.as_str(),
             NodeValue::InValue(member.1),
+            wanted,
             nodes,
         )?;
+    }
+    Ok(())
+}
+
+/// Appends a member of the node, if it is wanted.
+fn push_member_if<'v>(
+    alloc: Global,
+    node: &Node<'v>,
+    name: &'v str,
+    value: NodeValue<'v>,
+    wanted: Wanted,
+    nodes: &mut Vec<Node<'v>>,
+) -> Result<(), AllocError>
+    ensures { OnOk result (parts_view nodes.new.items ≡ parts_view nodes.old.items
+        ++ kept (wants wanted) (one_below (path_of node.now) (at_key (chars name.now))
+        (Some (tree_of value.entry)))) }
+{
+    if wants(wanted, &value) {
+        return push_member(alloc, node, name, value, nodes);
     }
     Ok(())
 }
@@ -118,13 +191,36 @@ fn push_member<'v>(
 fn push_items<'v>(
     alloc: Global,
     node: &Node<'v>,
+    wanted: Wanted,
     nodes: &mut Vec<Node<'v>>,
 ) -> Result<(), AllocError>
     ensures { OnOk result (parts_view nodes.new.items ≡ parts_view nodes.old.items
-        ++ items_from (path_of node.now) 0 (items_of (tree_of node.now.value))) }
+        ++ kept (wants wanted)
+        (items_from (path_of node.now) 0 (items_of (tree_of node.now.value)))) }
 {
     for index in 0..node.value.len() {
-        push_item(alloc, node, index, nodes)?;
+        push_item_if(alloc, node, index, wanted, nodes)?;
+    }
+    Ok(())
+}
+
+/// Appends the item at the index, if there is one and it is wanted.
+fn push_item_if<'v>(
+    alloc: Global,
+    node: &Node<'v>,
+    index: usize,
+    wanted: Wanted,
+    nodes: &mut Vec<Node<'v>>,
+) -> Result<(), AllocError>
+    ensures { OnOk result (parts_view nodes.new.items ≡ parts_view nodes.old.items
+        ++ kept (wants wanted)
+        (one_below (path_of node.now) (at_index index) (tree_at (tree_of node.now.value) index))) }
+{
+    let Some(item) = node.value.item(index) else {
+        return Ok(());
+    };
+    if wants(wanted, &item) {
+        return Ok(nodes.push(node.item(alloc, index, item)?)?);
     }
     Ok(())
 }

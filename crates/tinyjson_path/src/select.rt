@@ -16,7 +16,7 @@ ghost use Rattle.tinyjson_path.specs.Strings.{selector_strings, expression_strin
 ghost use Rattle.tinyjson_path.specs.Strings.{filter_strings};
 ghost use Rattle.tinyjson_path.specs.Waiting.{waits_view, waits_at};
 
-use crate::children::{children, push_children, push_indexed, push_named, push_slice};
+use crate::children::{children, containers, push_children, push_indexed, push_named, push_slice};
 use crate::node::Node;
 use crate::operand::{
     self, Operand, compare, literal_value, only_value, release, singular_value, start,
@@ -110,7 +110,7 @@ struct Finder<'v> {
 
 impl<'v> Finder<'v> {
     /// What the segments select, one after the other, from a value. Nodes that wait are on a stack, the next one last:
-    /// a node goes through all segments before the next one does.
+    /// a node goes through all segments before the next one does. A scalar waits for no descendants.
     #[cycle(selecting)]
     fn find_from(
         &mut self,
@@ -135,7 +135,7 @@ impl<'v> Finder<'v> {
                     self.push_selected(selectors.as_slice(), &node, segment + 1, &mut waiting)?;
                 }
                 Segment::Descendant(selectors) => {
-                    push_reversed(children(self.alloc, &node)?, segment, &mut waiting)?;
+                    push_reversed(containers(self.alloc, &node)?, segment, &mut waiting)?;
                     self.push_selected(selectors.as_slice(), &node, segment + 1, &mut waiting)?;
                 }
             }

@@ -1,21 +1,9 @@
-use Rattle.std.proofs.Common.{◌≡◌, ◌++◌, ◌∙◌, OnOk, ap, append-nil, subst, sym}
-use Rattle.tinyjson_path.specs.Nodes.{path_of, parts_view, tree_of}
-use Rattle.tinyjson_path.proofs.Comparisons.{array_children, object_children, no_children}
+use Rattle.std.proofs.Common.{◌≡◌, ◌++◌, OnOk, subst}
+use Rattle.tinyjson_path.specs.Nodes.{path_of, parts_view, children, tree_of}
+use Rattle.tinyjson_path.proofs.Wanting.{kept_all}
 use Rattle.tinyjson_path.proofs.children.push_children.Goals as goal
 
-pub returns-in-Array : goal.returns-in-Array
-returns-in-Array c =
-    subst (λ y. OnOk c.push_items.result (parts_view c.push_items.new.nodes.items ≡ parts_view c.args.nodes.now.items ++ y))
-    (array_children (path_of c.args.node.now) (tree_of c.args.node.now.value) (sym c.in-Array.is ∙ c.kind.ensures)) c.push_items.ensures
-
-pub returns-in-Object : goal.returns-in-Object
-returns-in-Object c =
-    subst (λ y. OnOk c.push_members.result (parts_view c.push_members.new.nodes.items ≡ parts_view c.args.nodes.now.items ++ y))
-    (object_children (path_of c.args.node.now) (tree_of c.args.node.now.value) (sym c.in-Object.is ∙ c.kind.ensures)) c.push_members.ensures
-
-pub returns-in_default : goal.returns-in_default
-returns-in_default c =
-    sym (append-nil (parts_view c.args.nodes.now.items))
-    ∙ ap (λ y. parts_view c.args.nodes.now.items ++ y)
-    (no_children (path_of c.args.node.now) (tree_of c.args.node.now.value)
-    (λ e. c.in_default.not-Array (c.kind.ensures ∙ sym e)) (λ e. c.in_default.not-Object (c.kind.ensures ∙ sym e)))
+pub returns : goal.returns
+returns c =
+    subst (λ y. OnOk c.push_wanted.result (parts_view c.push_wanted.new.nodes.items ≡ parts_view c.args.nodes.now.items ++ y))
+    (kept_all (children (path_of c.args.node.now) (tree_of c.args.node.now.value))) c.push_wanted.ensures

@@ -6,20 +6,21 @@ use Rattle.tinyjson_path.proofs.Errors.{is_whole, is_left, is_right, is_one, nod
 use Rattle.tinyjson_path.proofs.Errors.{same_result, part_result, finds_by, error_at}
 use Rattle.tinyjson_path.proofs.Items.{drop_past}
 use Rattle.tinyjson_path.proofs.Selected.{AreWithin, are_children, are_in}
-use Rattle.tinyjson_path.proofs.Stated.{child_strings, descendant_strings, filter_strings_are, or_strings, and_strings}
+use Rattle.tinyjson_path.proofs.Stated.{are_kept, child_strings, descendant_strings, filter_strings_are, or_strings, and_strings}
 use Rattle.tinyjson_path.proofs.Stated.{not_strings, comparison_strings, test_strings, pattern_strings, length_strings, count_strings, value_strings, segments_of_query}
 use Rattle.tinyjson_path.proofs.Waits.{waits_popped, less_child, less_descendant, less_whole, left_child, left_descendant}
 use Rattle.tinyjson_path.proofs.Waits.{goes_on, takes_one, are_popped, are_pushed, chosen_within}
 use Rattle.tinyjson_path.proofs.Within.{Within, within_self, of_query, from_same}
 use Rattle.tinyjson_path.specs.Nodes.{path_of, part_view, parts_view, children, tree_of}
-use Rattle.tinyjson_path.specs.Queries.{selected_by, found_by}
+use Rattle.tinyjson_path.specs.Queries.{selected_by, found_by, kept}
 use Rattle.tinyjson_path.specs.Seen.{operand_tree}
 use Rattle.tinyjson_path.specs.Strings.{strings_in, segment_strings, selector_strings, expression_strings, comparable_strings}
 use Rattle.tinyjson_path.specs.Strings.{segments_strings, selectors_strings, filter_strings, IsFromAny}
-use Rattle.tinyjson_path.specs.Waiting.{waits_view, waits_at}
+use Rattle.tinyjson_path.specs.Waiting.{waits_view, waits_at, wants}
+use Rattle.tinyjson_path.specs.declared.children.Wanted.TheVariants.{Containers}
 use Rattle.tinyjson_path.proofs.select.Finder.+selecting.Goals as goal
 use Rattle.tinyjson_path.proofs.select.Finder.+selecting.Goals.{find_from-in-Child+in_ok-push_selected-in-Child}
-use Rattle.tinyjson_path.proofs.select.Finder.+selecting.Goals.{find_from-in-Descendant+in_ok-children-in-Descendant+in_ok-push_reversed-in-Descendant+in_ok-push_selected-in-Descendant}
+use Rattle.tinyjson_path.proofs.select.Finder.+selecting.Goals.{find_from-in-Descendant+in_ok-containers-in-Descendant+in_ok-push_reversed-in-Descendant+in_ok-push_selected-in-Descendant}
 
 pub select_each-returns-in_err-select-clause-err : goal.select_each-returns-in_err-select-clause-err
 select_each-returns-in_err-select-clause-err t c =
@@ -243,13 +244,14 @@ find_from-loop-node-smaller t c =
           (ap (λ r. selected_by w.as_slice.result.now (tree_of r) (part_view n)) c.loop-node.invariant.root
           ∙ ap (λ xs. selected_by xs root (part_view n)) w.as_slice.ensures.value)) in
           less_child ss root i s l at sels (part_view n) ws mid new w.in-Child.is popped pushed
-      | find_from-in-Descendant+in_ok-children-in-Descendant+in_ok-push_reversed-in-Descendant+in_ok-push_selected-in-Descendant w ↦
+      | find_from-in-Descendant+in_ok-containers-in-Descendant+in_ok-push_reversed-in-Descendant+in_ok-push_selected-in-Descendant w ↦
           let sels = w.in-Descendant.selectors in
           let chosen = selected_by sels.items root (part_view n) in
           let below = children (path_of n) (tree_of n.value) in
+          let inner = kept (wants Containers) below in
           let low = waits_view w.push_reversed.new.waiting.items in
-          let lower : low ≡ mid ++ reverse (waits_at i below) = w.in_ok-push_reversed-in-Descendant.ensures
-          ∙ ap (λ z. mid ++ reverse (waits_at i z)) w.in_ok-children-in-Descendant.ensures in
+          let lower : low ≡ mid ++ reverse (waits_at i inner) = w.in_ok-push_reversed-in-Descendant.ensures
+          ∙ ap (λ z. mid ++ reverse (waits_at i z)) w.in_ok-containers-in-Descendant.ensures in
           let pushed : new ≡ low ++ reverse (waits_at (i + 1) chosen) = ap (λ v. waits_view v.items) w.waiting-is
           ∙ (w.in_ok-push_selected-in-Descendant.ensures.ok
           ∙ ap (λ z. low ++ reverse (waits_at (i + 1) z))
@@ -289,13 +291,14 @@ find_from-loop-node-preserved t c =
             within = are_pushed zs mid new (i + 1) chosen pushed here.0
                 (are_in (strings_in (tree_of n.value)) zs chosen here.1 (chosen_within sels root (part_view n)));
           }
-      | find_from-in-Descendant+in_ok-children-in-Descendant+in_ok-push_reversed-in-Descendant+in_ok-push_selected-in-Descendant w ↦
+      | find_from-in-Descendant+in_ok-containers-in-Descendant+in_ok-push_reversed-in-Descendant+in_ok-push_selected-in-Descendant w ↦
           let sels = w.in-Descendant.selectors in
           let chosen = selected_by sels.items root (part_view n) in
           let below = children (path_of n) (tree_of n.value) in
+          let inner = kept (wants Containers) below in
           let low = waits_view w.push_reversed.new.waiting.items in
-          let lower : low ≡ mid ++ reverse (waits_at i below) = w.in_ok-push_reversed-in-Descendant.ensures
-          ∙ ap (λ z. mid ++ reverse (waits_at i z)) w.in_ok-children-in-Descendant.ensures in
+          let lower : low ≡ mid ++ reverse (waits_at i inner) = w.in_ok-push_reversed-in-Descendant.ensures
+          ∙ ap (λ z. mid ++ reverse (waits_at i z)) w.in_ok-containers-in-Descendant.ensures in
           let pushed : new ≡ low ++ reverse (waits_at (i + 1) chosen) = ap (λ v. waits_view v.items) w.waiting-is
           ∙ (w.in_ok-push_selected-in-Descendant.ensures.ok
           ∙ ap (λ z. low ++ reverse (waits_at (i + 1) z))
@@ -307,8 +310,9 @@ find_from-loop-node-preserved t c =
                 (left_descendant ss root i s l at sels (part_view n) ws mid low new w.in-Descendant.is popped lower pushed)
                 c.loop-node.invariant.left;
             within = are_pushed zs low new (i + 1) chosen pushed
-                (are_pushed zs mid low i below lower here.0
-                (are_in (strings_in (tree_of n.value)) zs below here.1 (are_children (path_of n) (tree_of n.value))))
+                (are_pushed zs mid low i inner lower here.0
+                (are_kept zs (wants Containers) below
+                (are_in (strings_in (tree_of n.value)) zs below here.1 (are_children (path_of n) (tree_of n.value)))))
                 (are_in (strings_in (tree_of n.value)) zs chosen here.1 (chosen_within sels root (part_view n)));
           }
     ]
