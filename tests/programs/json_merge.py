@@ -1,5 +1,6 @@
 """Rows of `json_merge`: a text with a merge patch applied (RFC 7396)."""
 
+import json
 import os
 
 from faults import BROKEN, FOLDER, FULL, NO_TEXT, Faults
@@ -8,7 +9,7 @@ from padding import padded_merge, padded_rows
 from pages import Page, misused
 from places import TOP
 from running import printed, program, reported, run_of
-from values import DEEP as DEEP_VALUE, LONG, NESTED, NOT_UTF8
+from values import DEEP, LONG, NESTED, NOT_UTF8, normal
 
 FAULTS = Faults("json_merge")
 
@@ -49,17 +50,24 @@ MERGED += [
     ('{"":1}', '{"":{"":null}}', '{"":{}}'),
 ]
 
-# How many containers of a patch may be open, and the patch with so many of them.
-DEPTH = 1_000
-DEEP = b'{"a":' * DEPTH + b"null" + b"}" * DEPTH
+
+def nested(depth, inner):
+    """This many objects, each in the member `a` of the one around it, and the text that is innermost."""
+    return b'{"a":' * depth + inner + b"}" * depth
+
+
+# How many containers are nested in a patch, and in a deep one.
+DEPTH, DEEPEST = 1_000, 300_000
 
 # The value, the patch, and the answer.
 LONG_MERGES = [
     (NESTED, b"{}", printed(b"{}")),
     (NESTED, b"1.0", printed(b"1")),
     (b'{"a":%s,"b":%s,"c":{"d":%s}}' % ((NESTED,) * 3), b'{"a":null,"c":{"d":0}}', printed(b'{"b":%s,"c":{"d":0}}' % NESTED)),
-    (b"[]", DEEP, printed(b'{"a":' * (DEPTH - 1) + b"{}" + b"}" * (DEPTH - 1))),
-    (b"[]", b'{"a":%s}' % DEEP, reported(2, "json_merge", "the patch: Parse error at line:1, col:5000: Nesting is too deep at '{'")),
+    (b"[]", nested(DEPTH, b"null"), printed(nested(DEPTH - 1, b"{}"))),
+    (b"[]", nested(DEEPEST, b"null"), printed(nested(DEEPEST - 1, b"{}"))),
+    (nested(DEEPEST, b"1"), nested(DEEPEST, b"[null]"), printed(nested(DEEPEST, b"[null]"))),
+    (b"{}", nested(DEEPEST, b"1]"), reported(2, "json_merge", "the patch: Parse error at line:1, col:1500001: ',' or '}' is expected for object but actually found ']'")),
     (b'{"a":1}', b'{"b":%s}' % LONG, printed(b'{"a":1,"b":%s}' % LONG)),
     (b'{"a":%s}' % LONG, b'{"b":1}', printed(b'{"a":%s,"b":1}' % LONG)),
     # The patch is read first.
@@ -70,7 +78,7 @@ LONG_MERGES = [
 ]
 
 # How many rows are not padded, and why.
-UNPADDED = {"a large text": 6}
+UNPADDED = {"a large text": 8}
 
 # The arguments, the input, and the answer.
 ROWS = [
@@ -108,7 +116,7 @@ DEEP_FAILURES = [
     ([PATCH], NESTED + b"x", reported(3, "json_merge", "Parse error at line:1, col:200001: Expected EOF but got character 'x'")),
     ([PATCH], b'{"a":%s,"author":{"b":%s}}' % (NESTED, NESTED), (4, FULL)),
 ]
-DEEP_MEMORY = [([PATCH], b'{"title":%s,"author":{"familyName":%s,"b":%s},"c":%s}' % ((DEEP_VALUE,) * 4))]
+DEEP_MEMORY = [([PATCH], b'{"title":%s,"author":{"familyName":%s,"b":%s},"c":%s}' % ((DEEP,) * 4))]
 
 
 def merged(folder, patch, given):
@@ -206,7 +214,10 @@ def check_faults(checks):
 def check_deep(checks):
     lines = NESTED + b"x\n1\n" + NESTED
     answer = told(b"{%s}\n" % ADDED * 2, b"1, col 200001: Expected EOF but got character 'x'")
-    FAULTS.deep(checks, [*DEEP_FAILURES, (["-l", PATCH], lines, answer)])
+    with open(PATCH, "rb") as file:
+        kept = normal(json.loads(file.read()))
+    added = printed(b'{"a":%s,%s' % (nested(DEEPEST - 2, b"{}"), kept[1:]))
+    FAULTS.deep(checks, [*DEEP_FAILURES, (["-l", PATCH], lines, answer), (["-", PATCH], nested(DEEPEST, b"null"), added)])
     FAULTS.refusing_deep(checks, DEEP_MEMORY)
 
 

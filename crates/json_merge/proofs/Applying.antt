@@ -1,5 +1,7 @@
 -- What is printed of a value is what is printed of its text.
 use Rattle.std.proofs.Common.{◌≡◌, ℕ, Bool, List, [], Option, None, Some, Result, Ok, Err, inl, inr, ⊎_elim, ap}
+use Rattle.std.proofs.lemmas.Bool.{false≢true}
+use Rattle.std.specs.Result.{IsErr}
 use Rattle.std.specs.declared.io.Error.{Error}
 use Rattle.tinyjson.proofs.Callers.{Appends_written}
 use Rattle.tinyjson.specs.Grammar.{IsText}
@@ -16,8 +18,10 @@ module _ (i : Bool) (ps : List Tree) (t : Tree) (old new : Option (List ℕ)) wh
     pub line_written : Written old new (laid_out i u) [] → Answers (GivesMergedOf i ps t) old new (Ok None)
     line_written w = (laid_out i u, ap (laid_out i) is, Appends_written old new _ w)
 
-    pub line_begun : (e : Error) → WrittenPart old new (laid_out i u) → Answers (GivesMergedOf i ps t) old new (Err e)
-    line_begun e w = inr (laid_out i u, ap (laid_out i) is, w)
+    pub line_begun : (r : Result (Option NoAnswer) Error) → IsErr r → WrittenPart old new (laid_out i u)
+        → Answers (GivesMergedOf i ps t) old new r
+    line_begun (Ok x) j w = absurd (false≢true j)
+    line_begun (Err e) j w = inr (laid_out i u, ap (laid_out i) is, w)
 
   pub of_text : (text : List ℕ) (r : Result (Option NoAnswer) Error) → IsText None text t → Answers (GivesMergedOf i ps t) old new r
       → Answers (GivesMerged i ps text) old new r

@@ -1,20 +1,16 @@
 -- A patch that is read.
-use Rattle.std.specs.Prelude.{◌≡◌, ℕ, List, ◌++◌, Option, Some, Result, Ok, Err, ◌⊎◌, codes}
+use Rattle.std.specs.Prelude.{◌≡◌, ℕ, List, ◌++◌, None, Some, Result, Ok, Err, ◌⊎◌, codes}
 use Rattle.tinyjson.specs.Error.{error_kind, error_message}
+use Rattle.tinyjson.specs.Events.{TellsText}
 use Rattle.tinyjson.specs.Grammar.{IsText}
 use Rattle.tinyjson.specs.JsonParseErrorKind.TheVariants as kind
-use Rattle.tinyjson.specs.Parser.{ParsesText}
-use Rattle.tinyjson.specs.View.{view}
 use Rattle.tinyjson.specs.declared.parser.error.JsonParseError.{JsonParseError}
-use Rattle.tinyjson.specs.declared.value.JsonValue.{JsonValue}
 use Rattle.tinyjson_cli.specs.Failures.{failure_message, failure_status}
 use Rattle.tinyjson_cli.specs.declared.failure.Failure.{Failure}
 use Rattle.tinyjson_cli.specs.declared.failure.Failure.TheVariants as failure
 use Rattle.tinyjson_cli.specs.declared.status.Status.TheVariants as status
-
--- how many containers may be nested in a patch
-abbrev pub patch_depth : Option ℕ
-patch_depth = Some 1000
+use Rattle.tinyjson_document.specs.Document.{HasTree, document_tree}
+use Rattle.tinyjson_document.specs.declared.document.Document.{Document}
 
 -- The failure has the parser's message, or memory ran out.
 abbrev pub IsPatchFailure : JsonParseError → Failure → Type 0
@@ -24,6 +20,6 @@ IsPatchFailure e f =
     ⊎ (f ≡ failure.OutOfMemory)
 
 -- The patch of the text, or the failure for the parser's error.
-abbrev pub ReadsMergePatch : List ℕ → Result JsonValue Failure → Type 0
-ReadsMergePatch text (Ok p) = IsText patch_depth text (view p)
-ReadsMergePatch text (Err f) = (e : JsonParseError) × ParsesText patch_depth text (Err e) × IsPatchFailure e f
+abbrev pub ReadsMergePatch : List ℕ → Result Document Failure → Type 0
+ReadsMergePatch text (Ok p) = IsText None text (document_tree p)
+ReadsMergePatch text (Err f) = (e : JsonParseError) × TellsText HasTree None text (Err e) × IsPatchFailure e f

@@ -1,21 +1,23 @@
 //! Applies merge patches to texts.
 ghost use Rattle.std.specs.Prelude.{◌≡◌, IfOk, map};
-ghost use Rattle.tinyjson.specs.View.{view};
+ghost use Rattle.tinyjson.specs.Written.{WritesPrefix};
+ghost use Rattle.tinyjson_cli.specs.Layout.{laid_out};
 ghost use Rattle.tinyjson_cli.specs.Texts.{Answers};
+ghost use Rattle.tinyjson_document.specs.Document.{document_tree, tree};
 ghost use Rattle.json_merge.specs.Apply.{GivesMerged, GivesMergedOf, all_merged};
 
 use std::alloc::{AllocError, Global};
 use std::io::{self, Write};
-use tinyjson::JsonValue;
-use tinyjson_cli::{NoAnswer, TextAnswer, write_laid_out};
+use tinyjson_cli::{NoAnswer, TextAnswer};
+use tinyjson_document::{Document, Node};
 use tinyjson_lines::Cause;
-use tinyjson_patch::merge;
+use tinyjson_patch::merge_documents;
 
 /// What is asked of each text: its value with some patches applied (RFC 7396), each to the result of the one before.
 #[derive(Clone, Copy)]
 pub struct Asked<'a> {
     /// The patches, in order.
-    pub patches: &'a [JsonValue],
+    pub patches: &'a [Document],
     /// Whether the text of the result is indented with two spaces.
     pub is_indented: bool,
 }
@@ -24,7 +26,7 @@ pub struct Asked<'a> {
 /// asked.answer_text(alloc, r#"{"a":1,"b":2}"#, &mut output)?; // by {"a":null}: writes {"b":2} and a line feed
 /// ```
 impl TextAnswer for Asked<'_> {
-    ghost gives = { λ a text f. GivesMerged a.is_indented (map view a.patches.now) text f };
+    ghost gives = { λ a text f. GivesMerged a.is_indented (map document_tree a.patches.now) text f };
 
     fn answer_text<W: Write>(
         &self,
@@ -32,8 +34,8 @@ impl TextAnswer for Asked<'_> {
         text: &str,
         output: &mut W,
     ) -> io::Result<Option<NoAnswer>> {
-        match JsonValue::from_str(alloc, text) {
-            Ok(value) => answer_value(alloc, *self, value, output),
+        match Document::read(alloc, text) {
+            Ok(document) => answer_document(alloc, *self, document, output),
             Err(error) => {
                 if error.is_out_of_memory() {
                     return Err(error.into());
@@ -44,36 +46,50 @@ impl TextAnswer for Asked<'_> {
     }
 }
 
-/// Writes the text of a value with the patches applied.
-fn answer_value<W: Write>(
+/// Writes the text of a document with the patches applied.
+fn answer_document<W: Write>(
     alloc: Global,
     asked: Asked<'_>,
-    value: JsonValue,
+    document: Document,
     output: &mut W,
 ) -> io::Result<Option<NoAnswer>>
-    ensures { Answers (GivesMergedOf asked.entry.is_indented (map view asked.entry.patches.now)
-        (view value)) (W.contents output.old) (W.contents output.new) result }
+    ensures { Answers (GivesMergedOf asked.entry.is_indented
+        (map document_tree asked.entry.patches.now) (document_tree document))
+        (W.contents output.old) (W.contents output.new) result }
 {
-    let merged = merge_all(alloc, value, asked.patches)?;
-    let written = write_laid_out(alloc, &merged, asked.is_indented, output);
-    merged.dismantle();
-    match written {
-        Ok(()) => Ok(None),
-        Err(error) => Err(error),
-    }
+    let merged = merge_all(alloc, document, asked.patches)?;
+    write_text(alloc, merged.root(), asked.is_indented, output)?;
+    Ok(None)
 }
 
-/// The value with the patches applied, in order. The only error is out of memory.
+/// The document with the patches applied, in order. The only error is out of memory.
 fn merge_all(
     alloc: Global,
-    value: JsonValue,
-    patches: &[JsonValue],
-) -> Result<JsonValue, AllocError>
-    ensures { IfOk result (λ v. view v ≡ all_merged (view value) (map view patches.now)) }
+    document: Document,
+    patches: &[Document],
+) -> Result<Document, AllocError>
+    ensures { IfOk result (λ d. document_tree d
+        ≡ all_merged (document_tree document) (map document_tree patches.now)) }
 {
-    let mut merged = value;
+    let mut merged = document;
     for patch in patches {
-        merged = merge(merged, patch, alloc)?;
+        merged = merge_documents(alloc, merged.root(), patch.root())?;
     }
     Ok(merged)
+}
+
+/// Writes the text of the merged value, compact or indented, and a line feed.
+fn write_text<W: Write>(
+    alloc: Global,
+    merged: Node<'_>,
+    is_indented: bool,
+    output: &mut W,
+) -> io::Result<()>
+    ensures { WritesPrefix (W.contents output.old) (W.contents output.new)
+        (laid_out is_indented (tree merged.entry)) result }
+{
+    if is_indented {
+        return merged.format_line_to(alloc, output);
+    }
+    merged.write_line_to(alloc, output)
 }

@@ -41,8 +41,8 @@ Options:
 Exit status:
   0  each result was printed
   1  with -l: a line is refused
-  2  the arguments are not understood, or PATCH can't be read,
-     is no JSON text, or has more than 1,000 nested containers
+  2  the arguments are not understood, or PATCH can't be read
+     or is no JSON text
   3  an input is no JSON text, or not UTF-8
   4  memory ran out, or a read or a write failed
 

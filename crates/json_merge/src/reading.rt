@@ -1,16 +1,14 @@
 //! The patches that the arguments name.
 ghost use Rattle.std.specs.Str.{chars};
-ghost use Rattle.json_merge.specs.Reading.{IsPatchFailure, ReadsMergePatch, patch_depth};
+ghost use Rattle.json_merge.specs.Reading.{IsPatchFailure, ReadsMergePatch};
 
 use std::alloc::Global;
-use tinyjson::{JsonParseError, JsonValue};
+use tinyjson::JsonParseError;
 use tinyjson_cli::{Failure, read_named};
-
-/// How many containers may be nested in a patch: merging and freeing it take stack with its nesting.
-const PATCH_DEPTH: usize = 1_000;
+use tinyjson_document::Document;
 
 /// The patches of these files, in order.
-pub fn read_patches(rt: &HostRuntime, files: &[&str]) -> Result<Vec<JsonValue>, Failure> {
+pub fn read_patches(rt: &HostRuntime, files: &[&str]) -> Result<Vec<Document>, Failure> {
     let mut patches = Vec::new(rt.alloc());
     for file in files {
         let text = read_named(rt, file)?;
@@ -22,11 +20,11 @@ pub fn read_patches(rt: &HostRuntime, files: &[&str]) -> Result<Vec<JsonValue>, 
     Ok(patches)
 }
 
-/// The patch of a text, of at most 1,000 nested containers.
-fn read_patch(alloc: Global, text: &str) -> Result<JsonValue, Failure>
+/// The patch of a text.
+fn read_patch(alloc: Global, text: &str) -> Result<Document, Failure>
     ensures { ReadsMergePatch (chars text.now) result }
 {
-    match JsonValue::from_str_with_depth_limit(alloc, text, PATCH_DEPTH) {
+    match Document::read(alloc, text) {
         Ok(patch) => Ok(patch),
         Err(error) => Err(patch_failure(alloc, error)),
     }
