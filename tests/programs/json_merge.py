@@ -67,7 +67,7 @@ LONG_MERGES = [
     (b"[]", nested(DEPTH, b"null"), printed(nested(DEPTH - 1, b"{}"))),
     (b"[]", nested(DEEPEST, b"null"), printed(nested(DEEPEST - 1, b"{}"))),
     (nested(DEEPEST, b"1"), nested(DEEPEST, b"[null]"), printed(nested(DEEPEST, b"[null]"))),
-    (b"{}", nested(DEEPEST, b"1]"), reported(2, "json_merge", "the patch: Parse error at line:1, col:1500001: ',' or '}' is expected for object but actually found ']'")),
+    (b"{}", nested(DEEPEST, b"1]"), reported(2, "json_merge", "the patch: Parse error at line:1, col:1500002: ',' or '}' is expected for object but actually found ']'")),
     (b'{"a":1}', b'{"b":%s}' % LONG, printed(b'{"a":1,"b":%s}' % LONG)),
     (b'{"a":%s}' % LONG, b'{"b":1}', printed(b'{"a":%s,"b":1}' % LONG)),
     # The patch is read first.
