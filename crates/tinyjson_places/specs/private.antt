@@ -1,0 +1,3 @@
+-- What only private contracts cite.
+pub mod Parts
+pub mod Scan
