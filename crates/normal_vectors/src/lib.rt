@@ -11,6 +11,8 @@ mod examples;
 #[cfg(test)]
 mod merging;
 #[cfg(test)]
+mod places;
+#[cfg(test)]
 mod reading;
 #[cfg(test)]
 mod writers;
