@@ -1,6 +1,12 @@
 mod Changing
+mod Documents
 mod Ends
+mod Items
+mod Leading
+mod Members
 mod Objects
+mod Promised
 mod Removing
+mod Steps
 mod Unreached
 mod Values

@@ -1,2 +1,5 @@
 pub mod Changes
+pub mod Documents
 pub mod Merging
+pub mod Patching
+pub mod Steps
