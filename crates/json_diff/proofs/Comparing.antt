@@ -1,5 +1,5 @@
 -- What is printed of a value is what is printed of its text.
-use Rattle.std.proofs.Common.{◌≡◌, ℕ, Bool, List, [], Option, None, Some, Result, Ok, Err, inl, inr, ⊎_elim, refl}
+use Rattle.std.proofs.Common.{◌≡◌, ℕ, Bool, true, false, List, [], Option, None, Some, Result, Ok, Err, inl, inr, ⊎_elim, refl}
 use Rattle.std.proofs.lemmas.Bool.{false≢true}
 use Rattle.std.specs.Result.{IsErr}
 use Rattle.std.specs.declared.io.Error.{Error}
@@ -12,22 +12,33 @@ use Rattle.tinyjson_cli.specs.Texts.{Answers}
 use Rattle.tinyjson_cli.specs.declared.texts.NoAnswer.{NoAnswer}
 use Rattle.tinyjson_cli.specs.declared.texts.NoAnswer.TheVariants.{Refused, No}
 use Rattle.tinyjson_diff.specs.Merging.{Leads, HasChangesAlone}
-use Rattle.json_diff.specs.Compare.{GivesPatch, GivesPatchOf}
+use Rattle.tinyjson_diff.specs.Patching.{IsPatchBetween}
+use Rattle.json_diff.specs.Compare.{GivesMergePatch, GivesPatch, GivesPatchOf, GivesPatchTo}
 use Rattle.json_diff.specs.Reading.{text_depth}
 
 module _ (i : Bool) (t u : Tree) (old new : Option (List ℕ)) where
   module _ (p : Tree) (is : Leads t u p × HasChangesAlone t u p) where
-    pub patch_written : Written old new (laid_out i p) [] → Answers (GivesPatchOf i t u) old new (Ok None)
-    patch_written w = (laid_out i p, (p, is.0, is.1, refl), Appends_written old new _ w)
+    pub merge_written : Written old new (laid_out i p) [] → Answers (GivesMergePatch i t u) old new (Ok None)
+    merge_written w = (laid_out i p, (p, is.0, is.1, refl), Appends_written old new _ w)
+
+    pub merge_begun : (r : Result (Option NoAnswer) Error) → IsErr r → WrittenPart old new (laid_out i p)
+        → Answers (GivesMergePatch i t u) old new r
+    merge_begun (Ok x) j w = absurd (false≢true j)
+    merge_begun (Err e) j w = inr (laid_out i p, (p, is.0, is.1, refl), w)
+
+  module _ (p : Tree) (is : IsPatchBetween t u p) where
+    pub patch_written : Written old new (laid_out i p) [] → Answers (GivesPatch i t u) old new (Ok None)
+    patch_written w = (laid_out i p, (p, is, refl), Appends_written old new _ w)
 
     pub patch_begun : (r : Result (Option NoAnswer) Error) → IsErr r → WrittenPart old new (laid_out i p)
-        → Answers (GivesPatchOf i t u) old new r
+        → Answers (GivesPatch i t u) old new r
     patch_begun (Ok x) j w = absurd (false≢true j)
-    patch_begun (Err e) j w = inr (laid_out i p, (p, is.0, is.1, refl), w)
+    patch_begun (Err e) j w = inr (laid_out i p, (p, is, refl), w)
 
-  pub of_text : (text : List ℕ) (r : Result (Option NoAnswer) Error) → IsText text_depth text u
-      → Answers (GivesPatchOf i t u) old new r → Answers (GivesPatch i t text) old new r
-  of_text text (Ok None) s w = (w.0, (u, s, w.1), w.2)
-  of_text text (Ok (Some (Refused c))) s w = absurd w.0
-  of_text text (Ok (Some (No x))) s w = ((u, s, w.0), w.1)
-  of_text text (Err e) s w = ⊎_elim (λ k. inl k) (λ k. inr (k.0, (u, s, k.1), k.2)) w
+  pub of_text : (m : Bool) (text : List ℕ) (r : Result (Option NoAnswer) Error) → IsText text_depth text u
+      → Answers (GivesPatchOf m i t u) old new r → Answers (GivesPatchTo m i t text) old new r
+  of_text m text (Ok None) s w = (w.0, (u, s, w.1), w.2)
+  of_text true text (Ok (Some (Refused c))) s w = absurd w.0
+  of_text false text (Ok (Some (Refused c))) s w = absurd w.0
+  of_text m text (Ok (Some (No x))) s w = ((u, s, w.0), w.1)
+  of_text m text (Err e) s w = ⊎_elim (λ k. inl k) (λ k. inr (k.0, (u, s, k.1), k.2)) w

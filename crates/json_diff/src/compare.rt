@@ -3,31 +3,34 @@ ghost use Rattle.std.specs.Prelude.{◌≡◌, IfOk, string_bytes};
 ghost use Rattle.tinyjson.specs.View.{view};
 ghost use Rattle.tinyjson_cli.specs.Texts.{Answers};
 ghost use Rattle.tinyjson_pointer.specs.Tokens.{tokens_of};
-ghost use Rattle.json_diff.specs.Compare.{GivesPatch, GivesPatchOf, no_patch_message};
+ghost use Rattle.json_diff.specs.Compare.{GivesMergePatch, GivesPatchOf, GivesPatchTo};
+ghost use Rattle.json_diff.specs.Compare.{no_patch_message};
 
 use crate::reading::TEXT_DEPTH;
 use std::alloc::{AllocError, Global};
 use std::io::{self, ErrorKind, Write};
 use tinyjson::JsonValue;
 use tinyjson_cli::{NoAnswer, Shown, TextAnswer, write_laid_out};
-use tinyjson_diff::{NoMergePatch, merge_diff};
+use tinyjson_diff::{NoMergePatch, merge_diff, patch_diff};
 use tinyjson_lines::Cause;
 use tinyjson_pointer::Pointer;
 
-/// What is asked of each text: the merge patch (RFC 7396) that leads to it from an old one.
+/// What is asked of each text: the patch that leads to it from an old one.
 #[derive(Clone, Copy)]
 pub struct Asked<'a> {
     /// The value of the old text.
     pub old: &'a JsonValue,
-    /// Whether the text of the patch is indented with two spaces.
+    /// Whether the patch is a merge patch (RFC 7396), or else a JSON Patch (RFC 6902).
+    pub is_merge: bool,
+    /// Whether its text is indented with two spaces.
     pub is_indented: bool,
 }
 
 /// ```
-/// asked.answer_text(alloc, r#"{"b":2}"#, &mut output)?; // from {"a":1}: writes {"a":null,"b":2} and a line feed
+/// asked.answer_text(alloc, r#"{"b":2}"#, &mut output)?; // of a merge patch from {"a":1}: writes {"a":null,"b":2} and a line feed
 /// ```
 impl TextAnswer for Asked<'_> {
-    ghost gives = { λ a text f. GivesPatch a.is_indented (view a.old.now) text f };
+    ghost gives = { λ a text f. GivesPatchTo a.is_merge a.is_indented (view a.old.now) text f };
 
     fn answer_text<W: Write>(
         &self,
@@ -54,7 +57,26 @@ fn answer_value<W: Write>(
     new: &JsonValue,
     output: &mut W,
 ) -> io::Result<Option<NoAnswer>>
-    ensures { Answers (GivesPatchOf asked.entry.is_indented (view asked.entry.old.now)
+    ensures { Answers (GivesPatchOf asked.entry.is_merge asked.entry.is_indented
+        (view asked.entry.old.now) (view new.now))
+        (W.contents output.old) (W.contents output.new) result }
+{
+    if asked.is_merge {
+        return answer_merge(alloc, asked, new, output);
+    }
+    let patch = patch_diff(alloc, asked.old, new)?;
+    write_laid_out(alloc, &patch, asked.is_indented, output)?;
+    Ok(None)
+}
+
+/// Writes the text of the merge patch that leads to a value.
+fn answer_merge<W: Write>(
+    alloc: Global,
+    asked: Asked<'_>,
+    new: &JsonValue,
+    output: &mut W,
+) -> io::Result<Option<NoAnswer>>
+    ensures { Answers (GivesMergePatch asked.entry.is_indented (view asked.entry.old.now)
         (view new.now)) (W.contents output.old) (W.contents output.new) result }
 {
     match merge_diff(alloc, asked.old, new) {

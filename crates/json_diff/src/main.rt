@@ -1,5 +1,5 @@
-//! Prints the JSON Merge Patch (RFC 7396) that leads from one JSON text to another. Its help page lists the
-//! arguments and the statuses.
+//! Prints the JSON Patch (RFC 6902) or the JSON Merge Patch (RFC 7396) that leads from one JSON text to another. Its
+//! help page lists the arguments and the statuses.
 #![tactic(auto)]
 
 mod compare;
@@ -19,18 +19,18 @@ const PROGRAM: Program<'static> = Program {
     name: "json_diff",
     options: &[MERGE, INDENT, HELP, VERSION],
     help: "\
-Usage: json_diff -m [-i] OLD [NEW..]
+Usage: json_diff [-mi] OLD [NEW..]
 
-Prints a JSON Merge Patch (RFC 7396) that leads from one JSON text to another:
-json_merge applies it to the old text, and prints the new one. It has no more
-than what differs.
+Prints a JSON Patch (RFC 6902) that leads from one JSON text to another, or with
+-m a JSON Merge Patch (RFC 7396). json_patch or json_merge applies it to the old
+text, and prints the new one. It has no more than what differs.
 
 OLD is the name of a file. The new texts are those of the files, or standard
 input where none is named; '-' is standard input, too. Options may come anywhere;
 after '--' all are operands.
 
 Options:
-  -m, --merge    print a merge patch; this option is needed
+  -m, --merge    print a merge patch
   -i, --indent   indent by two spaces
   -h, --help     print this page
   -V, --version  print the version
@@ -46,10 +46,11 @@ Exit status:
 
 Examples:
   $ echo '{\"a\": 1, \"b\": {\"c\": 2, \"d\": 3}}' > old.json
-  $ echo '{\"b\": {\"c\": 2, \"d\": 4}}' | json_diff -m old.json
+  $ echo '{\"b\": {\"c\": 2, \"d\": 4}}' > new.json
+  $ json_diff old.json new.json
+  [{\"op\":\"remove\",\"path\":\"/a\"},{\"op\":\"replace\",\"path\":\"/b/d\",\"value\":4}]
+  $ json_diff -m old.json new.json
   {\"a\":null,\"b\":{\"d\":4}}
-  $ json_diff -m old.json old.json
-  {}
 ",
 };
 
@@ -61,11 +62,9 @@ fn main(rt: HostRuntime) -> ExitCode {
 fn run(rt: &HostRuntime) -> Result<Status, Status> {
     let words = argument_words(rt, PROGRAM)?;
     let arguments = arguments_of(rt, PROGRAM, words.as_slice())?;
-    if !arguments.has(b'm') {
-        return Err(misused(rt, PROGRAM, Misuse::Missing("-m")));
-    }
     let Some(
         Request {
+            is_merge,
             is_indented,
             old,
             files,
@@ -82,6 +81,7 @@ fn run(rt: &HostRuntime) -> Result<Status, Status> {
         Ok(old) => {
             let asked = Asked {
                 old: &old,
+                is_merge,
                 is_indented,
             };
             Ok(answer_texts(rt, PROGRAM, texts, files, asked))

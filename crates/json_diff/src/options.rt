@@ -15,7 +15,9 @@ pub const MERGE: Known<'static> = Known {
 /// The old text, and the files with the new ones.
 #[derive(Drop)]
 pub struct Request<'w, 'a> {
-    /// Whether the patches are indented.
+    /// Whether the patches are merge patches.
+    pub is_merge: bool,
+    /// Whether they are indented.
     pub is_indented: bool,
     /// The file of the old text.
     pub old: &'w str,
@@ -23,14 +25,17 @@ pub struct Request<'w, 'a> {
     pub files: &'a [&'w str],
 }
 
-/// Parses the arguments: `-m [-i] OLD [NEW..]`.
+/// Parses the arguments: `[-mi] OLD [NEW..]`.
 pub fn requested<'w, 'a>(arguments: &'a Arguments<'w>) -> Option<Request<'w, 'a>>
-    ensures { option_map (λ r. (r.is_indented, (r.old.now, map (λ f. f.now) r.files.now))) result
+    ensures { option_map
+        (λ r. (r.is_merge, (r.is_indented, (r.old.now, map (λ f. f.now) r.files.now)))) result
         ≡ asks (given_of arguments.now) }
 {
+    let is_merge = arguments.has(b'm');
     let is_indented = arguments.has(b'i');
     let (old, files) = arguments.first()?;
     Some(Request {
+        is_merge,
         is_indented,
         old,
         files,
