@@ -133,7 +133,7 @@ static uint32_t call_pair(const struct pair *pair, uint8_t *buffer, size_t room,
 }
 
 static bool answers_pair(const struct pair *pair) {
-    bool is_written = pair->status == TINYJSON_OK;
+    bool is_written = pair->status == TINYJSON_OK || pair->status == TINYJSON_INVALID || pair->status == TINYJSON_SCHEMA_FAULT;
     for (size_t room = 0; room <= pair->written.length + 1; room++) {
         if (!is_tried(room, pair->written.length)) {
             continue;
@@ -152,11 +152,12 @@ static bool answers_pair(const struct pair *pair) {
     return true;
 }
 
-/* With each allocation refused in turn the answer of the pair is the same, or that memory ran out. */
+/* With an allocation refused the answer of the pair is the same, or that memory ran out. Each of the first 64 is refused, and
+ * then ever fewer, since a schema's patterns may take thousands. */
 static bool survives_pair(const struct pair *pair) {
     uint8_t *buffer = guarded(pair->written.length);
     bool is_right = true, was_refused = true;
-    for (long number = 0; was_refused; number++) {
+    for (long number = 0; was_refused; number += 1 + number / 64) {
         struct tinyjson_place place;
         granted = number;
         uint32_t status = call_pair(pair, buffer, pair->written.length, &place);
@@ -376,7 +377,8 @@ static struct tinyjson_place place_of(char **fields) {
 
 static uint32_t status_of(const char *name) {
     static const char *const names[] = {"OK", "REFUSED", "NOT_UTF8", "OUT_OF_MEMORY", "TOO_SMALL", "NO_ERROR",
-                                        "NOT_FOUND", "BAD_POINTER", "BAD_PATCH", "FAILED", "BAD_QUERY", "PATTERN_LIMIT"};
+                                        "NOT_FOUND", "BAD_POINTER", "BAD_PATCH", "FAILED", "BAD_QUERY", "PATTERN_LIMIT", "INVALID",
+                                        "BAD_SCHEMA", "SCHEMA_FAULT", "STEP_LIMIT"};
     uint32_t status = 0;
     while (strcmp(names[status], name) != 0) {
         status++;
@@ -390,7 +392,8 @@ static writes_of_two *call_of(const char *name) {
         writes_of_two *call;
     } calls[] = {{"part", tinyjson_part}, {"merge", tinyjson_merge}, {"patch", tinyjson_patch},
                  {"select", tinyjson_select}, {"select_paths", tinyjson_select_paths},
-                 {"select_lines", tinyjson_select_lines}, {"select_lines_paths", tinyjson_select_lines_paths}};
+                 {"select_lines", tinyjson_select_lines}, {"select_lines_paths", tinyjson_select_lines_paths},
+                 {"valid", tinyjson_valid}, {"valid_lines", tinyjson_valid_lines}};
     size_t i = 0;
     while (strcmp(calls[i].name, name) != 0) {
         i++;

@@ -1,4 +1,4 @@
-/* tinyjson for C: JSON texts (RFC 8259) are checked, normalized, indented, compared, patched and searched.
+/* tinyjson for C: JSON texts (RFC 8259) are checked, also by a schema, normalized, indented, compared, patched and searched.
  *
  * A text is `length` bytes in UTF-8, in which at most `depth` containers are open at once. A call returns a
  * status, and answers through its pointers. It keeps nothing, and shares nothing with other calls.
@@ -30,7 +30,11 @@ enum tinyjson_status {
     TINYJSON_BAD_PATCH = 8,     /* the patch is no array of operations: the place has the number of the fault */
     TINYJSON_FAILED = 9,        /* an operation can't be applied: the place has its number */
     TINYJSON_BAD_QUERY = 10,    /* the query is none: the place has how many of its characters precede the fault */
-    TINYJSON_PATTERN_LIMIT = 11 /* a regular expression of the query or the text is too deep or too large */
+    TINYJSON_PATTERN_LIMIT = 11, /* a regular expression of the query or the text is too deep or too large */
+    TINYJSON_INVALID = 12,      /* the value is not valid: the buffer has the report */
+    TINYJSON_BAD_SCHEMA = 13,   /* the schema has no value: the place is that of its error, and `text` is 1 */
+    TINYJSON_SCHEMA_FAULT = 14, /* the schema can't be applied: the buffer has a JSON pointer to the fault */
+    TINYJSON_STEP_LIMIT = 15    /* the check needs more than 200 nested schemas, or too many steps */
 };
 
 /* Why a text is refused. Those with a character name it in `found`. */
@@ -129,6 +133,19 @@ uint32_t tinyjson_select_lines(const uint8_t *text, size_t length, const uint8_t
                                uint8_t *buffer, size_t room, struct tinyjson_place *place);
 uint32_t tinyjson_select_lines_paths(const uint8_t *text, size_t length, const uint8_t *query, size_t query_length,
                                      size_t depth, uint8_t *buffer, size_t room, struct tinyjson_place *place);
+
+/* Checks a text by a schema: JSON Schema 2020-12, or the draft that its `$schema` names. The status is OK for a value that
+ * is valid, or INVALID: then the buffer has the report, an object with `error`, the words, `instanceLocation`, a JSON
+ * pointer to the part that is not valid, and `keywordLocation`, one to the keyword. Both texts may be no deeper than 100
+ * containers, whatever the limit. The schema is read first. */
+uint32_t tinyjson_valid(const uint8_t *text, size_t length, const uint8_t *schema, size_t schema_length, size_t depth,
+                        uint8_t *buffer, size_t room, struct tinyjson_place *place);
+
+/* Checks each line. The buffer has the report of each that is not valid, with its number, from 1 on, at `line`, and a line
+ * feed. The last line may lack its line feed. A line without a value, or above the limits, stops the call: `text` is its
+ * number, from 0 on. */
+uint32_t tinyjson_valid_lines(const uint8_t *text, size_t length, const uint8_t *schema, size_t schema_length, size_t depth,
+                              uint8_t *buffer, size_t room, struct tinyjson_place *place);
 
 /* The message of the error at a place, into the buffer, and its length. */
 uint32_t tinyjson_message(const struct tinyjson_place *place, uint8_t *buffer, size_t room, size_t *length);

@@ -115,6 +115,9 @@ RAISED = {
     "FAILED": (tinyjson.Failed, {"operation": 4}),
     "BAD_QUERY": (tinyjson.BadQuery, {"place": 4}),
     "PATTERN_LIMIT": (tinyjson.PatternLimit, {"text": 5}),
+    "STEP_LIMIT": (tinyjson.StepLimit, {"text": 5}),
+    "BAD_SCHEMA": (tinyjson.BadSchema, {}),
+    "SCHEMA_FAULT": (tinyjson.SchemaFault, {}),
 }
 
 
@@ -130,7 +133,7 @@ def lists(written, feed):
 class Pairs(unittest.TestCase):
     def answers(self, call, one, other, depth, written):
         words = None if written is None else written.decode()
-        if call in (tinyjson.select, tinyjson.select_paths):
+        if call in (tinyjson.select, tinyjson.select_paths, tinyjson.valid_lines):
             written, words = written.split(b"\n")[:-1], words.split("\n")[:-1]
         elif call in (tinyjson.select_lines, tinyjson.select_lines_paths):
             written, words = lists(written, b"\n"), lists(words, "\n")
@@ -147,6 +150,13 @@ class Pairs(unittest.TestCase):
                         call(one, other, int(depth))
                     for attribute, at in attributes.items():
                         self.assertEqual(getattr(raised.exception, attribute), int(place[at]))
+                    if status == "BAD_SCHEMA":
+                        kind = getattr(raised.exception.error, "kind", 0)
+                        self.assertEqual((kind, raised.exception.error.text), (int(place[0]), 1))
+                    if status == "SCHEMA_FAULT":
+                        self.assertEqual(raised.exception.pointer, written.decode())
+                elif name == "valid" and status == "OK":
+                    self.assertIsNone(call(one, other, int(depth)))
                 else:
                     self.answers(call, one, other, int(depth), None if status == "NOT_FOUND" else written)
 

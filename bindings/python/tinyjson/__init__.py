@@ -1,4 +1,4 @@
-"""JSON texts (RFC 8259), checked, normalized, indented, compared, patched and searched by proved code.
+"""JSON texts (RFC 8259), checked, also by a schema, normalized, indented, compared, patched and searched by proved code.
 
 >>> import tinyjson
 >>> tinyjson.normal('{"b": [1.50, true], "a": 2e3}')
@@ -14,9 +14,10 @@ import os
 import pathlib
 from typing import Any, Callable, List, Optional, Tuple, Union, overload
 
-__all__ = ["DEPTH", "BadPatch", "BadPointer", "BadQuery", "Error", "Failed", "Kind", "NotUtf8", "PatternLimit"]
-__all__ += ["Refused", "Value", "check", "equal", "indented", "is_normal", "merge", "normal", "normal_lines", "part"]
-__all__ += ["patch", "select", "select_lines", "select_lines_paths", "select_paths"]
+__all__ = ["DEPTH", "BadPatch", "BadPointer", "BadQuery", "BadSchema", "Error", "Failed", "Kind", "NotUtf8"]
+__all__ += ["PatternLimit", "Refused", "SchemaFault", "StepLimit", "Value", "check", "equal", "indented", "is_normal"]
+__all__ += ["merge", "normal", "normal_lines", "part", "patch", "select", "select_lines", "select_lines_paths"]
+__all__ += ["select_paths", "valid", "valid_lines"]
 
 Text = Union[str, bytes]
 
@@ -25,6 +26,7 @@ DEPTH = 1000
 
 _OK, _REFUSED, _NOT_UTF8, _OUT_OF_MEMORY, _TOO_SMALL, _NO_ERROR, _NOT_FOUND = range(7)
 _BAD_POINTER, _BAD_PATCH, _FAILED, _BAD_QUERY, _PATTERN_LIMIT = range(7, 12)
+_INVALID, _BAD_SCHEMA, _SCHEMA_FAULT, _STEP_LIMIT = range(12, 16)
 
 
 class Kind(enum.IntEnum):
@@ -125,6 +127,30 @@ class PatternLimit(ValueError):
         self.text = text
 
 
+class BadSchema(ValueError):
+    """The schema has no value, with this `Refused` or `NotUtf8`."""
+
+    def __init__(self, error: Error) -> None:
+        super().__init__(f"the schema: {error}")
+        self.error = error
+
+
+class SchemaFault(ValueError):
+    """The schema can't be applied at the place that this JSON pointer names."""
+
+    def __init__(self, pointer: str) -> None:
+        super().__init__(f"the schema can't be applied at {pointer!r}")
+        self.pointer = pointer
+
+
+class StepLimit(ValueError):
+    """The check of the text, or of this line of `valid_lines`, needs more than 200 nested schemas, or too many steps."""
+
+    def __init__(self, text: int) -> None:
+        super().__init__("the check needs too many nested schemas, or too many steps")
+        self.text = text
+
+
 class _Place(ctypes.Structure):
     _fields_ = [
         ("kind", ctypes.c_uint32),
@@ -171,6 +197,7 @@ _two = (_bytes, _size, _bytes, _size, _size, _bytes, _size, _place)
 _part, _merge, _patch = (_call(f"tinyjson_{it}", *_two) for it in ("part", "merge", "patch"))
 _select, _select_paths = (_call(f"tinyjson_{it}", *_two) for it in ("select", "select_paths"))
 _select_lines, _select_lines_paths = (_call(f"tinyjson_{it}", *_two) for it in ("select_lines", "select_lines_paths"))
+_valid, _valid_lines = (_call(f"tinyjson_{it}", *_two) for it in ("valid", "valid_lines"))
 _words = _call("tinyjson_message", _place, _bytes, _size, ctypes.POINTER(_size))
 
 
@@ -225,25 +252,34 @@ def _raise(status: int, place: _Place) -> None:
         raise Failed(place.length)
     if status == _BAD_QUERY:
         raise BadQuery(place.length)
+    if status == _BAD_SCHEMA:
+        raise BadSchema(Refused(place) if place.kind else NotUtf8(place.length, place.text))
+    if status == _STEP_LIMIT:
+        raise StepLimit(place.text)
     if status == _PATTERN_LIMIT:
         raise PatternLimit(place.text)
     if status != _OK:
         raise MemoryError("tinyjson")
 
 
-def _written(call: Callable[..., int], depth: int, *texts: Text) -> Optional[memoryview]:
-    """What a call writes, into a buffer that grows to what the call asks for, or None if there is no such part."""
+def _filled(call: Callable[..., int], depth: int, *texts: Text) -> Tuple[int, memoryview]:
+    """The status of a call, and what it writes, into a buffer that grows to what the call asks for."""
     given, place = [_given(it) for it in texts], _Place()
     room = given[0][1]
     while True:
         buffer = _new_bytes(None, room)
         status = call(*(it for pair in given for it in pair), _limit(depth), buffer, room, place)
-        if status == _NOT_FOUND:
-            return None
+        if status in (_OK, _INVALID, _SCHEMA_FAULT, _NOT_FOUND):
+            return status, memoryview(buffer)[: place.length]
         if status != _TOO_SMALL:
             _raise(status, place)
-            return memoryview(buffer)[: place.length]
         room = place.length
+
+
+def _written(call: Callable[..., int], depth: int, *texts: Text) -> Optional[memoryview]:
+    """What a call writes, or None if there is no such part."""
+    status, written = _filled(call, depth, *texts)
+    return None if status == _NOT_FOUND else written
 
 
 def _like(text: Text, written: Union[bytes, memoryview, None]) -> Any:
@@ -391,6 +427,46 @@ def select_lines_paths(text: bytes, query: str, depth: int = ...) -> List[List[b
 def select_lines_paths(text: Text, query: str, depth: int = DEPTH) -> Any:
     """What `select_paths` returns of each line. The last line may lack its line feed."""
     return _selected_lines(_select_lines_paths, text, query, depth)
+
+
+def _judged(call: Callable[..., int], depth: int, text: Text, schema: Text) -> Optional[memoryview]:
+    """The reports of what is not valid, or None."""
+    status, written = _filled(call, depth, text, schema)
+    if status == _SCHEMA_FAULT:
+        raise SchemaFault(str(written, "utf-8"))
+    return None if status == _OK else written
+
+
+@overload
+def valid(text: str, schema: Text, depth: int = ...) -> Optional[str]: ...
+@overload
+def valid(text: bytes, schema: Text, depth: int = ...) -> Optional[bytes]: ...
+def valid(text: Text, schema: Text, depth: int = DEPTH) -> Optional[Text]:
+    """The report of a text that is not valid by a schema, or None.
+
+    The schema is of JSON Schema 2020-12, or of the draft that its $schema names. Both texts may be no deeper than 100
+    containers.
+
+    >>> valid('[1, 2.0]', '{"items": {"type": "integer"}}')
+    >>> part(valid('[1.5]', '{"items": {"type": "integer"}}'), "/error")
+    '"must be an integer, is a number"'
+    """
+    return _like(text, _judged(_valid, depth, text, schema))
+
+
+@overload
+def valid_lines(text: str, schema: Text, depth: int = ...) -> List[str]: ...
+@overload
+def valid_lines(text: bytes, schema: Text, depth: int = ...) -> List[bytes]: ...
+def valid_lines(text: Text, schema: Text, depth: int = DEPTH) -> Any:
+    """The report of each line that is not valid by a schema, with the line's number, from 1 on.
+
+    The last line may lack its line feed.
+
+    >>> [part(it, "/line") for it in valid_lines("1\\n1.5\\n2", '{"type": "integer"}')]
+    ['2']
+    """
+    return _lines(text, _judged(_valid_lines, depth, text, schema))
 
 
 def is_normal(text: Text) -> bool:

@@ -1,4 +1,5 @@
-//! JSON texts (RFC 8259), checked, normalized, indented, compared, patched and searched by proved code.
+//! JSON texts (RFC 8259), checked, also by a schema, normalized, indented, compared, patched and searched by proved
+//! code.
 //!
 //! ```
 //! let text = r#"{"b": [1.50, true], "a": 2e3}"#;
@@ -74,7 +75,7 @@ pub enum Error {
         /// How many characters were consumed after the last line feed.
         column: usize,
         /// Which text of the call this is, from 0 on: the second one of [`equal`], the patch of [`merge`] and
-        /// [`patch`], the pointer of [`part`], or a line of [`normal_lines`] and [`select_lines`].
+        /// [`patch`], the pointer of [`part`], or a line of [`normal_lines`], [`select_lines`] and [`valid_lines`].
         text: usize,
     },
     /// The bytes are not UTF-8 after `valid_up_to` of them.
@@ -369,6 +370,107 @@ fn changed(
         sys::write_of_two(call, text, patch, depth, buffer)
     })?;
     Ok(text.unwrap_or_default())
+}
+
+/// Why a text is not checked by a schema.
+#[derive(Clone, Debug, PartialEq, Eq, Hash)]
+#[non_exhaustive]
+pub enum SchemaError {
+    /// The text has no value, or memory ran out.
+    Text(Error),
+    /// The schema has no value.
+    Schema(Error),
+    /// The schema can't be applied at the place that this JSON pointer names.
+    Fault(String),
+    /// The check of the text, or of this line of [`valid_lines`], needs more than 200 nested schemas, or too many
+    /// steps.
+    StepLimit { text: usize },
+}
+
+impl fmt::Display for SchemaError {
+    fn fmt(&self, f: &mut fmt::Formatter<'_>) -> fmt::Result {
+        match self {
+            SchemaError::Text(error) => write!(f, "{error}"),
+            SchemaError::Schema(error) => write!(f, "The schema: {error}"),
+            SchemaError::Fault(pointer) => write!(f, "The schema can't be applied at {pointer:?}"),
+            SchemaError::StepLimit { .. } => {
+                f.write_str("The check needs too many nested schemas, or too many steps")
+            }
+        }
+    }
+}
+
+impl error::Error for SchemaError {}
+
+/// Checks a text by a schema: JSON Schema 2020-12, or the draft that its `$schema` names. It returns `None` for a value
+/// that is valid, or the report of one that is not. Both texts may be no deeper than 100 containers, whatever the limit.
+///
+/// ```
+/// use tinyjson_proved::{valid, SchemaError};
+///
+/// let schema = r#"{"items": {"type": "integer"}}"#;
+/// assert_eq!(valid("[1, 2.0]", schema, 9)?, None);
+/// let report = valid("[1.5]", schema, 9)?.unwrap();
+/// let words = tinyjson_proved::part(report, "/error", 9);
+/// assert_eq!(words, Ok(Some(r#""must be an integer, is a number""#.into())));
+/// assert_eq!(valid("1", r#"{"type": 5}"#, 9), Err(SchemaError::Fault("/type".into())));
+/// # Ok::<(), SchemaError>(())
+/// ```
+pub fn valid(
+    text: impl AsRef<[u8]>,
+    schema: impl AsRef<[u8]>,
+    depth: usize,
+) -> Result<Option<String>, SchemaError> {
+    judged(sys::tinyjson_valid, text.as_ref(), schema.as_ref(), depth)
+}
+
+/// The report of each line that is not valid by a schema, with the line's number, from 1 on. The last line may lack its
+/// line feed.
+///
+/// ```
+/// let reports = tinyjson_proved::valid_lines("1\n1.5\n2", r#"{"type": "integer"}"#, 9)?;
+/// assert_eq!(tinyjson_proved::part(&reports[0], "/line", 9), Ok(Some("2".into())));
+/// assert_eq!(reports.len(), 1);
+/// # Ok::<(), tinyjson_proved::SchemaError>(())
+/// ```
+pub fn valid_lines(
+    text: impl AsRef<[u8]>,
+    schema: impl AsRef<[u8]>,
+    depth: usize,
+) -> Result<Vec<String>, SchemaError> {
+    let (text, schema) = (text.as_ref(), schema.as_ref());
+    let reports = judged(sys::tinyjson_valid_lines, text, schema, depth)?;
+    Ok(lines_of(&reports.unwrap_or_default()))
+}
+
+fn judged(
+    call: sys::WritesOfTwo,
+    text: &[u8],
+    schema: &[u8],
+    depth: usize,
+) -> Result<Option<String>, SchemaError> {
+    let (status, place, told) = filled(text.len(), |buffer| {
+        sys::write_of_two(call, text, schema, depth, buffer)
+    })
+    .map_err(SchemaError::Text)?;
+    let told = || String::from_utf8(told).map_err(|_| SchemaError::Text(Error::OutOfMemory));
+    match status {
+        Status::OK => Ok(None),
+        Status::INVALID => Ok(Some(told()?)),
+        Status::SCHEMA_FAULT => Err(SchemaError::Fault(told()?)),
+        Status::STEP_LIMIT => Err(SchemaError::StepLimit { text: place.text }),
+        Status::BAD_SCHEMA if place.kind == 0 => Err(SchemaError::Schema(Error::NotUtf8 {
+            valid_up_to: place.length,
+            text: 1,
+        })),
+        Status::BAD_SCHEMA => match answer(Status::REFUSED, &place) {
+            Ok(()) => unreachable!("the library refuses a schema for no reason"),
+            Err(error) => Err(SchemaError::Schema(error)),
+        },
+        _ => Err(SchemaError::Text(
+            answer(status, &place).err().unwrap_or(Error::OutOfMemory),
+        )),
+    }
 }
 
 /// What a call writes, or nothing if there is no such part.

@@ -16,6 +16,10 @@ impl Status {
     pub(crate) const FAILED: Status = Status(9);
     pub(crate) const BAD_QUERY: Status = Status(10);
     pub(crate) const PATTERN_LIMIT: Status = Status(11);
+    pub(crate) const INVALID: Status = Status(12);
+    pub(crate) const BAD_SCHEMA: Status = Status(13);
+    pub(crate) const SCHEMA_FAULT: Status = Status(14);
+    pub(crate) const STEP_LIMIT: Status = Status(15);
 }
 
 /// What a call answers besides its status.
@@ -147,6 +151,26 @@ extern "C" {
         length: usize,
         query: *const u8,
         query_length: usize,
+        depth: usize,
+        buffer: *mut u8,
+        room: usize,
+        place: *mut Place,
+    ) -> Status;
+    pub(crate) fn tinyjson_valid(
+        text: *const u8,
+        length: usize,
+        schema: *const u8,
+        schema_length: usize,
+        depth: usize,
+        buffer: *mut u8,
+        room: usize,
+        place: *mut Place,
+    ) -> Status;
+    pub(crate) fn tinyjson_valid_lines(
+        text: *const u8,
+        length: usize,
+        schema: *const u8,
+        schema_length: usize,
         depth: usize,
         buffer: *mut u8,
         room: usize,

@@ -3,7 +3,7 @@ use std::thread;
 
 use tinyjson_proved::{
     check, equal, indented, is_normal, merge, normal, normal_lines, part, patch, select,
-    select_lines, select_lines_paths, select_paths, Error, Kind,
+    select_lines, select_lines_paths, select_paths, valid, valid_lines, Error, Kind, SchemaError,
 };
 
 /// A line of the file: a text, its limit, and what is expected of it.
@@ -169,11 +169,44 @@ fn error_of(text: &[u8], depth: usize, number: usize) -> Error {
     error
 }
 
+/// The answer of a check of a text, or of lines, by a schema.
+fn judges(fields: &[&str]) {
+    let (one, other) = (bytes(fields[1]), bytes(fields[2]));
+    let depth: usize = fields[3].parse().unwrap();
+    let number = fields[11].parse().unwrap();
+    let is_lines = fields[0] == "valid_lines";
+    let checked = |number| match one.split(|byte| *byte == b'\n').nth(number) {
+        Some(line) if is_lines => error_of(line, depth.min(100), number),
+        _ => error_of(&one, depth.min(100), 0),
+    };
+    let expected = match fields[4] {
+        "OK" => Ok(None),
+        "INVALID" => Ok(Some(text(fields[5]))),
+        "SCHEMA_FAULT" => Err(SchemaError::Fault(text(fields[5]))),
+        "STEP_LIMIT" => Err(SchemaError::StepLimit { text: number }),
+        "BAD_SCHEMA" => Err(SchemaError::Schema(error_of(&other, depth.min(100), 1))),
+        _ => Err(SchemaError::Text(checked(number))),
+    };
+    let joined = |found: Vec<String>| match found.is_empty() {
+        true => None,
+        false => Some(found.iter().map(|line| format!("{line}\n")).collect()),
+    };
+    if is_lines {
+        assert_eq!(valid_lines(&one, &other, depth).map(joined), expected);
+    } else {
+        assert_eq!(valid(&one, &other, depth), expected);
+    }
+}
+
 #[test]
 fn answers_each_pair() {
     let few = "part\t5b315d\t2f30\t9\tOK\t31\t0\t0\t0\t0\t1\t0\n";
     for line in file("pairs.txt", few).lines() {
         let fields: Vec<&str> = line.split('\t').collect();
+        if fields[0].starts_with("valid") {
+            judges(&fields);
+            continue;
+        }
         let (one, other) = (bytes(fields[1]), bytes(fields[2]));
         let depth = fields[3].parse().unwrap();
         let operation = fields[10].parse().unwrap();

@@ -8,7 +8,7 @@ use Rattle.tinyjson_c.specs.Stop.{IsTextOf}
 use Rattle.tinyjson_grammar.specs.Characters.{line_feed}
 use Rattle.tinyjson_grammar.specs.Tree.{Tree}
 
-first_more : (limit : Option ℕ) (bytes : List ℕ) (ts : List Tree) (rest : List ℕ) (t : Tree) → AreFirst limit bytes ts rest → rest ≢ []
+pub first_more : (limit : Option ℕ) (bytes : List ℕ) (ts : List Tree) (rest : List ℕ) (t : Tree) → AreFirst limit bytes ts rest → rest ≢ []
     → IsTextOf limit (first_line rest) t → AreFirst limit bytes (ts ++ t ∷ []) (later_lines rest)
 first_more limit bytes [] rest t h more text =
     let P : List ℕ → Type 0 = λ bs. AreFirst limit bs (t ∷ []) (later_lines rest) in
@@ -21,7 +21,7 @@ lines_more (u ∷ us) t =
     ap (λ x. (encode_utf8_all (compact u) ++ line_feed ∷ []) ++ x) (lines_more us t)
     ∙ sym (append_assoc (encode_utf8_all (compact u) ++ line_feed ∷ []) (lines_text us) _)
 
-length_more : (ts : List Tree) (t : Tree) → length (ts ++ t ∷ []) ≡ length ts + 1
+pub length_more : (ts : List Tree) (t : Tree) → length (ts ++ t ∷ []) ≡ length ts + 1
 length_more ts t = grind (arith, length-append)
 
 -- what follows the first line of some bytes is shorter than they are

@@ -8,3 +8,7 @@ pub mod Growing
 pub mod Selecting
 -- What a query selects in texts that are lines.
 pub mod SelectingLines
+-- What a check by a schema answers.
+pub mod Judging
+-- What a check of lines by a schema answers.
+pub mod JudgingLines

@@ -5,7 +5,7 @@ use Rattle.tinyjson_c.specs.Lines.{AreFirst, AreLines, IsStoppedAt, StopsAtLine,
 use Rattle.tinyjson_c.specs.Place.{length_place}
 use Rattle.tinyjson_c.specs.Select.{HasLargePattern, IsNotFound, IsQueryOf, part_lines, unselected_place, unselected_status}
 use Rattle.tinyjson_c.specs.SelectLines.{IsLineAt, IsUnselectedAt, SelectsLines, selected_text}
-use Rattle.tinyjson_c.specs.Stop.{IsStopped, stop_place}
+use Rattle.tinyjson_c.specs.Stop.{IsStopped, stop_place, stop_status}
 use Rattle.tinyjson_c.specs.declared.place.TinyjsonPlace.{TinyjsonPlace}
 use Rattle.tinyjson_c.specs.declared.select.Unselected.{Unselected}
 use Rattle.tinyjson_c.specs.declared.select.Unselected.TheVariants as un
@@ -66,7 +66,7 @@ all_selected limit text query rest written paths q ts asked first w none = recor
 
 -- what the call answers that stops
 module _ (limit : Option ℕ) (text query : List ℕ) (number status : ℕ) (p : TinyjsonPlace) where
-  line_stops : (s : Stop) → IsStoppedAt limit text number s → status ≡ unselected_status (un.Text s) → p ≡ unselected_place number (un.Text s)
+  pub line_stops : (s : Stop) → IsStoppedAt limit text number s → status ≡ stop_status s → p ≡ stop_place number s
       → StopsAtLine limit text status p
   line_stops s h i j = record {
     trees = h.trees;

@@ -18,3 +18,7 @@ pub mod Patch
 pub mod Select
 -- What a query selects in texts that are lines.
 pub mod SelectLines
+-- Whether a text is valid by a schema, and the report if it is not.
+pub mod Schema
+-- Whether texts that are lines are valid by a schema, and the reports of those that are not.
+pub mod SchemaLines

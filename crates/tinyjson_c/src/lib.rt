@@ -3,7 +3,7 @@
 #![tactic(auto)]
 
 ghost use Rattle.std.specs.Char.{IsScalar};
-ghost use Rattle.std.specs.Prelude.{◌≡◌, ◌≢◌, ◌<◌, ◌⊎◌, ◌↔◌, ℕ, IsTrue, List, None, Some};
+ghost use Rattle.std.specs.Prelude.{◌≡◌, ◌≢◌, ◌<◌, ◌⊎◌, ◌↔◌, ℕ, [], IsTrue, List, None, Option, Some};
 ghost use Rattle.std.specs.Prelude.{codes, false, true};
 ghost use Rattle.std.specs.Prelude.{Ok, encode_utf8_all, length};
 ghost use Rattle.std.specs.Str.{IsUtf8, chars};
@@ -16,6 +16,10 @@ ghost use Rattle.tinyjson_c.specs.Message.{error_words};
 ghost use Rattle.tinyjson_c.specs.Part.{IsBadPointer, IsNoText, Leads};
 ghost use Rattle.tinyjson_c.specs.Patch.{Fails, IsBadPatch, Patches};
 ghost use Rattle.tinyjson_c.specs.Place.{IsError, length_place, memory_place};
+ghost use Rattle.tinyjson_c.specs.Schema.{IsBadSchema, IsMisfit, IsSchemaOf, IsUncheckable};
+ghost use Rattle.tinyjson_c.specs.Schema.{IsValidText, Violates, misfit_text, report_text};
+ghost use Rattle.tinyjson_c.specs.Schema.{schema_depth};
+ghost use Rattle.tinyjson_c.specs.SchemaLines.{JudgesLines, reports_text};
 ghost use Rattle.tinyjson_c.specs.Select.{HasLargePattern, IsBadQuery, IsQueryOf, Selects};
 ghost use Rattle.tinyjson_c.specs.Select.{part_lines};
 ghost use Rattle.tinyjson_c.specs.SelectLines.{IsLineAt, SelectsLines};
@@ -24,6 +28,7 @@ ghost use Rattle.tinyjson_grammar.specs.Refusal.{MayGrow};
 ghost use Rattle.tinyjson_normal.specs.Normal.{IsNormal};
 ghost use Rattle.tinyjson_path.specs.Nodes.{Part};
 ghost use Rattle.tinyjson_path.specs.Query.{Query};
+ghost use Rattle.tinyjson_schema_report.specs.declared.found.Finding.{Finding};
 
 mod buffer;
 mod lines;
@@ -32,19 +37,22 @@ mod message;
 mod part;
 mod patch;
 mod place;
+mod schema;
 mod select;
 mod select_lines;
 mod status;
 mod stop;
 mod text;
+mod valid_lines;
 mod value;
 
 use buffer::{fill, put};
 use message::{Message, kind_at};
 pub use place::TinyjsonPlace;
+use schema::Verdict;
 pub use status::{
-    BAD_PATCH, BAD_POINTER, BAD_QUERY, FAILED, NO_ERROR, NOT_FOUND, NOT_UTF8, OK, OUT_OF_MEMORY,
-    PATTERN_LIMIT, REFUSED, TOO_SMALL,
+    BAD_PATCH, BAD_POINTER, BAD_QUERY, BAD_SCHEMA, FAILED, INVALID, NO_ERROR, NOT_FOUND, NOT_UTF8,
+    OK, OUT_OF_MEMORY, PATTERN_LIMIT, REFUSED, SCHEMA_FAULT, STEP_LIMIT, TOO_SMALL,
 };
 use std::alloc::Global;
 use stop::text_of;
@@ -422,6 +430,98 @@ pub extern "C" fn tinyjson_select_lines_paths(
 {
     match select_lines::select_lines(alloc, text, query, true, depth) {
         Ok(written) => put(&written, buffer, place),
+        Err(line) => line.error.put(line.number, place),
+    }
+}
+
+/// Checks a text by a schema: JSON Schema 2020-12, or the draft that its `$schema` names. Writes to the front of a
+/// buffer, if it fits, the report of a value that is not valid, or a pointer to what can't be applied in the
+/// schema. At most `depth` containers may be nested in both, and at most 100. The schema is read first.
+#[unsafe(no_mangle)]
+pub extern "C" fn tinyjson_valid(
+    alloc: Global,
+    text: &[u8],
+    schema: &[u8],
+    depth: usize,
+    buffer: &mut [u8],
+    place: &mut TinyjsonPlace,
+) -> u32
+    ensures valid { result ≡ OK → IsValidText (Some (schema_depth depth)) text.now schema.now
+        × (place.new ≡ length_place 0 0) }
+    ensures invalid { result ≡ INVALID → (f : Finding)
+        × Violates (Some (schema_depth depth)) text.now schema.now f
+        × HasWritten (report_text None f) buffer.old buffer.new place.new }
+    ensures fault { result ≡ SCHEMA_FAULT → (ks : List (List ℕ))
+        × IsMisfit (Some (schema_depth depth)) schema.now ks
+        × HasWritten (misfit_text ks) buffer.old buffer.new place.new }
+    ensures too_small { result ≡ TOO_SMALL → ((f : Finding)
+        × Violates (Some (schema_depth depth)) text.now schema.now f
+        × LacksRoom (report_text None f) buffer.old place.new)
+        ⊎ ((ks : List (List ℕ)) × IsMisfit (Some (schema_depth depth)) schema.now ks
+        × LacksRoom (misfit_text ks) buffer.old place.new) }
+    ensures bad_schema { result ≡ BAD_SCHEMA
+        → IsBadSchema (Some (schema_depth depth)) schema.now place.new }
+    ensures limit { result ≡ STEP_LIMIT
+        → IsUncheckable (Some (schema_depth depth)) text.now schema.now
+        × (place.new ≡ length_place 0 0) }
+    ensures memory { result ≡ OUT_OF_MEMORY → (n : ℕ) × (place.new ≡ memory_place n) }
+    ensures stopped { result ≢ OK → result ≢ INVALID → result ≢ SCHEMA_FAULT
+        → result ≢ TOO_SMALL → result ≢ BAD_SCHEMA → result ≢ STEP_LIMIT
+        → result ≢ OUT_OF_MEMORY
+        → ((s : Tree) × IsSchemaOf (Some (schema_depth depth)) schema.now s)
+        × Stops (Some (schema_depth depth)) text.now 0 result place.new }
+    ensures left { result ≢ INVALID → result ≢ SCHEMA_FAULT → buffer.new ≡ buffer.old }
+{
+    match schema::checked(alloc, text, schema, depth) {
+        Ok(verdict) => verdict.put(buffer, place),
+        Err(error) => error.put(0, place),
+    }
+}
+
+/// Checks each line by a schema, as `tinyjson_valid` checks a text. Writes to the front of a buffer, if it all fits,
+/// the report of each line that is not valid, with the line's number, from 1, and a line feed. The last line may
+/// lack its line feed. A line that is no JSON, or that can't be checked, stops the call: the place has the number of
+/// lines before it.
+#[unsafe(no_mangle)]
+pub extern "C" fn tinyjson_valid_lines(
+    alloc: Global,
+    text: &[u8],
+    schema: &[u8],
+    depth: usize,
+    buffer: &mut [u8],
+    place: &mut TinyjsonPlace,
+) -> u32
+    ensures valid { result ≡ OK → (os : List (Option Finding))
+        × JudgesLines (Some (schema_depth depth)) text.now schema.now os
+        × (reports_text 1 os ≡ []) × (place.new ≡ length_place 0 0) }
+    ensures invalid { result ≡ INVALID → (os : List (Option Finding))
+        × JudgesLines (Some (schema_depth depth)) text.now schema.now os
+        × (reports_text 1 os ≢ [])
+        × HasWritten (reports_text 1 os) buffer.old buffer.new place.new }
+    ensures fault { result ≡ SCHEMA_FAULT → (ks : List (List ℕ))
+        × IsMisfit (Some (schema_depth depth)) schema.now ks
+        × HasWritten (misfit_text ks) buffer.old buffer.new place.new }
+    ensures too_small { result ≡ TOO_SMALL → ((os : List (Option Finding))
+        × JudgesLines (Some (schema_depth depth)) text.now schema.now os
+        × LacksRoom (reports_text 1 os) buffer.old place.new)
+        ⊎ ((ks : List (List ℕ)) × IsMisfit (Some (schema_depth depth)) schema.now ks
+        × LacksRoom (misfit_text ks) buffer.old place.new) }
+    ensures bad_schema { result ≡ BAD_SCHEMA
+        → IsBadSchema (Some (schema_depth depth)) schema.now place.new }
+    ensures limit { result ≡ STEP_LIMIT → (n : ℕ) × (line : List ℕ)
+        × IsLineAt (Some (schema_depth depth)) text.now n line
+        × IsUncheckable (Some (schema_depth depth)) line schema.now
+        × (place.new ≡ length_place n 0) }
+    ensures memory { result ≡ OUT_OF_MEMORY → (n : ℕ) × (place.new ≡ memory_place n) }
+    ensures stopped { result ≢ OK → result ≢ INVALID → result ≢ SCHEMA_FAULT
+        → result ≢ TOO_SMALL → result ≢ BAD_SCHEMA → result ≢ STEP_LIMIT
+        → result ≢ OUT_OF_MEMORY
+        → ((s : Tree) × IsSchemaOf (Some (schema_depth depth)) schema.now s)
+        × StopsAtLine (Some (schema_depth depth)) text.now result place.new }
+    ensures left { result ≢ INVALID → result ≢ SCHEMA_FAULT → buffer.new ≡ buffer.old }
+{
+    match valid_lines::checked_lines(alloc, text, schema, depth) {
+        Ok(verdict) => verdict.put(buffer, place),
         Err(line) => line.error.put(line.number, place),
     }
 }

@@ -24,3 +24,11 @@ pub const FAILED: u32 = 9;
 pub const BAD_QUERY: u32 = 10;
 /// A regular expression of the query or the text is too deep or too large.
 pub const PATTERN_LIMIT: u32 = 11;
+/// The value is not valid by the schema.
+pub const INVALID: u32 = 12;
+/// The schema is no JSON.
+pub const BAD_SCHEMA: u32 = 13;
+/// The schema can't be applied.
+pub const SCHEMA_FAULT: u32 = 14;
+/// The check needs too many nested schemas, or too many steps.
+pub const STEP_LIMIT: u32 = 15;

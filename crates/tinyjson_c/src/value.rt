@@ -1,5 +1,5 @@
 //! Values that are changed: parsed from texts, and written in normal form.
-ghost use Rattle.std.specs.Prelude.{◌≡◌, IfOk, MatchResult, Some, encode_utf8_all};
+ghost use Rattle.std.specs.Prelude.{◌≡◌, ◌++◌, IfOk, MatchResult, OnOk, Some, encode_utf8_all};
 ghost use Rattle.tinyjson.specs.View.{view};
 ghost use Rattle.tinyjson.specs.Words.{compact};
 ghost use Rattle.tinyjson_c.specs.Stop.{IsStopped, IsTextOf};
@@ -28,8 +28,21 @@ pub(crate) fn written(alloc: Global, value: &JsonValue) -> Result<Vec<u8>, Alloc
     ensures { IfOk result (λ v. v.items ≡ encode_utf8_all (compact (view value.now))) }
 {
     let mut written = Vec::new(alloc);
-    match value.write_to(alloc, &mut written) {
-        Ok(()) => Ok(written),
+    push_value(alloc, value, &mut written)?;
+    Ok(written)
+}
+
+/// Appends the normal form of a value.
+pub(crate) fn push_value(
+    alloc: Global,
+    value: &JsonValue,
+    written: &mut Vec<u8>,
+) -> Result<(), AllocError>
+    ensures { OnOk result (written.new.items
+        ≡ written.old.items ++ encode_utf8_all (compact (view value.now))) }
+{
+    match value.write_to(alloc, written) {
+        Ok(()) => Ok(()),
         Err(_) => Err(AllocError),
     }
 }
