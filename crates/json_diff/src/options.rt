@@ -9,7 +9,7 @@ use tinyjson_cli::{Arguments, Known};
 pub const MERGE: Known<'static> = Known {
     letter: b'm',
     name: "merge",
-    takes_number: false,
+    takes: None,
 };
 
 /// The old text, and the files with the new ones.

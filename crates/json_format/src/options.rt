@@ -4,27 +4,27 @@ ghost use Rattle.tinyjson_cli.specs.Arguments.{given_of};
 ghost use Rattle.json_format.specs.Options.{indent_asked};
 
 use std::alloc::{AllocError, Global};
-use tinyjson_cli::{Arguments, Known};
+use tinyjson_cli::{Arguments, Known, Taken};
 
 /// `-c` and `--check`.
 pub const CHECK: Known<'static> = Known {
     letter: b'c',
     name: "check",
-    takes_number: false,
+    takes: None,
 };
 
 /// `-i` and `--indent`.
 pub const INDENT: Known<'static> = Known {
     letter: b'i',
     name: "indent",
-    takes_number: true,
+    takes: Some(Taken::Number),
 };
 
 /// `-t` and `--tabs`.
 pub const TABS: Known<'static> = Known {
     letter: b't',
     name: "tabs",
-    takes_number: false,
+    takes: None,
 };
 
 /// The indent: a tab, or as many spaces as the number, by default two.

@@ -4,20 +4,20 @@ ghost use Rattle.tinyjson_cli.specs.Arguments.{given_of};
 ghost use Rattle.json_lines.specs.Options.{asks};
 
 use crate::lines::Options;
-use tinyjson_cli::{Arguments, Known};
+use tinyjson_cli::{Arguments, Known, Taken};
 
 /// `-k` and `--keep-going`.
 pub const KEEP_GOING: Known<'static> = Known {
     letter: b'k',
     name: "keep-going",
-    takes_number: false,
+    takes: None,
 };
 
 /// `-d` and `--depth`.
 pub const DEPTH: Known<'static> = Known {
     letter: b'd',
     name: "depth",
-    takes_number: true,
+    takes: Some(Taken::Number),
 };
 
 /// How the lines of standard input are read: `[-k] [-d N] [-m N]`.

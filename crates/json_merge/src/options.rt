@@ -3,13 +3,13 @@ ghost use Rattle.std.specs.Prelude.{◌≡◌, option_map, map};
 ghost use Rattle.tinyjson_cli.specs.Arguments.{given_of};
 ghost use Rattle.json_merge.specs.Options.{asks};
 
-use tinyjson_cli::{Arguments, Known, Texts, texts_asked};
+use tinyjson_cli::{Arguments, Known, Taken, Texts, texts_asked};
 
 /// `-p` and `--patches`.
 pub const PATCHES: Known<'static> = Known {
     letter: b'p',
     name: "patches",
-    takes_number: true,
+    takes: Some(Taken::Number),
 };
 
 /// Patches, and the files with the texts to which they are applied.

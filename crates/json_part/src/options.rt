@@ -10,14 +10,14 @@ use tinyjson_cli::{Arguments, Known, Texts, texts_asked};
 pub const NULL: Known<'static> = Known {
     letter: b'n',
     name: "null",
-    takes_number: false,
+    takes: None,
 };
 
 /// `-r` and `--raw`.
 pub const RAW: Known<'static> = Known {
     letter: b'r',
     name: "raw",
-    takes_number: false,
+    takes: None,
 };
 
 /// A pointer, how its parts are printed, and the files with the texts.

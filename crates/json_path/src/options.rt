@@ -11,42 +11,42 @@ use tinyjson_cli::{Arguments, Known, Texts, texts_asked};
 pub const PATHS: Known<'static> = Known {
     letter: b'p',
     name: "paths",
-    takes_number: false,
+    takes: None,
 };
 
 /// `-f` and `--flat`.
 pub const FLAT: Known<'static> = Known {
     letter: b'f',
     name: "flat",
-    takes_number: false,
+    takes: None,
 };
 
 /// `-r` and `--raw`.
 pub const RAW: Known<'static> = Known {
     letter: b'r',
     name: "raw",
-    takes_number: false,
+    takes: None,
 };
 
 /// `-e` and `--empty`.
 pub const EMPTY: Known<'static> = Known {
     letter: b'e',
     name: "empty",
-    takes_number: false,
+    takes: None,
 };
 
 /// `-v` and `--rest`.
 pub const REST: Known<'static> = Known {
     letter: b'v',
     name: "rest",
-    takes_number: false,
+    takes: None,
 };
 
 /// `-q` and `--query-file`.
 pub const QUERY_FILE: Known<'static> = Known {
     letter: b'q',
     name: "query-file",
-    takes_number: false,
+    takes: None,
 };
 
 /// A query, what is asked of texts, and the files with them.

@@ -21,7 +21,7 @@ use std::io::{self, BufRead, Write};
 use std::process::ExitCode;
 use tinyjson::JsonValue;
 use tinyjson_cli::{
-    Answer, AnswerLines, Arguments, Failure, HELP, Known, MAX_LINE, Misuse, Program, Status,
+    Answer, AnswerLines, Arguments, Failure, HELP, Known, MAX_LINE, Misuse, Program, Status, Taken,
     VERSION, answer_files, answer_lines, argument_words, arguments_of, misused, read_named, report,
     writing_error,
 };
@@ -36,35 +36,35 @@ use verdict::{DEPTH_LIMIT, Verdict, check_text};
 const LINES: Known<'static> = Known {
     letter: b'l',
     name: "lines",
-    takes_number: false,
+    takes: None,
 };
 
 /// `-d` and `--draft`.
 const DRAFT: Known<'static> = Known {
     letter: b'd',
     name: "draft",
-    takes_number: true,
+    takes: Some(Taken::Number),
 };
 
 /// `-t` and `--text`.
 const TEXT: Known<'static> = Known {
     letter: b't',
     name: "text",
-    takes_number: false,
+    takes: None,
 };
 
 /// `-v` and `--valid`.
 const VALID: Known<'static> = Known {
     letter: b'v',
     name: "valid",
-    takes_number: false,
+    takes: None,
 };
 
 /// `-i` and `--invalid`.
 const INVALID: Known<'static> = Known {
     letter: b'i',
     name: "invalid",
-    takes_number: false,
+    takes: None,
 };
 
 const PROGRAM: Program<'static> = Program {

@@ -1,10 +1,13 @@
 -- What words give, one after the other.
 use Rattle.std.proofs.Common.{◌≡◌, ℕ, suc, ◌+◌, ◌<◌, List, [], ◌∷◌, length, drop, get_or, map, Result, Ok, Err, refl, sym, ap, ◌∙◌}
-use Rattle.std.proofs.Common.{append-nil, append_assoc, add-one, arith, cond, true, false, Option, Some, ◌==◌, ◌≢◌, ◌≤◌, eq-eqb}
+use Rattle.std.proofs.Common.{append-nil, append_assoc, add-one, arith, cond, Bool, true, false, Option, Some, None, ◌==◌, ◌≢◌, ◌≤◌, eq-eqb}
 use Rattle.std.proofs.lemmas.Bool.{ne_eqb}
+use Rattle.std.proofs.lemmas.Str.{is_utf8-from_IsUtf8, IsUtf8-from_is_utf8}
 use Rattle.std.proofs.Math.Seq.{drop-cons}
-use Rattle.tinyjson_cli.specs.Arguments.{Given, Fault, Word, Takes, nothing, flag, operand, join, and_word, and_words, and_rest}
-use Rattle.tinyjson_cli.specs.Arguments.{number_or, number_of, value_gives, by_letter, by_name, letter_gives, letters_give, name_gives}
+use Rattle.std.specs.Option.{option_map_or}
+use Rattle.std.specs.Str.{IsUtf8, is_utf8}
+use Rattle.tinyjson_cli.specs.Arguments.{Given, Fault, Word, Takes, nothing, flag, with_text, operand, join, and_word, and_words, and_rest}
+use Rattle.tinyjson_cli.specs.Arguments.{text_or, no_text, taken_gives, value_gives, by_letter, by_name, letter_gives, letters_give, name_gives}
 use Rattle.tinyjson_cli.specs.Arguments.{dashes_give, option_gives, word_gives, words_give}
 use Rattle.tinyjson_cli.specs.declared.arguments.Known.{Known}
 use Rattle.tinyjson_cli.specs.declared.arguments.Misuse.{Misuse}
@@ -12,23 +15,26 @@ use Rattle.tinyjson_cli.specs.declared.arguments.Misuse.TheVariants as misuse
 use Rattle.tinyjson_cli.specs.declared.arguments.Next.{Next}
 use Rattle.tinyjson_cli.specs.declared.arguments.Next.TheVariants.{Any, Value, Operand}
 use Rattle.tinyjson_cli.specs.declared.arguments.Number.{Number}
+use Rattle.tinyjson_cli.specs.declared.arguments.Taken.{Taken}
 
 -- two numbers differ
 not-eqb : (a b : ℕ) → a ≢ b → (a == b) ≡ false
 not-eqb a b n = ne_eqb a b n
 
-abbrev given : List ℕ → List Number → List (List ℕ) → Given
-given f n o = record { flags = f; numbers = n; operands = o }
+abbrev given : List ℕ → List Number → List (ℕ × List ℕ) → List (List ℕ) → Given
+given f n t o = record { flags = f; numbers = n; texts = t; operands = o }
 
-pub same_given : (f g : List ℕ) (m n : List Number) (o p : List (List ℕ)) → f ≡ g → m ≡ n → o ≡ p → given f m o ≡ given g n p
-same_given f g m n o p a b c = cc
+module _ (f g : List ℕ) (m n : List Number) (t u : List (ℕ × List ℕ)) (o p : List (List ℕ)) where
+  pub same_given : f ≡ g → m ≡ n → t ≡ u → o ≡ p → given f m t o ≡ given g n u p
+  same_given a b c d = cc
 
 pub join_nothing : (a : Given) → a ≡ join a nothing
-join_nothing a = same_given _ _ _ _ _ _ (sym (append-nil a.flags)) (sym (append-nil a.numbers)) (sym (append-nil a.operands))
+join_nothing a = same_given _ _ _ _ _ _ _ _ (sym (append-nil a.flags)) (sym (append-nil a.numbers)) (sym (append-nil a.texts))
+    (sym (append-nil a.operands))
 
 pub join_assoc : (a b c : Given) → join (join a b) c ≡ join a (join b c)
-join_assoc a b c = same_given _ _ _ _ _ _ (append_assoc a.flags b.flags c.flags) (append_assoc a.numbers b.numbers c.numbers)
-    (append_assoc a.operands b.operands c.operands)
+join_assoc a b c = same_given _ _ _ _ _ _ _ _ (append_assoc a.flags b.flags c.flags) (append_assoc a.numbers b.numbers c.numbers)
+    (append_assoc a.texts b.texts c.texts) (append_assoc a.operands b.operands c.operands)
 
 pub nothing_and_word : (w : Word) → w ≡ and_word nothing w
 nothing_and_word (Ok w) = refl
@@ -51,17 +57,32 @@ takes_after a old mid new w (Ok n) e h =
     (join a h.0, ap (and_word a) h.1, h.2 ∙ (ap (λ g. join g h.0) e ∙ join_assoc old a h.0))
 takes_after a old mid new w (Err (misuse.Unknown s)) e h = (h.0, ap (and_word a) h.1, h.2)
 takes_after a old mid new w (Err (misuse.NoNumber c)) e h = (h.0, ap (and_word a) h.1, h.2)
+takes_after a old mid new w (Err (misuse.NoText c)) e h = (h.0, ap (and_word a) h.1, h.2)
 takes_after a old mid new w (Err (misuse.Missing s)) e h = absurd h.2
 takes_after a old mid new w (Err misuse.NotUtf8) e h = absurd h.2
 takes_after a old mid new w (Err misuse.OutOfMemory) e h = tt
 
-pub value_none : (c : ℕ) (ds : List ℕ) → length ds ≡ 0 → value_gives c ds ≡ Ok (nothing, Value c)
-value_none c [] e = refl
-value_none c (d ∷ ds) e = absurd (omega (arith, e))
+pub value_none : (t : Taken) (c : ℕ) (ds : List ℕ) → length ds ≡ 0 → value_gives t c ds ≡ Ok (nothing, Value t c)
+value_none t c [] e = refl
+value_none t c (d ∷ ds) e = absurd (omega (arith, e))
 
-pub value_some : (c : ℕ) (ds : List ℕ) → ¬ (length ds ≡ 0) → value_gives c ds ≡ number_or c (number_of ds)
-value_some c [] e = absurd (e refl)
-value_some c (d ∷ ds) e = refl
+pub value_some : (t : Taken) (c : ℕ) (ds : List ℕ) → ¬ (length ds ≡ 0) → value_gives t c ds ≡ taken_gives t c ds
+value_some t c [] e = absurd (e refl)
+value_some t c (d ∷ ds) e = refl
+
+module _ (c : ℕ) (bs : List ℕ) where
+  abbrev by_utf8 : Bool → Word
+  by_utf8 b = cond b (Ok (with_text c bs, Any)) (Err (no_text c))
+
+  pub text_taken : IsUtf8 bs → text_or c bs ≡ Ok (with_text c bs, Any)
+  text_taken u = ap by_utf8 (is_utf8-from_IsUtf8 bs u)
+
+  pub no_text_taken : ¬ IsUtf8 bs → text_or c bs ≡ Err (no_text c)
+  no_text_taken n = by (is_utf8 bs) refl
+    where
+      by : (b : Bool) → is_utf8 bs ≡ b → by_utf8 b ≡ Err (no_text c)
+      by true e = absurd (n (IsUtf8-from_is_utf8 bs e))
+      by false e = refl
 
 -- the letter at a place
 pub letter_at : (known : List Known) (w ls : List ℕ) (at : ℕ) (o : Option Known) → at < length ls
@@ -71,23 +92,22 @@ letter_at known w ls at o low is =
     ap (letters_give known w) (drop-cons ls at 0 low ∙ ap (λ n. get_or ls at 0 ∷ drop n ls) (sym (add-one at)))
     ∙ ap (λ p. letter_gives w p (drop (at + 1) ls) (letters_give known w (drop (at + 1) ls))) (sym is)
 
-pub letter_value : (w : List ℕ) (k : Known) (cs : List ℕ) (others : Word) → k.takes_number ≡ true
-    → letter_gives w (Some k) cs others ≡ value_gives k.letter cs
-letter_value w k cs others t = ap (λ b. cond b (value_gives k.letter cs) (and_word (flag k.letter) others)) t
+module _ (w : List ℕ) (k : Known) (cs : List ℕ) (others : Word) where
+  pub letter_value : (t : Taken) → k.takes ≡ Some t → letter_gives w (Some k) cs others ≡ value_gives t k.letter cs
+  letter_value t e = ap (λ o. option_map_or (λ t. value_gives t k.letter cs) o (and_word (flag k.letter) others)) e
 
-pub letter_flag : (w : List ℕ) (k : Known) (cs : List ℕ) (others : Word) → k.takes_number ≡ false
-    → letter_gives w (Some k) cs others ≡ and_word (flag k.letter) others
-letter_flag w k cs others t = ap (λ b. cond b (value_gives k.letter cs) (and_word (flag k.letter) others)) t
+  pub letter_flag : k.takes ≡ None → letter_gives w (Some k) cs others ≡ and_word (flag k.letter) others
+  letter_flag e = ap (λ o. option_map_or (λ t. value_gives t k.letter cs) o (and_word (flag k.letter) others)) e
 
-pub name_value : (w : List ℕ) (k : Known) (rest : List ℕ) → k.takes_number ≡ true → length rest ≡ 0
-    → name_gives w (Some (k, rest)) ≡ Ok (nothing, Value k.letter)
-name_value w k [] t e = ap (λ b. cond b (Ok (nothing, Value k.letter)) (Ok (flag k.letter, Any))) t
-name_value w k (c ∷ cs) t e = absurd (omega (arith, e))
+pub name_value : (w : List ℕ) (k : Known) (t : Taken) (rest : List ℕ) → k.takes ≡ Some t → length rest ≡ 0
+    → name_gives w (Some (k, rest)) ≡ Ok (nothing, Value t k.letter)
+name_value w k t [] s e = ap (λ o. option_map_or (λ t. Ok (nothing, Value t k.letter)) o (Ok (flag k.letter, Any))) s
+name_value w k t (c ∷ cs) s e = absurd (omega (arith, e))
 
-pub name_flag : (w : List ℕ) (k : Known) (rest : List ℕ) → k.takes_number ≡ false → length rest ≡ 0
+pub name_flag : (w : List ℕ) (k : Known) (rest : List ℕ) → k.takes ≡ None → length rest ≡ 0
     → name_gives w (Some (k, rest)) ≡ Ok (flag k.letter, Any)
-name_flag w k [] t e = ap (λ b. cond b (Ok (nothing, Value k.letter)) (Ok (flag k.letter, Any))) t
-name_flag w k (c ∷ cs) t e = absurd (omega (arith, e))
+name_flag w k [] s e = ap (λ o. option_map_or (λ t. Ok (nothing, Value t k.letter)) o (Ok (flag k.letter, Any))) s
+name_flag w k (c ∷ cs) s e = absurd (omega (arith, e))
 
 -- ---- a word by its first bytes
 
@@ -150,5 +170,5 @@ module _ {S : Type 0} (f : S → List ℕ) (known : List Known) where
       by : (next : Next) → words_give known next (f x ∷ map f (drop (at + 1) words))
           ≡ and_rest (word_gives known next (f x)) (λ n. words_give known n (map f (drop (at + 1) words)))
       by Any = refl
-      by (Value c) = refl
+      by (Value t c) = refl
       by Operand = refl

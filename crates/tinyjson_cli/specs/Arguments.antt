@@ -3,7 +3,8 @@ use Rattle.std.specs.Prelude.{◌≡◌, ℕ, ◌+◌, ◌*◌, ◌==◌, nat_lt
 use Rattle.std.specs.Prelude.{map, Option, None, Some, Result, Ok, Err, ⊤}
 use Rattle.std.specs.List.{list_any}
 use Rattle.std.specs.Char.{digit_value, is_ascii_digit}
-use Rattle.std.specs.Str.{bytes_eq}
+use Rattle.std.specs.Option.{option_map_or}
+use Rattle.std.specs.Str.{bytes_eq, is_utf8}
 use Rattle.tinyjson_cli.specs.declared.arguments.Arguments.{Arguments}
 use Rattle.tinyjson_cli.specs.declared.arguments.Known.{Known}
 use Rattle.tinyjson_cli.specs.declared.arguments.Misuse.{Misuse}
@@ -11,33 +12,46 @@ use Rattle.tinyjson_cli.specs.declared.arguments.Misuse.TheVariants as misuse
 use Rattle.tinyjson_cli.specs.declared.arguments.Next.{Next}
 use Rattle.tinyjson_cli.specs.declared.arguments.Next.TheVariants.{Any, Value, Operand}
 use Rattle.tinyjson_cli.specs.declared.arguments.Number.{Number}
+use Rattle.tinyjson_cli.specs.declared.arguments.Taken.{Taken}
+use Rattle.tinyjson_cli.specs.declared.arguments.Taken.TheVariants as taken
+use Rattle.tinyjson_cli.specs.declared.arguments.Text.{Text}
 
--- What words give: letters of options, options with their numbers, and operands.
+-- What words give: letters of options, options with their numbers or texts, and operands.
 pub record Given : Type 0 where
   pub flags : List ℕ
   pub numbers : List Number
+  pub texts : List (ℕ × List ℕ)
   pub operands : List (List ℕ)
 
--- Why words are not understood: one is no option, or an option's number is missing.
+-- Why words are not understood: one is no option, or an option's number or text is missing.
 pub data Fault : Type 0 where
   unknown : List ℕ → Fault
   no_number : ℕ → Fault
+  no_text : ℕ → Fault
 
 abbrev pub nothing : Given
-nothing = record { flags = []; numbers = []; operands = [] }
+nothing = record { flags = []; numbers = []; texts = []; operands = [] }
 
 abbrev pub flag : ℕ → Given
-flag c = record { flags = c ∷ []; numbers = []; operands = [] }
+flag c = record { flags = c ∷ []; numbers = []; texts = []; operands = [] }
 
 abbrev pub with_number : ℕ → ℕ → Given
-with_number c n = record { flags = []; numbers = record { letter = c; value = n } ∷ []; operands = [] }
+with_number c n = record { flags = []; numbers = record { letter = c; value = n } ∷ []; texts = []; operands = [] }
+
+abbrev pub with_text : ℕ → List ℕ → Given
+with_text c bs = record { flags = []; numbers = []; texts = (c, bs) ∷ []; operands = [] }
 
 abbrev pub operand : List ℕ → Given
-operand w = record { flags = []; numbers = []; operands = w ∷ [] }
+operand w = record { flags = []; numbers = []; texts = []; operands = w ∷ [] }
 
 -- what some words give, and then others
 abbrev pub join : Given → Given → Given
-join a b = record { flags = a.flags ++ b.flags; numbers = a.numbers ++ b.numbers; operands = a.operands ++ b.operands }
+join a b = record {
+  flags = a.flags ++ b.flags;
+  numbers = a.numbers ++ b.numbers;
+  texts = a.texts ++ b.texts;
+  operands = a.operands ++ b.operands;
+}
 
 -- ---- numbers
 
@@ -59,24 +73,32 @@ abbrev pub number_or : ℕ → Option ℕ → Word
 number_or c None = Err (no_number c)
 number_or c (Some n) = Ok (with_number c n, Any)
 
+abbrev pub text_or : ℕ → List ℕ → Word
+text_or c bs = cond (is_utf8 bs) (Ok (with_text c bs, Any)) (Err (no_text c))
+
+-- the number or the text of an option
+abbrev pub taken_gives : Taken → ℕ → List ℕ → Word
+taken_gives taken.Number c bs = number_or c (number_of bs)
+taken_gives taken.Text c bs = text_or c bs
+
 abbrev pub and_word : Given → Word → Word
 and_word a (Ok w) = Ok (join a w.0, w.1)
 and_word a (Err f) = Err f
 
--- What follows an option that takes a number: the number, or nothing where it is the next word.
-abbrev pub value_gives : ℕ → List ℕ → Word
-value_gives c [] = Ok (nothing, Value c)
-value_gives c (d ∷ ds) = number_or c (number_of (d ∷ ds))
+-- What follows an option that takes something: that, or nothing where it is the next word.
+abbrev pub value_gives : Taken → ℕ → List ℕ → Word
+value_gives t c [] = Ok (nothing, Value t c)
+value_gives t c (d ∷ ds) = taken_gives t c (d ∷ ds)
 
 -- the option with this letter
 abbrev pub by_letter : List Known → ℕ → Option Known
 by_letter [] c = None
 by_letter (k ∷ ks) c = cond (k.letter == c) (Some k) (by_letter ks c)
 
--- A letter after one dash, with the letters behind it, which are the option's number if it takes one.
+-- A letter after one dash, with the letters behind it, which are what the option takes, if it does.
 abbrev pub letter_gives : List ℕ → Option Known → List ℕ → Word → Word
 letter_gives w None cs others = Err (unknown w)
-letter_gives w (Some k) cs others = cond k.takes_number (value_gives k.letter cs) (and_word (flag k.letter) others)
+letter_gives w (Some k) cs others = option_map_or (λ t. value_gives t k.letter cs) k.takes (and_word (flag k.letter) others)
 
 abbrev pub letters_give : List Known → List ℕ → List ℕ → Word
 letters_give known w [] = Ok (nothing, Any)
@@ -97,8 +119,8 @@ by_name (k ∷ ks) t =
 -- A name after two dashes.
 abbrev pub name_gives : List ℕ → Option (Known × List ℕ) → Word
 name_gives w None = Err (unknown w)
-name_gives w (Some (k, [])) = cond k.takes_number (Ok (nothing, Value k.letter)) (Ok (flag k.letter, Any))
-name_gives w (Some (k, c ∷ cs)) = cond k.takes_number (number_or k.letter (number_of cs)) (Err (unknown w))
+name_gives w (Some (k, [])) = option_map_or (λ t. Ok (nothing, Value t k.letter)) k.takes (Ok (flag k.letter, Any))
+name_gives w (Some (k, c ∷ cs)) = option_map_or (λ t. taken_gives t k.letter cs) k.takes (Err (unknown w))
 
 -- A word that begins with two dashes: after them alone all are operands.
 abbrev pub dashes_give : List Known → List ℕ → List ℕ → Word
@@ -115,7 +137,7 @@ option_gives known (a ∷ b ∷ cs) =
 
 abbrev pub word_gives : List Known → Next → List ℕ → Word
 word_gives known Any w = option_gives known w
-word_gives known (Value c) w = number_or c (number_of w)
+word_gives known (Value t c) w = taken_gives t c w
 word_gives known Operand w = Ok (operand w, Operand)
 
 -- ---- all words
@@ -131,20 +153,30 @@ and_rest (Ok w) rest = and_words w.0 (rest w.1)
 
 -- what all words give, where the first is the one that is awaited
 abbrev pub words_give : List Known → Next → List (List ℕ) → Result Given Fault
-words_give known (Value c) [] = Err (no_number c)
+words_give known (Value taken.Number c) [] = Err (no_number c)
+words_give known (Value taken.Text c) [] = Err (no_text c)
 words_give known Any [] = Ok nothing
 words_give known Operand [] = Ok nothing
 words_give known next (w ∷ ws) = and_rest (word_gives known next w) (λ n. words_give known n ws)
 
 -- ---- what the code's values are seen as
 
+abbrev pub text_of : Text → ℕ × List ℕ
+text_of t = (t.letter, t.value.now)
+
 abbrev pub given_of : Arguments → Given
-given_of a = record { flags = a.flags.items; numbers = a.numbers.items; operands = map (λ r. r.now) a.operands.items }
+given_of a = record {
+  flags = a.flags.items;
+  numbers = a.numbers.items;
+  texts = map text_of a.texts.items;
+  operands = map (λ r. r.now) a.operands.items;
+}
 
 -- The error is this fault; of memory that runs out nothing is said here.
 abbrev pub IsFault : Fault → Misuse → Type 0
 IsFault f (misuse.Unknown w) = f ≡ unknown w.now
 IsFault f (misuse.NoNumber c) = f ≡ no_number c
+IsFault f (misuse.NoText c) = f ≡ no_text c
 IsFault f misuse.OutOfMemory = ⊤
 IsFault f (misuse.Missing w) = ⊥
 IsFault f misuse.NotUtf8 = ⊥

@@ -1,7 +1,8 @@
 //! Arguments: options and operands.
 ghost use Rattle.std.specs.Prelude.{◌≡◌, None, Some, OnOk, map, option_map, string_bytes};
-ghost use Rattle.tinyjson_cli.specs.Arguments.{Reads, Takes, given_of, join, flag, with_number, operand};
-ghost use Rattle.tinyjson_cli.specs.Arguments.{number_of, number_or, value_gives};
+ghost use Rattle.tinyjson_cli.specs.Arguments.{Reads, Takes, given_of, join, flag, operand};
+ghost use Rattle.tinyjson_cli.specs.Arguments.{with_number, with_text};
+ghost use Rattle.tinyjson_cli.specs.Arguments.{number_of, number_or, text_or, taken_gives, value_gives};
 ghost use Rattle.tinyjson_cli.specs.Arguments.{by_letter, by_name, letters_give, name_gives};
 ghost use Rattle.tinyjson_cli.specs.Arguments.{is_given, last_number, newer, first_operand};
 ghost use Rattle.tinyjson_cli.specs.Arguments.{option_gives, word_gives};
@@ -10,7 +11,16 @@ ghost use Rattle.tinyjson_cli.specs.declared.arguments.Misuse.{Misuse};
 
 use crate::shown::Shown;
 use std::alloc::{AllocError, Global};
-use std::fmt;
+use std::{fmt, str};
+
+/// What an option takes.
+#[derive(Clone, Copy)]
+pub enum Taken {
+    /// A number of 1 to 9 digits.
+    Number,
+    /// Any text, as the name of a file.
+    Text,
+}
 
 /// An option that a program knows.
 #[derive(Clone, Copy)]
@@ -19,8 +29,8 @@ pub struct Known<'a> {
     pub letter: u8,
     /// Its long name, as `"depth"` for `--depth`.
     pub name: &'a str,
-    /// Whether a number of 1 to 9 digits follows.
-    pub takes_number: bool,
+    /// What follows it, if it takes something.
+    pub takes: Option<Taken>,
 }
 
 /// A number that was given after an option.
@@ -32,13 +42,24 @@ pub struct Number {
     pub value: usize,
 }
 
+/// A text that was given after an option.
+#[derive(Clone, Copy)]
+pub struct Text<'a> {
+    /// The option's letter.
+    pub letter: u8,
+    /// The text.
+    pub value: &'a str,
+}
+
 /// The arguments after a program's name, each kind in order.
 #[derive(Drop)]
 pub struct Arguments<'a> {
-    /// The letters of the options without a number.
+    /// The letters of the options that take nothing.
     pub flags: Vec<u8>,
     /// The options with a number.
     pub numbers: Vec<Number>,
+    /// The options with a text.
+    pub texts: Vec<Text<'a>>,
     /// The other arguments.
     pub operands: Vec<&'a str>,
 }
@@ -50,6 +71,8 @@ pub enum Misuse<'a> {
     Unknown(&'a str),
     /// No number of 1 to 9 digits follows the option with this letter.
     NoNumber(u8),
+    /// No text follows the option with this letter.
+    NoText(u8),
     /// This operand is missing.
     Missing(&'a str),
     /// An argument is not UTF-8.
@@ -68,6 +91,10 @@ impl fmt::Display for Misuse<'_> {
             Misuse::NoNumber(letter) => {
                 let letter = *letter as char;
                 write!(f, "no number of 1 to 9 digits after -{letter}")
+            }
+            Misuse::NoText(letter) => {
+                let letter = *letter as char;
+                write!(f, "no text after -{letter}")
             }
             Misuse::Missing(name) => write!(f, "{name} is missing"),
             Misuse::NotUtf8 => f.write_str("an argument is not UTF-8"),
@@ -89,15 +116,15 @@ impl From<AllocError> for Misuse<'_> {
 pub enum Next {
     /// An option or an operand.
     Any,
-    /// The number of the option with this letter.
-    Value(u8),
+    /// What the option with this letter takes.
+    Value(Taken, u8),
     /// An operand, also where it begins with `-`.
     Operand,
 }
 
 /// Reads the arguments after the program's name: options of one letter after one dash, alone or together, and options by
 /// their names after two. Options and operands come in any order; `-` is an operand, and after `--` all are.
-/// A number follows its option in the same word, after `=` where the option is named, or is the next word.
+/// A number or text follows its option in the same word, after `=` where the option is named, or is the next word.
 ///
 /// ```
 /// // Of `-kd5 a.json`, where `d` takes a number:
@@ -113,16 +140,18 @@ pub fn read_arguments<'a>(
     let mut arguments = Arguments {
         flags: Vec::new(alloc),
         numbers: Vec::new(alloc),
+        texts: Vec::new(alloc),
         operands: Vec::new(alloc),
     };
     let mut next = Next::Any;
     for word in words {
         next = arguments.take_word(known, next, word.as_str())?;
     }
-    if let Next::Value(letter) = next {
-        return Err(Misuse::NoNumber(letter));
+    match next {
+        Next::Value(Taken::Number, letter) => Err(Misuse::NoNumber(letter)),
+        Next::Value(Taken::Text, letter) => Err(Misuse::NoText(letter)),
+        Next::Any | Next::Operand => Ok(arguments),
     }
-    Ok(arguments)
 }
 
 impl<'a> Arguments<'a> {
@@ -166,7 +195,7 @@ impl<'a> Arguments<'a> {
     {
         match next {
             Next::Any => self.take_option(known, word),
-            Next::Value(letter) => self.take_number(letter, word.as_bytes()),
+            Next::Value(taken, letter) => self.take_given(taken, letter, word.as_bytes()),
             Next::Operand => {
                 self.add_operand(word)?;
                 Ok(Next::Operand)
@@ -198,7 +227,7 @@ impl<'a> Arguments<'a> {
         &mut self,
         known: &[Known<'_>],
         word: &'a str,
-        letters: &[u8],
+        letters: &'a [u8],
     ) -> Result<Next, Misuse<'a>>
         ensures { Takes (letters_give known.now word.now letters.now)
             (given_of self.old) (given_of self.new) result }
@@ -207,8 +236,8 @@ impl<'a> Arguments<'a> {
             let Some(option) = with_letter(known, letters[at]) else {
                 return Err(Misuse::Unknown(word));
             };
-            if option.takes_number {
-                return self.take_value(option.letter, &letters[at + 1..]);
+            if let Some(taken) = option.takes {
+                return self.take_value(taken, option.letter, &letters[at + 1..]);
             }
             self.add_flag(option.letter)?;
         }
@@ -220,7 +249,7 @@ impl<'a> Arguments<'a> {
         &mut self,
         known: &[Known<'_>],
         word: &'a str,
-        text: &[u8],
+        text: &'a [u8],
     ) -> Result<Next, Misuse<'a>>
         ensures { Takes (name_gives word.now (by_name known.now text.now))
             (given_of self.old) (given_of self.new) result }
@@ -228,11 +257,11 @@ impl<'a> Arguments<'a> {
         let Some((option, rest)) = with_name(known, text) else {
             return Err(Misuse::Unknown(word));
         };
-        if option.takes_number {
+        if let Some(taken) = option.takes {
             if rest.is_empty() {
-                return Ok(Next::Value(option.letter));
+                return Ok(Next::Value(taken, option.letter));
             }
-            return self.take_number(option.letter, &rest[1..]);
+            return self.take_given(taken, option.letter, &rest[1..]);
         }
         if !rest.is_empty() {
             return Err(Misuse::Unknown(word));
@@ -241,15 +270,26 @@ impl<'a> Arguments<'a> {
         Ok(Next::Any)
     }
 
-    /// Takes what follows an option in its word, which is its number, unless that is the next word.
-    fn take_value(&mut self, letter: u8, rest: &[u8]) -> Result<Next, Misuse<'a>>
-        ensures { Takes (value_gives letter rest.now)
+    /// Takes what follows an option in its word, unless the next word is what it takes.
+    fn take_value(&mut self, taken: Taken, letter: u8, rest: &'a [u8]) -> Result<Next, Misuse<'a>>
+        ensures { Takes (value_gives taken letter rest.now)
             (given_of self.old) (given_of self.new) result }
     {
         if rest.is_empty() {
-            return Ok(Next::Value(letter));
+            return Ok(Next::Value(taken, letter));
         }
-        self.take_number(letter, rest)
+        self.take_given(taken, letter, rest)
+    }
+
+    /// Takes the number or the text of an option.
+    fn take_given(&mut self, taken: Taken, letter: u8, bytes: &'a [u8]) -> Result<Next, Misuse<'a>>
+        ensures { Takes (taken_gives taken letter bytes.now)
+            (given_of self.old) (given_of self.new) result }
+    {
+        match taken {
+            Taken::Number => self.take_number(letter, bytes),
+            Taken::Text => self.take_text(letter, bytes),
+        }
     }
 
     /// Takes the number of an option.
@@ -261,6 +301,18 @@ impl<'a> Arguments<'a> {
             return Err(Misuse::NoNumber(letter));
         };
         self.add_number(letter, value)?;
+        Ok(Next::Any)
+    }
+
+    /// Takes the text of an option.
+    fn take_text(&mut self, letter: u8, bytes: &'a [u8]) -> Result<Next, Misuse<'a>>
+        ensures { Takes (text_or letter bytes.now)
+            (given_of self.old) (given_of self.new) result }
+    {
+        let Ok(value) = str::from_utf8(bytes) else {
+            return Err(Misuse::NoText(letter));
+        };
+        self.add_text(letter, value)?;
         Ok(Next::Any)
     }
 
@@ -276,6 +328,14 @@ impl<'a> Arguments<'a> {
             (given_of self.new ≡ join (given_of self.old) (with_number letter value)) }
     {
         self.numbers.push(Number { letter, value })?;
+        Ok(())
+    }
+
+    fn add_text(&mut self, letter: u8, value: &'a str) -> Result<(), AllocError>
+        ensures { OnOk result
+            (given_of self.new ≡ join (given_of self.old) (with_text letter value.now)) }
+    {
+        self.texts.push(Text { letter, value })?;
         Ok(())
     }
 

@@ -13,7 +13,7 @@ use tinyjson_lines::{write_all, write_line};
 pub const INDENT: Known<'static> = Known {
     letter: b'i',
     name: "indent",
-    takes_number: false,
+    takes: None,
 };
 
 /// Writes the text of the value, compact or indented with two spaces, and a line feed.

@@ -18,7 +18,7 @@ mod texts;
 mod unanswered;
 
 pub use answer::{Answer, answer_files};
-pub use arguments::{Arguments, Known, Misuse, Number, read_arguments};
+pub use arguments::{Arguments, Known, Misuse, Number, Taken, Text, read_arguments};
 pub use failure::{Failure, Message, Place};
 pub use input::{read_named, read_text, reading_error, writing_error};
 pub use layout::{INDENT, write_laid_out};

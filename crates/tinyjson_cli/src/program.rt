@@ -3,7 +3,7 @@ ghost use Rattle.std.specs.Prelude.{◌≡◌, IfErr, map, string_bytes};
 ghost use Rattle.tinyjson_cli.specs.Failures.{failure_status};
 ghost use Rattle.tinyjson_cli.specs.Ending.{Asks, IsOfArguments, IsOfPage, misuse_status};
 
-use crate::arguments::{Arguments, Known, Misuse, read_arguments};
+use crate::arguments::{Arguments, Known, Misuse, Taken, read_arguments};
 use crate::failure::{Failure, Message};
 use crate::input::writing_error;
 use crate::status::Status;
@@ -14,21 +14,21 @@ use std::io::{self, ErrorKind, Write};
 pub const HELP: Known<'static> = Known {
     letter: b'h',
     name: "help",
-    takes_number: false,
+    takes: None,
 };
 
 /// What all programs know: `-V` and `--version`.
 pub const VERSION: Known<'static> = Known {
     letter: b'V',
     name: "version",
-    takes_number: false,
+    takes: None,
 };
 
 /// What programs know that read lines: `-m` and `--max-line`.
 pub const MAX_LINE: Known<'static> = Known {
     letter: b'm',
     name: "max-line",
-    takes_number: true,
+    takes: Some(Taken::Number),
 };
 
 /// The version of all programs.

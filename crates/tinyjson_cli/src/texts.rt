@@ -22,7 +22,7 @@ use tinyjson_lines::{Cause, LineHandler, content, for_each_line};
 pub const LINES: Known<'static> = Known {
     letter: b'l',
     name: "lines",
-    takes_number: false,
+    takes: None,
 };
 
 /// Why a text has no answer.

@@ -8,7 +8,7 @@ pub returns-then-is_empty : goal.returns-then-is_empty
 returns-then-is_empty c = (
   nothing,
   ap (name_gives c.args.word.now) (sym c.with_name.ensures ∙ ap (option_map (λ r. (r.0, r.1.now))) c.in-Some.is)
-      ∙ name_value _ c.in-Some.option _ c.if-option.true (grind (arith, common_steps)),
+      ∙ name_value _ c.in-Some.option _ _ c.in-Some-takes.is (grind (arith, common_steps)),
   join_nothing _,
 )
 
@@ -16,6 +16,6 @@ pub returns : goal.returns
 returns c = (
   flag c.in-Some.option.letter,
   ap (name_gives c.args.word.now) (sym c.with_name.ensures ∙ ap (option_map (λ r. (r.0, r.1.now))) c.in-Some.is)
-      ∙ name_flag _ c.in-Some.option _ c.if-option.false (grind (arith, common_steps)),
+      ∙ name_flag _ c.in-Some.option _ c.in_default-takes.is (grind (arith, common_steps)),
   c.in_ok-add_flag.ensures,
 )
