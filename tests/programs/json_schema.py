@@ -4,6 +4,7 @@ import itertools
 import json
 import os
 import re
+import tempfile
 
 from checks import shared
 from faults import BROKEN, FOLDER, FULL, NO_TEXT, Faults
@@ -1209,6 +1210,7 @@ ROWS = [
     *((words, b"1", misused("json_schema", "SCHEMA is missing")) for words in ([], ["-l"])),
     ([NOT_UTF8], b"1", misused("json_schema", "an argument is not UTF-8")),
     (["-L", SCHEMA], b"1", misused("json_schema", 'unknown option "-L"')),
+    *((words, b"1", misused("json_schema", "no text after -r")) for words in ([SCHEMA, "-r"], ["--ref"])),
     *((words, b"1\n", (1, unit_of("", "/type", NO_OBJECT, line=1), b"")) for words in ([SCHEMA, "-l"], ["--lines", SCHEMA, "-"])),
     (["/none"], b"1", reported(2, "json_schema", "/none: No such file or directory (os error 2)")),
     (["/"], b"1", reported(2, "json_schema", "/: Is a directory (os error 21)")),
@@ -1245,6 +1247,7 @@ REFUSED_MEMORY = [
     (["-lt", SCHEMA], b'{"id":1,"tags":["x",3]}\n[1,]\n'),
     (["-i", SCHEMA], b'{"id":1,"tags":["x",3]}\n[1,]\n{"id":1,"tags":[]}\n'),
     ([DRAFT_FILE], b'{"x":[1,2],"y":3}'),
+    (["-r", f"a={UNKNOWN_WORDS}", "-r", f"b={DRAFT_FILE}", SCHEMA], b'{"id":1,"tags":["x",3]}'),
 ]
 
 
@@ -1423,6 +1426,96 @@ def check_texts(checks):
         checks.row(f"json_schema: {words} {names}", tuple(answer), run_small, program("json_schema"), [*words, "schema", *names], given, cwd=checks.folder, at=row)
 
 
+# Further documents by `-r`. The files, of which the first one is the schema; the arguments; values that are valid; and others, each with the
+# place in it and the keyword's.
+X, NAMED_7 = '{"$defs":{"x":{"type":"integer"}}}', '"$schema":"http://json-schema.org/draft-07/schema#"'
+COMMON = {"schema": '{"$ref":"common.json#/$defs/x"}', "common.json": X}
+LISTED = '{"definitions":{"x":{"items":[{"type":"integer"}],"additionalItems":false}}}'
+DOCUMENTS = [
+    # RFC 3986, 5.2: a relative reference between two files of one folder, whatever the base URI is.
+    *((COMMON, words, ["1"], [('"a"', "", "/$ref/type")]) for words in (["-r", "common.json"], ["-rcommon.json"], ["--ref", "common.json"], ["--ref=common.json"])),
+    ({**COMMON, "schema": '{"$id":"http://a/b/c","$ref":"common.json#/$defs/x"}'}, ["-r", "common.json"], ["1"], [('"a"', "", "/$ref/type")]),
+    ({"d/schema": '{"$ref":"e/common.json#/$defs/x"}', "d/e/common.json": X}, ["-r", "d/e/common.json"], ["1"], [('"a"', "", "/$ref/type")]),
+    # Core, 9.1.1: by the URI that it was found at.
+    ({"schema": '{"$ref":"http://a/b?c#/$defs/x"}', "common.json": X}, ["-r", "http://a/b?c=common.json"], ["1"], [('"a"', "", "/$ref/type")]),
+    ({"schema": '{"$ref":"b#/$defs/x"}', "d/common.json": X}, ["--ref=b=d/common.json"], ["1"], [('"a"', "", "/$ref/type")]),
+    # 8.2.1: by its own `$id`, which is resolved by where it was found.
+    ({"schema": '{"$ref":"http://a/b#/$defs/x"}', "common.json": '{"$id":"http://a/b",' + X[1:]}, ["-r", "common.json"], ["1"], [('"a"', "", "/$ref/type")]),
+    ({"schema": '{"$ref":"d/b#/$defs/x"}', "d/common.json": '{"$id":"b",' + X[1:]}, ["-r", "d/common.json"], ["1"], [('"a"', "", "/$ref/type")]),
+    ({"schema": '{"$ref":"http://a/b#/$defs/x"}', "common.json": '{"$id":"b",' + X[1:]}, ["-r", "http://a/c=common.json"], ["1"], [('"a"', "", "/$ref/type")]),
+    # Several of them, which refer to one another and to the schema; names, and resources within.
+    ({"schema": '{"$ref":"a","$defs":{"n":{"type":"null"}}}', "a": '{"items":{"$ref":"b#b"}}', "b": '{"$defs":{"b":{"$anchor":"b","anyOf":[{"$ref":"schema#/$defs/n"},{"type":"array","$ref":"a"}]}}}'},
+     ["-r", "a", "-r", "b"], ["[null,[]]", "1"], [("[1]", "/0", "/$ref/items/$ref/anyOf")]),
+    ({"schema": '{"prefixItems":[{"$ref":"a"},{"$ref":"b"}]}', "a": '{"type":"null"}', "b": '{"type":"string"}'}, ["-r", "a", "-r", "b"], ['[null,"a"]'],
+     [("[1]", "/0", "/prefixItems/0/$ref/type"), ("[null,null]", "/1", "/prefixItems/1/$ref/type")]),
+    ({"schema": '{"$ref":"http://a/d"}', "a": '{"$id":"http://a/b","$defs":{"c":{"$id":"d","type":"null"}}}'}, ["-r", "a"], ["null"], [("1", "", "/$ref/type")]),
+    ({"d/schema": '{"$ref":"e/a"}', "d/e/a": '{"items":{"$ref":"../schema#/$defs/n"}}', "d/schema": '{"$ref":"e/a","$defs":{"n":{"type":"null"}}}'}, ["-r", "d/e/a"], ["[null]"], [("[1]", "/0", "/$ref/items/$ref/type")]),
+    # 4.3.2: schemas that are truth values; a schema that is one refers to nothing.
+    ({"schema": '{"properties":{"a":{"$ref":"t"},"b":{"$ref":"f"}}}', "t": "true", "f": "false"}, ["-rt", "-rf"], ['{"a":1}'], [('{"b":1}', "/b", "/properties/b/$ref/not")]),
+    ({"schema": "false", "common.json": X}, ["-r", "common.json"], [], [("1", "", "")]),
+    # Each in its draft, or else in that of the schema.
+    ({"schema": '{%s,"items":{"$ref":"a#/definitions/x","type":"null"}}' % NAMED_7, "a": "{%s,%s" % (NAMED_7, LISTED[1:])}, ["-r", "a"], ["[1]", "[[1]]"], [('[["a"]]', "/0/0", "/items/$ref/prefixItems/0/type"), ("[[1,2]]", "/0/1", "/items/$ref/items")]),
+    ({"schema": '{"items":{"$ref":"a#/definitions/x","type":"array"}}', "a": "{%s,%s" % (NAMED_7, LISTED[1:])}, ["-r", "a"], ["[[1]]"], [('[["a"]]', "/0/0", "/items/$ref/prefixItems/0/type"), ("[1]", "/0", "/items/type")]),
+    ({"schema": '{%s,"items":{"$ref":"a#/definitions/x"}}' % NAMED_7, "a": LISTED}, ["-r", "a", "-d", "2020"], ["[[1]]"], [("[[1,2]]", "/0/1", "/items/$ref/items")]),
+    ({"schema": '{"items":{"$ref":"a#/definitions/x"}}', "a": LISTED}, ["-r", "a", "-d", "7"], ["[[1]]"], [("[[1,2]]", "/0/1", "/items/$ref/items")]),
+    ({"schema": '{%s,"$ref":"a","type":"null"}' % NAMED_7, "a": '{"$schema":"https://json-schema.org/draft/2020-12/schema","prefixItems":[{"type":"null"}]}'}, ["-r", "a"], ["[null]", "1"], [("[1]", "/0", "/$ref/prefixItems/0/type")]),
+    ({"schema": '{"$schema":"http://json-schema.org/draft-04/schema#","$ref":"b"}', "a": '{"id":"b","maximum":1,"exclusiveMaximum":true}'}, ["-r", "a"], ["0"], [("1", "", "/$ref/exclusiveMaximum")]),
+]
+
+# What is told where a document can't be had, or where the schema then can't be applied.
+REFUSED_DOCUMENTS = [
+    ({**COMMON, "other.json": X}, ["-r", "other.json"], NOT_APPLIED % "/$ref"),
+    ({**COMMON, "d/common.json": X}, ["-r", "d/common.json"], NOT_APPLIED % "/$ref"),
+    ({**COMMON, "common.json": '{"$id":"b",' + X[1:]}, ["-r", "common.json"], NOT_APPLIED % "/$ref"),
+    ({**COMMON, "common.json": '{"$ref":"other.json"}'}, ["-r", "common.json"], NOT_APPLIED % "/$defs/common.json/$ref"),
+    ({**COMMON, "common.json": '{"$defs":{"x":{"type":"any"}}}'}, ["-r", "common.json"], NOT_APPLIED % "/$defs/common.json/$defs/x/type"),
+    ({**COMMON, "common.json": "5"}, ["-r", "common.json"], NOT_APPLIED % "/$defs/common.json"),
+    ({**COMMON, "common.json": '{"$id":5}'}, ["-r", "http://a/b=common.json"], NOT_APPLIED % "/$defs/http:~1~1a~1b/$id"),
+    ({**COMMON, "common.json": '{"$id":"a#b"}'}, ["-r", "common.json"], NOT_APPLIED % "/$defs/common.json/$id"),
+    ({**COMMON, "a": '{"$id":"b"}', "b": "{}"}, ["-r", "a", "-r", "b"], NOT_APPLIED % "/$defs/b/$id"),
+    ({"schema": '{"$defs":[]}', "common.json": X}, ["-r", "common.json"], NOT_APPLIED % "/$defs"),
+    (COMMON, ["-r", "common.json", "-r", "common.json"], 'two documents have the URI "common.json"'),
+    (COMMON, ["-r", "a\x1b=common.json", "-r", "a\x1b=schema"], 'two documents have the URI "aU+001B"'),
+    ({"schema": '{"$defs":{"common.json":{}}}', "common.json": X}, ["-r", "common.json"], 'two documents have the URI "common.json"'),
+    (COMMON, ["-r", "none"], "none: No such file or directory (os error 2)"),
+    (COMMON, ["-r", "a=b=c"], "b=c: No such file or directory (os error 2)"),
+    ({**COMMON, "common.json": '{"a":\n[1,]}'}, ["-r", "common.json"], "common.json:2:3: Invalid character: ]"),
+    ({**COMMON, "common.json": "["}, ["-r", "a=common.json"], "common.json:1:1: Unexpected EOF"),
+    ({**COMMON, "common.json": NOT_UTF8}, ["-r", "common.json"], "common.json:1:0: not UTF-8"),
+]
+
+
+def with_files(folder, files, words, given):
+    """The answer with these files, of which the first one is the schema, without the words of reports and of what can't be applied."""
+    with tempfile.TemporaryDirectory(dir=folder) as inner:
+        for name, text in files.items():
+            path = os.path.join(inner, name)
+            os.makedirs(os.path.dirname(path), exist_ok=True)
+            with open(path, "wb") as file:
+                file.write(text.encode() if isinstance(text, str) else text)
+        status, output, errors = run_small(program("json_schema"), [*words, next(iter(files))], given, cwd=inner)
+    return status, ERROR.sub(b'"error":"%s"' % UNMET.encode(), output), REASON.sub(rb"\1\n", errors)
+
+
+def check_documents(checks):
+    def row(files, words, value, expected, at):
+        checks.row(f"json_schema: {words} {list(files)} {value[:60]}", expected, with_files, checks.folder, files, words, value.encode(), at=at)
+
+    for at in DOCUMENTS:
+        files, words, valid, others = at
+        for value, expected in [*((value, judged(None)) for value in valid), *((value, judged(places)) for value, *places in others)]:
+            row(files, words, value, expected, at)
+    for at in REFUSED_DOCUMENTS:
+        files, words, message = at
+        row(files, words, "1", reported(2, "json_schema", message), at)
+    told_of = told(['the schema: "http://a" is an unknown $schema', 'the schema: "maximun" is no keyword'])
+    files = {"schema": "{}", "a": '{"$schema":"http://a","maximun":3}'}
+    row(files, ["-r", "a"], "1", (0, b"", told_of), files)
+    deep = '{"items":' * (LEVELS - 1) + "{}" + "}" * (LEVELS - 1)
+    row({"schema": '{"$ref":"a"}', "a": deep}, ["-r", "a"], "[" * LEVELS + "]" * LEVELS, judged(None), None)
+    row(COMMON, ["-r"], "1", misused("json_schema", "SCHEMA is missing"), None)
+
+
 def check_padded(checks):
     """The same with 40 schemas more in each list, 40 names in each object of them, 40 members in each object that no pattern asks of,
     and 40 items in each array whose items no schema judges. The values of a schema are the lines of one input."""
@@ -1486,4 +1579,4 @@ def check_memory(checks):
 
 PAGE, LINES_PAGE = Page("json_schema", [SCHEMA], b"[1]"), Page("json_schema", ["-l", SCHEMA], b"[1]", is_lines=True)
 
-PARTS = (PAGE.check, LINES_PAGE.check_pipes, *shared(check_rows), check_words, check_reasons, check_drafts, check_lines, check_long_lines, check_files, check_texts, check_padded, check_padded_lines, check_deep, check_order, check_faults, *shared(check_memory))
+PARTS = (PAGE.check, LINES_PAGE.check_pipes, *shared(check_rows), check_words, check_reasons, check_drafts, check_lines, check_long_lines, check_files, check_texts, check_documents, check_padded, check_padded_lines, check_deep, check_order, check_faults, *shared(check_memory))

@@ -2,7 +2,7 @@
 use Rattle.std.specs.Fmt.{decimal}
 use Rattle.std.specs.Prelude.{◌≡◌, ℕ, ◌⊎◌, List, ◌++◌, Option, Some, codes}
 use Rattle.std.specs.Str.{chars}
-use Rattle.tinyjson.specs.Error.{error_kind, error_message}
+use Rattle.tinyjson.specs.Error.{error_kind, error_message, error_position, kind_message}
 use Rattle.tinyjson.specs.JsonParseErrorKind.TheVariants as kind
 use Rattle.tinyjson.specs.View.{view, text}
 use Rattle.tinyjson.specs.declared.parser.error.JsonParseError.{JsonParseError}
@@ -22,10 +22,17 @@ use Rattle.json_schema.specs.declared.failure.SchemaFailure.TheVariants as is
 use Rattle.json_schema.specs.declared.verdict.Cause.{Cause}
 use Rattle.json_schema.specs.declared.verdict.Cause.TheVariants as cause
 
+-- where a document in the file with this name is no JSON
+abbrev pub document_message : List ℕ → JsonParseError → List ℕ
+document_message name e = shown (chars name) ++ (codes ":" ++ (decimal (error_position e).line
+    ++ (codes ":" ++ (decimal (error_position e).column ++ (codes ": " ++ kind_message (error_kind e))))))
+
 abbrev pub schema_message : SchemaFailure → List ℕ
 schema_message (is.Text e) = codes "the schema: " ++ error_message e
 schema_message (is.Refused place words) =
     codes "the schema: at \"" ++ (shown (text place) ++ (codes "\": " ++ shown (text words)))
+schema_message (is.Document file e) = document_message file.now e
+schema_message (is.Twice u) = codes "two documents have the URI \"" ++ (shown (chars u.now) ++ codes "\"")
 schema_message (is.NoDraft n) = codes "no draft " ++ (decimal n ++ codes ": the drafts are 4, 6, 7, 2019 and 2020")
 
 -- a failure with this status and this message
@@ -47,6 +54,11 @@ FailsRefused r f =
 abbrev pub TellsSchemaText : JsonParseError → Failure → Type 0
 TellsSchemaText e f =
     ((error_kind e ≡ kind.OutOfMemory) × (f ≡ failure.OutOfMemory)) ⊎ (¬ (error_kind e ≡ kind.OutOfMemory) × TellsSchema (is.Text e) f)
+
+-- Status 2 and the message for a document whose text is no JSON, in the file with this name; or out of memory.
+abbrev pub TellsDocument : List ℕ → JsonParseError → Failure → Type 0
+TellsDocument name e f = ((error_kind e ≡ kind.OutOfMemory) × (f ≡ failure.OutOfMemory))
+    ⊎ (¬ (error_kind e ≡ kind.OutOfMemory) × (Is Misused (document_message name e) f ⊎ (f ≡ failure.OutOfMemory)))
 
 -- Status 3 and the reason why a text can't be checked, with the parser's place if it is no JSON; or out of memory.
 abbrev pub TellsText : Cause → Failure → Type 0

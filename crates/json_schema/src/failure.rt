@@ -1,6 +1,7 @@
 //! The failures of the program.
 ghost use Rattle.std.specs.Prelude.{Some};
 ghost use Rattle.json_schema.specs.Failures.{schema_message, TellsSchema, TellsSchemaText, TellsText};
+ghost use Rattle.json_schema.specs.Failures.{TellsDocument};
 ghost use Rattle.json_schema.specs.Failures.{FailsRefused};
 
 use crate::verdict::Cause;
@@ -12,17 +13,27 @@ use tinyjson_schema_words::{Refusal, refused_words};
 
 /// Why a schema is not applied.
 #[derive(Drop)]
-pub enum SchemaFailure {
+pub enum SchemaFailure<'a> {
     /// It is no JSON text.
     Text(JsonParseError),
     /// It can't be applied, as the words say, at the place to which the pointer leads.
-    Refused { place: String, words: String },
+    Refused {
+        place: String,
+        words: String,
+    },
+    /// The further document in this file is no JSON text.
+    Document {
+        file: &'a str,
+        error: JsonParseError,
+    },
+    /// Two documents have this URI.
+    Twice(&'a str),
     /// There is no draft of this number.
     NoDraft(usize),
 }
 
 /// The message that the program writes after its name.
-impl fmt::Display for SchemaFailure {
+impl fmt::Display for SchemaFailure<'_> {
     ghost output = { λ e. Some (schema_message e) };
 
     fn fmt<W: fmt::Write>(&self, f: &mut fmt::Formatter<W>) -> fmt::Result {
@@ -32,6 +43,13 @@ impl fmt::Display for SchemaFailure {
                 let place = Shown(place.as_str());
                 let words = Shown(words.as_str());
                 write!(f, "the schema: at \"{place}\": {words}")
+            }
+            SchemaFailure::Document { file, error } => {
+                let (line, column) = (error.line(), error.column());
+                write!(f, "{}:{line}:{column}: {}", Shown(file), error.kind())
+            }
+            SchemaFailure::Twice(uri) => {
+                write!(f, "two documents have the URI \"{}\"", Shown(uri))
             }
             SchemaFailure::NoDraft(number) => {
                 write!(
@@ -44,7 +62,7 @@ impl fmt::Display for SchemaFailure {
 }
 
 /// The failure for a schema that is not applied, with its message and status.
-pub fn schema_failure(alloc: Global, failure: &SchemaFailure) -> Failure
+pub fn schema_failure(alloc: Global, failure: &SchemaFailure<'_>) -> Failure
     ensures { TellsSchema failure.now result }
 {
     match failure.to_string(alloc) {
@@ -76,6 +94,16 @@ pub fn schema_text_failure(alloc: Global, error: JsonParseError) -> Failure
         return Failure::OutOfMemory;
     }
     schema_failure(alloc, &SchemaFailure::Text(error))
+}
+
+/// The failure for a further document whose text is no JSON; or out of memory.
+pub fn document_failure(alloc: Global, file: &str, error: JsonParseError) -> Failure
+    ensures { TellsDocument file.now error result }
+{
+    match error.kind() {
+        JsonParseErrorKind::OutOfMemory => Failure::OutOfMemory,
+        _ => schema_failure(alloc, &SchemaFailure::Document { file, error }),
+    }
 }
 
 /// The failure for a text that is not checked, with its message and status.

@@ -2,9 +2,10 @@
 #![tactic(auto)]
 
 ghost use Rattle.std.specs.Prelude.{◌≡◌, option_map, map};
-ghost use Rattle.tinyjson_cli.specs.Arguments.{given_of};
+ghost use Rattle.tinyjson_cli.specs.Arguments.{given_of, text_of};
 ghost use Rattle.json_schema.specs.Options.{asks, asked_shows, are_lines};
 
+mod documents;
 mod failure;
 mod lines;
 mod refusal;
@@ -12,6 +13,7 @@ mod report;
 mod unknown;
 mod verdict;
 
+use documents::{Whole, with_documents};
 use failure::{SchemaFailure, refused_failure, schema_failure, schema_text_failure, text_failure};
 use lines::{Check, Shows, check_lines};
 use report::{write_report, write_text};
@@ -22,8 +24,8 @@ use std::process::ExitCode;
 use tinyjson::JsonValue;
 use tinyjson_cli::{
     Answer, AnswerLines, Arguments, Failure, HELP, Known, MAX_LINE, Misuse, Program, Status, Taken,
-    VERSION, answer_files, answer_lines, argument_words, arguments_of, misused, read_named, report,
-    writing_error,
+    Text, VERSION, answer_files, answer_lines, argument_words, arguments_of, misused, read_named,
+    report, writing_error,
 };
 use tinyjson_schema::{Schema, SchemaError, unknown_words};
 use tinyjson_schema_bundle::bundled;
@@ -44,6 +46,13 @@ const DRAFT: Known<'static> = Known {
     letter: b'd',
     name: "draft",
     takes: Some(Taken::Number),
+};
+
+/// `-r` and `--ref`.
+const REF: Known<'static> = Known {
+    letter: b'r',
+    name: "ref",
+    takes: Some(Taken::Text),
 };
 
 /// `-t` and `--text`.
@@ -69,9 +78,11 @@ const INVALID: Known<'static> = Known {
 
 const PROGRAM: Program<'static> = Program {
     name: "json_schema",
-    options: &[LINES, TEXT, VALID, INVALID, MAX_LINE, DRAFT, HELP, VERSION],
+    options: &[
+        LINES, TEXT, VALID, INVALID, MAX_LINE, DRAFT, REF, HELP, VERSION,
+    ],
     help: "\
-Usage: json_schema [-l] [-t | -v | -i] [-m N] [-d DRAFT] SCHEMA [FILE..]
+Usage: json_schema [-l] [-t | -v | -i] [-m N] [-d DRAFT] [-r FILE].. SCHEMA [FILE..]
 
 Checks JSON texts against a JSON Schema of draft 4, 6, 7, 2019-09 or 2020-12.
 SCHEMA is the name of the schema's file. Of a value that is not valid one line
@@ -91,6 +102,8 @@ Options:
   -i, --invalid     check each line, and print the others
   -m, --max-line N  with -l: do not check or keep a line of more than N bytes
   -d, --draft N     read a schema that names no draft in draft N
+  -r, --ref FILE    let references lead into this schema, too: by its $id or its
+                    name in the folder of SCHEMA, or by a URI: -r URI=FILE
   -h, --help        print this page
   -V, --version     print the version
 
@@ -141,16 +154,18 @@ struct Request<'w, 'a> {
     max_line: Option<usize>,
     /// The draft that a schema is read in which names none.
     draft: Option<usize>,
+    /// The further documents that references lead into.
+    documents: &'a [Text<'w>],
     /// The name of the schema's file.
     schema: &'w str,
     /// The files that are checked.
     files: &'a [&'w str],
 }
 
-/// Parses the arguments: `[-l] [-t | -v | -i] [-m N] [-d DRAFT] SCHEMA [FILE..]`.
+/// Parses the arguments: `[-l] [-t | -v | -i] [-m N] [-d DRAFT] [-r FILE].. SCHEMA [FILE..]`.
 fn requested<'w, 'a>(arguments: &'a Arguments<'w>) -> Option<Request<'w, 'a>>
     ensures { option_map (λ r. (
-      ((r.by_lines, r.shows), (r.max_line, r.draft)),
+      ((r.by_lines, r.shows), ((r.max_line, r.draft), map text_of r.documents.now)),
       (r.schema.now, map (λ f. f.now) r.files.now),
     )) result ≡ asks (given_of arguments.now) }
 {
@@ -164,6 +179,7 @@ fn requested<'w, 'a>(arguments: &'a Arguments<'w>) -> Option<Request<'w, 'a>>
         shows,
         max_line,
         draft,
+        documents: arguments.texts.as_slice(),
         schema,
         files,
     })
@@ -193,11 +209,18 @@ fn are_lines(shows: Shows) -> bool
 
 /// Reads the schema, and checks the inputs.
 fn check_inputs(rt: &HostRuntime, request: &Request<'_, '_>) -> Result<Status, Failure> {
-    let draft = asked_draft(rt.alloc(), request.draft)?;
+    let default = asked_draft(rt.alloc(), request.draft)?;
     let tree = schema_tree(rt, request.schema)?;
     tell_unknown(rt, &tree)?;
-    let is_older = is_older(&tree, draft);
-    let tree = read_as(tree, draft, rt.alloc())?;
+    let draft = draft_of(&tree, default);
+    let whole = Whole {
+        tree: read_as(tree, default, rt.alloc())?,
+        is_older: is_older(draft),
+    };
+    let Whole { tree, is_older } = match request.documents {
+        [] => whole,
+        documents => with_documents(rt, whole, request.schema, draft, documents)?,
+    };
     let schema = bundled(&tree, rt.alloc());
     tree.dismantle();
     let schema = schema?;
@@ -293,12 +316,16 @@ fn by_texts(rt: &HostRuntime, files: &[&str], asked: &Asked<'_, '_>) -> Status {
     status
 }
 
-/// Whether the schema is of another draft than 2020-12: of the one that it names, or else of the default.
-fn is_older(tree: &JsonValue, default: Draft) -> bool {
-    let draft = match dialect_of(tree) {
+/// The draft that the schema names, or else the default.
+fn draft_of(tree: &JsonValue, default: Draft) -> Draft {
+    match dialect_of(tree) {
         Dialect::Known(draft) => draft,
         Dialect::Missing | Dialect::Unknown => default,
-    };
+    }
+}
+
+/// Whether it is another draft than 2020-12.
+fn is_older(draft: Draft) -> bool {
     !matches!(draft, Draft::Draft202012)
 }
 
