@@ -6,6 +6,7 @@ import tempfile
 
 from faults import BROKEN, FOLDER, FULL, NO_TEXT, Faults
 from pages import CONTROLS, SHOWN_CONTROLS, Page, misused
+from replaced import Folder
 from running import program, reported, run_of
 from values import LONG, NESTED
 
@@ -45,31 +46,6 @@ INTERRUPTED = [([], LONG, LONG + b"\n")]
 REFUSED_MEMORY = [([], b'{"b":1,"a":[1,"x"]}')]
 
 
-class Folder:
-    """A folder with files, in which the program runs."""
-
-    def __init__(self, path, **files):
-        self.path = path
-        for name, text in files.items():
-            self.write(name.replace("_", "."), text)
-
-    def write(self, name, text):
-        with open(f"{self.path}/{name}", "wb") as file:
-            file.write(text)
-
-    def read(self, name):
-        with open(f"{self.path}/{name}", "rb") as file:
-            return file.read()
-
-    def run(self, *words, given=b""):
-        return run_of(program("json_format"), words, given, cwd=self.path)
-
-    def state(self, name):
-        """What is different in a file that was touched."""
-        at = os.stat(f"{self.path}/{name}")
-        return at.st_ino, at.st_mtime_ns, at.st_ctime_ns, at.st_mode, self.read(name)
-
-
 def check_rows(checks):
     for row in ROWS:
         words, given, expected = row
@@ -82,7 +58,7 @@ def check_rows(checks):
 def in_place(words, indent):
     """What is printed of a file that is formatted twice, whether its form and its mode are right, and what is in its folder."""
     with tempfile.TemporaryDirectory() as path:
-        folder = Folder(path, a_json=LOOSE)
+        folder = Folder("json_format", path, a_json=LOOSE)
         os.chmod(f"{path}/a.json", 0o640)
         first = folder.run(*words, "a.json")
         formed = folder.state("a.json")
@@ -94,7 +70,7 @@ def in_place(words, indent):
 def left_alone(words, text, name="a.json"):
     """The answer for a file, and whether the file was not touched, with a file beside it that is formatted."""
     with tempfile.TemporaryDirectory() as path:
-        folder = Folder(path, b_json=LOOSE)
+        folder = Folder("json_format", path, b_json=LOOSE)
         folder.write(name, text)
         before = folder.state(name)
         answer = folder.run(*words, "--", name, "b.json")
@@ -121,7 +97,7 @@ def check_files(checks):
 
 def read_only():
     with tempfile.TemporaryDirectory() as path:
-        folder = Folder(path, a_json=LOOSE, b_json=LOOSE)
+        folder = Folder("json_format", path, a_json=LOOSE, b_json=LOOSE)
         os.chmod(f"{path}/a.json", 0o444)
         return folder.run("a.json", "b.json"), folder.read("a.json") == LOOSE, folder.read("b.json") == form(2)
 
@@ -129,14 +105,14 @@ def read_only():
 def taken():
     """The name of the file that is written beside is taken."""
     with tempfile.TemporaryDirectory() as path:
-        folder = Folder(path, a_json=LOOSE, a_json_json=b"mine")
+        folder = Folder("json_format", path, a_json=LOOSE, a_json_json=b"mine")
         os.rename(f"{path}/a.json.json", f"{path}/a.json.json_format")
         return folder.run("a.json"), folder.read("a.json") == LOOSE, folder.read("a.json.json_format")
 
 
 def linked():
     with tempfile.TemporaryDirectory() as path:
-        folder = Folder(path, a_json=LOOSE)
+        folder = Folder("json_format", path, a_json=LOOSE)
         os.symlink("a.json", f"{path}/link.json")
         answer = folder.run("link.json")
         return answer, os.readlink(f"{path}/link.json"), folder.read("a.json") == form(2), sorted(os.listdir(path))
@@ -144,7 +120,7 @@ def linked():
 
 def unread():
     with tempfile.TemporaryDirectory() as path:
-        folder = Folder(path, b_json=LOOSE)
+        folder = Folder("json_format", path, b_json=LOOSE)
         os.mkdir(f"{path}/folder")
         return folder.run("none", "folder", "-", "b.json", given=b"1"), folder.read("b.json") == form(2)
 

@@ -8,6 +8,7 @@ from long_lines import LongLines, reports_each
 from padding import padded_merge, padded_rows
 from pages import Page, misused
 from places import TOP
+from replaced import InPlace
 from running import printed, program, reported, run_of
 from values import DEEP, LONG, NESTED, NOT_UTF8, normal
 
@@ -223,7 +224,9 @@ def check_deep(checks):
 
 PAGE = Page("json_merge", [PATCH])
 
+IN_PLACE = InPlace("json_merge", [PATCH], b'{"b":1.0}', b'{%s}\n' % ADDED.replace(b'"phone', b'"b":1,"phone'))
+
 LONG_LINES = LongLines("json_merge", ["-l", PATCH], reports_each("json_merge", lambda line: b"{%s}" % ADDED), is_going=True)
 
 
-PARTS = (PAGE.check, check_rows, check_lines, LONG_LINES.check, check_padded, check_deep, check_faults)
+PARTS = (PAGE.check, check_rows, check_lines, IN_PLACE.check, LONG_LINES.check, check_padded, check_deep, check_faults)

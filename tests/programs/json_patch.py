@@ -3,6 +3,7 @@
 import json
 import os
 import resource
+import tempfile
 
 from checks import shared
 from faults import BROKEN, FOLDER, FULL, NO_TEXT, Faults
@@ -10,6 +11,7 @@ from long_lines import LongLines, reports_each
 from pages import Page, misused
 from places import TOP
 from padding import padded_failure, padded_mistake, padded_patch, padded_rows
+from replaced import Folder, InPlace
 from running import printed, program, reported, run_of, small_stack
 from values import DEEP, LONG, NESTED, NOT_UTF8
 
@@ -647,4 +649,22 @@ def check_faults(checks):
 PAGE = Page("json_patch", [OPERATIONS], PATCHED)
 
 
-PARTS = (PAGE.check, *shared(check_rows), check_lines, check_long_lines, check_padded, check_many, check_deep, check_faults)
+def not_applied(path):
+    """The answer where an operation can't be applied, whether the file is as it was, and that beside it."""
+    with tempfile.TemporaryDirectory() as at:
+        folder = Folder("json_patch", at, a_json=b"[]", b_json=b"{}")
+        before = folder.state("a.json")
+        return folder.run("-I", path, "a.json", "b.json"), folder.state("a.json") == before, folder.read("b.json")
+
+
+def check_in_place(checks):
+    path = os.path.join(checks.folder, "put")
+    with open(path, "wb") as file:
+        file.write(patch(("add", "/a", "[1.0]")).encode())
+    InPlace("json_patch", [path], b'{"b":2.0}', b'{"a":[1],"b":2}\n').check(checks)
+    answer = (1, b"", b"a.json: operation 0: %s\n" % NO_PLACE.encode()), True, b'{"a":[1]}\n'
+    checks.row("json_patch -I: an operation can't be applied", answer, not_applied, path)
+
+
+PARTS = (PAGE.check, *shared(check_rows), check_lines, check_long_lines, check_in_place, check_padded, check_many, check_deep,
+    check_faults)

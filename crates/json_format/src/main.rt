@@ -3,17 +3,16 @@
 
 mod form;
 mod options;
-mod replace;
 
 use form::change;
 use options::{CHECK, INDENT, TABS, indent};
-use replace::replace;
 use std::io::{self, Write};
 use std::process::ExitCode;
 use tinyjson_cli::{
     Failure, HELP, Program, Shown, Status, VERSION, argument_words, arguments_of, read_text,
     report, writing_error,
 };
+use tinyjson_in_place::{is_last, replace};
 
 const PROGRAM: Program<'static> = Program {
     name: "json_format",
@@ -100,14 +99,6 @@ fn format_all(rt: &HostRuntime, files: &[&str], asked: Asked<'_>) -> Status {
     status
 }
 
-/// Whether no other input is formatted after a failure: where it is not about this input.
-fn is_last(failure: &Failure) -> bool {
-    matches!(
-        failure,
-        Failure::OutOfMemory | Failure::Closed | Failure::Writing(_)
-    )
-}
-
 /// Formats a file in place, or standard input to standard output; or only checks it.
 fn format_input(rt: &HostRuntime, file: Option<&str>, asked: Asked<'_>) -> Result<Status, Failure> {
     let text = read_text(rt, file)?;
@@ -136,13 +127,7 @@ fn print_name(rt: &HostRuntime, name: &str) -> Result<Status, Failure> {
     }
 }
 
-/// Replaces a file. The failure names it.
 fn replace_named(rt: &HostRuntime, name: &str, form: &[u8]) -> Result<Status, Failure> {
-    match replace(rt, name, form) {
-        Ok(()) => Ok(Status::Done),
-        Err(error) => Err(Failure::Failed(format!(in rt.alloc();
-            "{}: not written: {error}",
-            Shown(name)
-        )?)),
-    }
+    replace(rt, PROGRAM.name, name, form)?;
+    Ok(Status::Done)
 }

@@ -14,12 +14,13 @@ use tinyjson_cli::{
     HELP, INDENT, LINES, MAX_LINE, Misuse, Program, Status, VERSION, answer_texts, argument_words,
     arguments_of, misused, report,
 };
+use tinyjson_in_place::{IN_PLACE, answer_in_place};
 
 const PROGRAM: Program<'static> = Program {
     name: "json_merge",
-    options: &[LINES, MAX_LINE, INDENT, PATCHES, HELP, VERSION],
+    options: &[LINES, MAX_LINE, INDENT, IN_PLACE, PATCHES, HELP, VERSION],
     help: "\
-Usage: json_merge [-l] [-m N] [-i] [-p N] PATCH.. [FILE..]
+Usage: json_merge [-l | -I] [-m N] [-i] [-p N] PATCH.. [FILE..]
 
 Applies a JSON Merge Patch (RFC 7396) to each JSON text, and prints the result as
 compact text with sorted keys. PATCH is the name of the patch's file.
@@ -33,13 +34,15 @@ Options:
   -m, --max-line N  with -l: refuse a line of more than N bytes, and do not keep
                     it in memory
   -i, --indent      indent by two spaces
+  -I, --in-place    replace each file by its result; a file that has it already
+                    is not touched
   -p, --patches N   the first N names are patches, applied in order; if not
                     given, the first one is
   -h, --help        print this page
   -V, --version     print the version
 
 Exit status:
-  0  each result was printed
+  0  each result was printed, or is in its file
   1  with -l: a line is refused
   2  the arguments are not understood, or PATCH can't be read
      or is no JSON text
@@ -80,6 +83,9 @@ fn run(rt: &HostRuntime) -> Result<Status, Status> {
                 patches: patches.as_slice(),
                 is_indented,
             };
+            if arguments.has(b'I') {
+                return Ok(answer_in_place(rt, PROGRAM, texts, files, &asked));
+            }
             Ok(answer_texts(rt, PROGRAM, texts, files, asked))
         }
         Err(failure) => Err(report(rt, PROGRAM, None, &failure)),

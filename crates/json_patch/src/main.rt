@@ -14,12 +14,13 @@ use tinyjson_cli::{
     HELP, INDENT, LINES, MAX_LINE, Misuse, Program, Status, VERSION, answer_texts, argument_words,
     arguments_of, misused, report,
 };
+use tinyjson_in_place::{IN_PLACE, answer_in_place};
 
 const PROGRAM: Program<'static> = Program {
     name: "json_patch",
-    options: &[LINES, MAX_LINE, INDENT, HELP, VERSION],
+    options: &[LINES, MAX_LINE, INDENT, IN_PLACE, HELP, VERSION],
     help: "\
-Usage: json_patch [-l] [-m N] [-i] PATCH [FILE..]
+Usage: json_patch [-l | -I] [-m N] [-i] PATCH [FILE..]
 
 Applies a JSON Patch (RFC 6902) to each JSON text, and prints the result as
 compact text with sorted keys. PATCH is the name of the patch's file.
@@ -33,11 +34,13 @@ Options:
   -m, --max-line N  with -l: refuse a line of more than N bytes, and do not keep
                     it in memory
   -i, --indent      indent by two spaces
+  -I, --in-place    replace each file by its result; a file that has it already
+                    is not touched
   -h, --help        print this page
   -V, --version     print the version
 
 Exit status:
-  0  each result was printed
+  0  each result was printed, or is in its file
   1  an operation can't be applied to a text's value, or a test fails;
      with -l: a line is refused
   2  the arguments are not understood, or PATCH can't be read,
@@ -81,6 +84,9 @@ fn run(rt: &HostRuntime) -> Result<Status, Status> {
                 patch: &patch,
                 is_indented,
             };
+            if arguments.has(b'I') {
+                return Ok(answer_in_place(rt, PROGRAM, texts, files, &asked));
+            }
             Ok(answer_texts(rt, PROGRAM, texts, files, asked))
         }
         Err(failure) => Err(report(rt, PROGRAM, None, &failure)),

@@ -1,12 +1,34 @@
 //! A file that is replaced.
 
+use std::alloc::Global;
 use std::fs::{self, OpenOptions};
 use std::io::{self, ErrorKind, Write};
+use tinyjson_cli::{Failure, Shown};
 
 /// Gives a file these bytes as its content. They are written to a file beside it, with its permissions, which then takes
-/// its name: so the file has its old content or the new one, also where the program is killed. A symbolic link stays
-/// one, and the file that it leads to is replaced.
-pub fn replace(rt: &HostRuntime, name: &str, bytes: &[u8]) -> io::Result<()> {
+/// its name: so the file has its old content or the new one, also where the program is killed. The name of that file is
+/// `FILE.PROGRAM`; where it is taken, or the file is read-only, the failure says so, and nothing has changed. A symbolic
+/// link stays one, and the file that it leads to is replaced.
+///
+/// ```
+/// replace(rt, "json_format", "settings.json", b"{}\n")? // writes settings.json.json_format, and renames it
+/// ```
+pub fn replace(rt: &HostRuntime, program: &str, name: &str, bytes: &[u8]) -> Result<(), Failure> {
+    match replaced(rt, program, name, bytes) {
+        Ok(()) => Ok(()),
+        Err(error) => Err(failure(rt.alloc(), name, error)),
+    }
+}
+
+/// The failure for a file that is not replaced. It names the file.
+fn failure(alloc: Global, name: &str, error: io::Error) -> Failure {
+    match format!(in alloc; "{}: not written: {error}", Shown(name)) {
+        Ok(words) => Failure::Failed(words),
+        Err(_) => Failure::OutOfMemory,
+    }
+}
+
+fn replaced(rt: &HostRuntime, program: &str, name: &str, bytes: &[u8]) -> io::Result<()> {
     let path = fs::canonicalize(rt, name)?;
     let path = path.as_str();
     let metadata = fs::metadata(rt, path)?;
@@ -17,7 +39,7 @@ pub fn replace(rt: &HostRuntime, name: &str, bytes: &[u8]) -> io::Result<()> {
     if permissions.readonly() {
         return Err(io::Error::new(ErrorKind::PermissionDenied, "it is read-only"));
     }
-    let beside = format!(in rt.alloc(); "{path}.json_format")?;
+    let beside = format!(in rt.alloc(); "{path}.{program}")?;
     let mut file = OpenOptions::new()
         .write(true)
         .create_new(true)
