@@ -1,54 +1,24 @@
 -- The document of steps.
-use Rattle.std.proofs.Common.{◌≡◌, ◌==◌, ℕ, Bool, true, false, cond, List, [], ◌∷◌, ◌++◌, Some, String, Global, codes, map}
-use Rattle.std.proofs.Common.{IsTrue, encode_utf8_all, string_bytes, append_assoc, append-nil, refl, sym, ap, ◌∙◌, subst}
-use Rattle.std.proofs.lemmas.Bool.{and_parts, and_from}
-use Rattle.std.specs.Str.{all_scalars, chars}
+use Rattle.std.proofs.Common.{◌≡◌, ℕ, true, List, [], ◌∷◌, ◌++◌, Some, codes}
+use Rattle.std.proofs.Common.{append_assoc, append-nil, refl, sym, ap, ◌∙◌, subst}
+use Rattle.std.specs.Str.{chars}
 use Rattle.std.proofs.Common.{Result, Ok, Err}
 use Rattle.std.specs.Result.{IfOk}
 use Rattle.std.specs.declared.alloc.AllocError.{AllocError}
-use Rattle.tinyjson.proofs.Callers.{are_ascii, chars_literal, encoded_chars, find_put, text_scalars, view_Object}
+use Rattle.tinyjson.proofs.Callers.{are_ascii, chars_literal, find_put, view_Object}
 use Rattle.tinyjson.specs.Access.{JsonMap}
-use Rattle.tinyjson.specs.Characters.{solidus, tilde}
 use Rattle.tinyjson.specs.Tree.{Tree, string, object, Members, no_members, find, put}
-use Rattle.tinyjson.specs.View.{view, text, items_view, members_view}
+use Rattle.tinyjson.specs.View.{view, items_view, members_view}
 use Rattle.tinyjson.specs.declared.value.JsonValue.TheVariants as made
 use Rattle.tinyjson.specs.declared.value.JsonValue.{JsonValue}
 use Rattle.tinyjson_patch.specs.Document.{IsOperation, AreOperations}
-use Rattle.tinyjson_patch.specs.Operation.{Action, add, remove, replace}
-use Rattle.tinyjson_pointer.specs.Text.{escape_char, escape, pointer_text}
+use Rattle.tinyjson_patch.specs.Operation.{add, remove, replace}
+use Rattle.tinyjson_pointer.specs.Text.{pointer_text}
 use Rattle.tinyjson_pointer.specs.Tokens.{tokens_of}
-use Rattle.tinyjson_pointer.specs.declared.pointer.Pointer.{Pointer}
 use Rattle.tinyjson_diff.specs.Documents.{named, with_value}
 use Rattle.tinyjson_diff.specs.Steps.{action_of, actions_of, changed_by, IsShort, AreShort}
 use Rattle.tinyjson_diff.specs.declared.step.Change.TheVariants as change
 use Rattle.tinyjson_diff.specs.declared.step.Step.{Step}
-
--- ---- the text of a pointer is scalar values
-
-both_scalars : (xs ys : List ℕ) → IsTrue (all_scalars xs) → IsTrue (all_scalars ys) → IsTrue (all_scalars (xs ++ ys))
-both_scalars [] ys h k = k
-both_scalars (x ∷ xs) ys h k = let p = and_parts _ (all_scalars xs) h in and_from _ _ p.0 (both_scalars xs ys p.1 k)
-
-escaped_char : (c : ℕ) → IsTrue (all_scalars (c ∷ [])) → IsTrue (all_scalars (escape_char c))
-escaped_char c h = by (c == tilde) (c == solidus)
-  where
-    by : (a b : Bool) → IsTrue (all_scalars (cond a (codes "~0") (cond b (codes "~1") (c ∷ []))))
-    by true b = refl
-    by false true = refl
-    by false false = h
-
-escaped : (cs : List ℕ) → IsTrue (all_scalars cs) → IsTrue (all_scalars (escape cs))
-escaped [] h = refl
-escaped (c ∷ cs) h = let p = and_parts _ (all_scalars cs) h in
-    both_scalars (escape_char c) (escape cs) (escaped_char c (and_from _ _ p.0 refl)) (escaped cs p.1)
-
-of_tokens : (ss : List (String Global)) → IsTrue (all_scalars (pointer_text (map text ss)))
-of_tokens [] = refl
-of_tokens (s ∷ ss) = both_scalars (escape (text s)) (pointer_text (map text ss)) (escaped (text s) (text_scalars s)) (of_tokens ss)
-
-pub path_text : (p : Pointer) (s : String Global) → string_bytes s ≡ encode_utf8_all (pointer_text (tokens_of p))
-    → text s ≡ pointer_text (tokens_of p)
-path_text p s e = ap chars e ∙ encoded_chars (pointer_text (tokens_of p)) (of_tokens p.tokens.items)
 
 -- ---- the members of an operation
 

@@ -4,8 +4,8 @@ use Rattle.std.proofs.lemmas.Slice.Eq.{bytes_eq-Decides}
 use Rattle.tinyjson.proofs.Callers.{find_below, found_first, members_from_find, some_none}
 use Rattle.tinyjson.specs.Soundness.{IsSorted}
 use Rattle.tinyjson.specs.Tree.{Tree, null, object, Members, no_members, member, find}
-use Rattle.tinyjson_patch.proofs.Merging.{merged_at, sorted_merge, found_merged}
-use Rattle.tinyjson_patch.specs.Merge.{members_of, merge_members}
+use Rattle.tinyjson_patch.proofs.Callers.{found_merged, sorted_merge}
+use Rattle.tinyjson_patch.specs.Merge.{members_of, merge_members, merged_at}
 use Rattle.tinyjson_diff.specs.Changes.{IsChange, object_members}
 use Rattle.tinyjson_diff.specs.Merging.{AreChanges}
 

@@ -4,8 +4,8 @@ use Rattle.std.specs.Prelude.{option_and_then}
 use Rattle.tinyjson.specs.Numeral.{power_width}
 use Rattle.tinyjson.specs.Soundness.{AreMembersAt}
 use Rattle.tinyjson.specs.Tree.{Tree, null, object, Members, no_members, member, find}
-use Rattle.tinyjson_patch.proofs.Merging.{merged_at, left_by, found_merged}
-use Rattle.tinyjson_patch.specs.Merge.{members_of, merge_patch, merge_members}
+use Rattle.tinyjson_patch.proofs.Callers.{found_merged}
+use Rattle.tinyjson_patch.specs.Merge.{left_by, members_of, merge_members, merge_patch, merged_at}
 use Rattle.tinyjson_pointer.specs.Tokens.{tokens_of}
 use Rattle.tinyjson_pointer.specs.Walk.{part_at}
 use Rattle.tinyjson_pointer.specs.declared.pointer.Pointer.{Pointer}

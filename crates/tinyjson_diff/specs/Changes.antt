@@ -6,7 +6,7 @@ use Rattle.tinyjson.specs.Soundness.{IsTree}
 use Rattle.tinyjson.specs.Tree.{Tree, null, object, Members, no_members, find}
 use Rattle.tinyjson.specs.View.{view, members_view}
 use Rattle.tinyjson.specs.declared.value.JsonValue.{JsonValue}
-use Rattle.tinyjson_patch.proofs.Merging.{merged_at}
+use Rattle.tinyjson_patch.specs.Merge.{merged_at}
 use Rattle.tinyjson_pointer.specs.Tokens.{tokens_of}
 use Rattle.tinyjson_pointer.specs.Walk.{part_at}
 use Rattle.tinyjson_diff.specs.Merging.{HasChangesAlone, Leads}

@@ -1,4 +1,5 @@
 pub mod Beside
+pub mod Callers
 pub mod Documents
 pub mod Entries
 pub mod Examples

@@ -1,20 +1,10 @@
 -- What merged members have at each key.
-use Rattle.std.proofs.Common.{◌≡◌, ℕ, Bool, true, false, cond, bytes_eq, List, Option, Some, None, unwrap_or, refl, sym, ap, ◌∙◌, subst}
+use Rattle.std.proofs.Common.{◌≡◌, ℕ, Bool, true, false, cond, bytes_eq, List, Some, unwrap_or, refl, sym, ap, ◌∙◌, subst}
 use Rattle.std.proofs.lemmas.Slice.Eq.{bytes_eq-Decides}
 use Rattle.tinyjson.proofs.Callers.{find_below, find_put, find_remove, sorted_put, sorted_remove}
 use Rattle.tinyjson.specs.Soundness.{IsTree, IsSorted}
 use Rattle.tinyjson.specs.Tree.{Tree, null, object, Members, no_members, member, find, put, remove}
-use Rattle.tinyjson_patch.specs.Merge.{members_of, merge_patch, merge_members}
-
--- the member that one of the patch leaves, which is null or gives the merged r
-abbrev pub left_by : Tree → Tree → Option Tree
-left_by null r = None
-left_by p r = Some r
-
--- what the merged members have at a key, where the target had o, and the patch has the second
-abbrev pub merged_at : Option Tree → Option Tree → Option Tree
-merged_at o None = o
-merged_at o (Some p) = left_by p (merge_patch (unwrap_or o null) p)
+use Rattle.tinyjson_patch.specs.Merge.{members_of, merge_members, merge_patch, merged_at}
 
 -- the members after one of the patch
 abbrev pub changed : List ℕ → Tree → Members → Members

@@ -14,7 +14,7 @@ use Rattle.tinyjson_grammar.specs.Soundness.{IsTree, IsBelow, IsSorted}
 use Rattle.tinyjson_grammar.specs.Tree.{Tree, null, boolean, number, string, array, object}
 use Rattle.tinyjson_grammar.specs.Tree.{Members, no_members, member, put, key_cmp}
 use Rattle.tinyjson_document.proofs.Callers.{members_sound}
-use Rattle.tinyjson_replay.proofs.Replaying.{put_sorted}
+use Rattle.tinyjson_replay.proofs.Callers.{put_sorted}
 use Rattle.tinyjson_document.specs.Comparing.{weight, members_weight}
 use Rattle.tinyjson_document.specs.Document.{members_left}
 use Rattle.tinyjson_document.specs.Known.{Tree_set}

@@ -6,7 +6,6 @@
 //! ```
 #![tactic(auto)]
 
-mod index;
 mod part;
 mod place;
 mod scan;

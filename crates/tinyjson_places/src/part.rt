@@ -16,11 +16,11 @@ ghost use Rattle.tinyjson_places.specs.Places.{child, named};
 ghost use Rattle.tinyjson_places.specs.Spots.{item_spot, last_member};
 ghost use Rattle.tinyjson_places.specs.private.Parts.{FindsFrom, IsExhausted, Steps, begun};
 
-use crate::index::index;
 use crate::scan::{after, split};
 use crate::text::{after_white, first, is_closed};
 use std::alloc::Global;
 use tinyjson::{JsonParseError, JsonValue};
+use tinyjson_pointer::index;
 
 /// What begins with the part that the tokens name, in what begins with a value.
 pub(crate) fn part<'t>(

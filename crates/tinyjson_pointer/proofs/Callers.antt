@@ -1,11 +1,16 @@
 -- What callers need of the text of a pointer, and of the container of a place, apart from the tree that holds it.
-use Rattle.std.proofs.Common.{◌≡◌, ◌&&◌, ℕ, zero, suc, Bool, true, false, cond, bytes_eq, codes, List, [], ◌∷◌, ◌++◌}
-use Rattle.std.proofs.Common.{Option, Some, None, IsSome, option_map, refl, sym, ap, ◌∙◌}
+use Rattle.std.proofs.Common.{◌≡◌, ◌==◌, ◌&&◌, ℕ, zero, suc, Bool, true, false, cond, bytes_eq, codes, List, [], ◌∷◌, ◌++◌, map}
+use Rattle.std.proofs.Common.{Option, Some, None, IsSome, IsTrue, String, Global, encode_utf8_all, string_bytes, option_map, refl, sym, ap, ◌∙◌}
+use Rattle.std.proofs.lemmas.Bool.{and_parts, and_from}
 use Rattle.std.proofs.lemmas.Slice.Eq.{bytes_eq-Decides}
 use Rattle.std.specs.Prelude.{option_and_then}
+use Rattle.std.specs.Str.{all_scalars, chars}
+use Rattle.tinyjson.proofs.Callers.{encoded_chars, text_scalars}
+use Rattle.tinyjson.specs.Characters.{solidus, tilde}
 use Rattle.tinyjson.specs.Soundness.{IsTree}
 use Rattle.tinyjson.specs.Index.{nth, with_nth, item_count}
 use Rattle.tinyjson.specs.Tree.{Tree, null, array, Items, no_items, item}
+use Rattle.tinyjson.specs.View.{text}
 use Rattle.tinyjson_pointer.proofs.Changing.{part_put, part_again, part_back, part_last, with_last, is_back}
 use Rattle.tinyjson_pointer.proofs.Tokens.{split_pointer}
 use Rattle.tinyjson_pointer.specs.Change.{with_item_before, without_nth, with_child, without_child, without_item, without_step}
@@ -13,8 +18,9 @@ use Rattle.tinyjson_pointer.specs.Change.{changed_at, all_but_last, last_of, wit
 use Rattle.tinyjson_pointer.specs.Index.{index_of}
 use Rattle.tinyjson_pointer.specs.Reading.{IsNoPointer}
 use Rattle.tinyjson_pointer.specs.Siblings.{container_at, with_container, child_name, are_beside}
-use Rattle.tinyjson_pointer.specs.Text.{pointer_text, split, pointer_tokens}
-use Rattle.tinyjson_pointer.specs.Tokens.{begins_with}
+use Rattle.tinyjson_pointer.specs.Text.{escape, escape_char, pointer_text, split, pointer_tokens}
+use Rattle.tinyjson_pointer.specs.Tokens.{begins_with, tokens_of}
+use Rattle.tinyjson_pointer.specs.declared.pointer.Pointer.{Pointer}
 use Rattle.tinyjson_pointer.specs.Walk.{step, item_of, with_item_of, with_step, part_at, with_part}
 
 -- ---- the text of a pointer
@@ -33,6 +39,34 @@ no_tokens_read cs h = by (bytes_eq (pointer_text (split false cs).1) cs) refl
     by : (b : Bool) → bytes_eq (pointer_text (split false cs).1) cs ≡ b → cond b (Some (split false cs).1) None ≡ None
     by true e = absurd (h (split false cs).1 (sym ((bytes_eq-Decides (pointer_text (split false cs).1) cs).0 e)))
     by false e = refl
+
+-- ---- the characters of the text of a pointer
+
+both_scalars : (xs ys : List ℕ) → IsTrue (all_scalars xs) → IsTrue (all_scalars ys) → IsTrue (all_scalars (xs ++ ys))
+both_scalars [] ys h k = k
+both_scalars (x ∷ xs) ys h k = let p = and_parts _ (all_scalars xs) h in and_from _ _ p.0 (both_scalars xs ys p.1 k)
+
+escaped_char : (c : ℕ) → IsTrue (all_scalars (c ∷ [])) → IsTrue (all_scalars (escape_char c))
+escaped_char c h = by (c == tilde) (c == solidus)
+  where
+    by : (a b : Bool) → IsTrue (all_scalars (cond a (codes "~0") (cond b (codes "~1") (c ∷ []))))
+    by true b = refl
+    by false true = refl
+    by false false = h
+
+escaped : (cs : List ℕ) → IsTrue (all_scalars cs) → IsTrue (all_scalars (escape cs))
+escaped [] h = refl
+escaped (c ∷ cs) h = let p = and_parts _ (all_scalars cs) h in
+    both_scalars (escape_char c) (escape cs) (escaped_char c (and_from _ _ p.0 refl)) (escaped cs p.1)
+
+of_tokens : (ss : List (String Global)) → IsTrue (all_scalars (pointer_text (map text ss)))
+of_tokens [] = refl
+of_tokens (s ∷ ss) = both_scalars (escape (text s)) (pointer_text (map text ss)) (escaped (text s) (text_scalars s)) (of_tokens ss)
+
+-- a text that was made of a pointer's has its characters
+pub place_text : (p : Pointer) (s : String Global) → string_bytes s ≡ encode_utf8_all (pointer_text (tokens_of p))
+    → text s ≡ pointer_text (tokens_of p)
+place_text p s e = ap chars e ∙ encoded_chars (pointer_text (tokens_of p)) (of_tokens p.tokens.items)
 
 -- ---- a container that is taken out, and another one that is put in its place
 

@@ -5,7 +5,11 @@ ghost use Rattle.tinyjson_pointer.specs.Index.{index_of, is_index};
 
 /// The index that the token names (RFC 6901, section 4): decimal digits without a leading zero. `None`
 /// for other tokens, as `-`, and for an index that no array in memory reaches.
-pub(crate) fn index(token: &str) -> Option<usize>
+///
+/// ```
+/// index("12") // Some(12); of "012" and of "-": None
+/// ```
+pub fn index(token: &str) -> Option<usize>
     ensures { MatchOption result
         ((i : ℕ) → index_of (chars token.now) ≡ Some i → 2 ^ 64 ≤ i)
         (λ i. index_of (chars token.now) ≡ Some i) }

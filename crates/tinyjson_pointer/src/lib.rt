@@ -15,4 +15,5 @@ mod view;
 mod walk;
 
 pub use change::{InsertError, put_member};
+pub use index::index;
 pub use pointer::{Pointer, PointerError};

@@ -14,7 +14,7 @@ use Rattle.tinyjson.specs.Tree.{Tree, object, Members}
 use Rattle.tinyjson.specs.View.{view}
 use Rattle.tinyjson.specs.declared.value.JsonValue.{JsonValue}
 use Rattle.tinyjson.specs.declared.value.JsonValue.TheVariants as is
-use Rattle.tinyjson_schema_keywords.proofs.Lookups.{name_ascii}
+use Rattle.tinyjson_schema_keywords.proofs.Callers.{name_ascii}
 use Rattle.tinyjson_schema_keywords.specs.Applied.{schema_at}
 use Rattle.tinyjson_schema_keywords.specs.Names.{name}
 use Rattle.tinyjson_schema_keywords.specs.declared.keyword.Keyword.{Keyword}

@@ -1,7 +1,7 @@
 -- What proofs on top need: the keywords of a schema by their names, the names of schemas, and loops over items and members.
 
 -- ---- names as bytes and as characters
-pub use Rattle.tinyjson_schema_keywords.proofs.Lookups.{at_literal, at_name, name_chars, text_bytes}
+pub use Rattle.tinyjson_schema_keywords.proofs.Lookups.{at_literal, at_name, name_ascii, name_chars, text_bytes}
 -- ---- the anchors of a document
 pub use Rattle.tinyjson_schema_keywords.proofs.Naming.{anchors_had, no_plain_name, plain_name}
 -- ---- the members of a map in the order of their keys, and how deep they and items are

@@ -1,47 +1,15 @@
 -- The report of a violation, from the members that are put together.
-use Rattle.std.proofs.Common.{◌≡◌, ℕ, ◌==◌, Bool, true, false, cond, List, [], ◌∷◌, ◌++◌, Option, Some, None, String, Global, codes, map}
-use Rattle.std.proofs.Common.{IsTrue, encode_utf8_all, string_bytes, refl, ap, ◌∙◌}
-use Rattle.std.proofs.lemmas.Bool.{and_parts, and_from}
+use Rattle.std.proofs.Common.{◌≡◌, ℕ, true, false, List, Option, Some, None, codes}
+use Rattle.std.proofs.Common.{refl, ap, ◌∙◌}
 use Rattle.std.proofs.Math.Utf8.{encode}
-use Rattle.std.specs.Str.{all_scalars, chars}
-use Rattle.tinyjson.proofs.Callers.{are_ascii, chars_literal, encoded_chars, text_scalars, view_Object}
+use Rattle.std.specs.Str.{chars}
+use Rattle.tinyjson.proofs.Callers.{are_ascii, chars_literal, view_Object}
 use Rattle.tinyjson.specs.Access.{JsonMap}
-use Rattle.tinyjson.specs.Characters.{solidus, tilde}
 use Rattle.tinyjson.specs.Tree.{Tree, boolean, string, object, Members, no_members, put}
 use Rattle.tinyjson.specs.View.{view, text, members_view}
 use Rattle.tinyjson.specs.declared.value.JsonValue.TheVariants as is
-use Rattle.tinyjson_pointer.specs.Text.{escape_char, escape, pointer_text}
-use Rattle.tinyjson_pointer.specs.Tokens.{tokens_of}
-use Rattle.tinyjson_pointer.specs.declared.pointer.Pointer.{Pointer}
 use Rattle.tinyjson_schema_report.specs.Report.{place_tree, with_line, report_tree}
 use Rattle.tinyjson_schema_report.specs.declared.found.Finding.{Finding}
-
--- ---- the text of a pointer is scalar values
-
-both_scalars : (xs ys : List ℕ) → IsTrue (all_scalars xs) → IsTrue (all_scalars ys) → IsTrue (all_scalars (xs ++ ys))
-both_scalars [] ys h k = k
-both_scalars (x ∷ xs) ys h k = let p = and_parts _ (all_scalars xs) h in and_from _ _ p.0 (both_scalars xs ys p.1 k)
-
-escaped_char : (c : ℕ) → IsTrue (all_scalars (c ∷ [])) → IsTrue (all_scalars (escape_char c))
-escaped_char c h = by (c == tilde) (c == solidus)
-  where
-    by : (a b : Bool) → IsTrue (all_scalars (cond a (codes "~0") (cond b (codes "~1") (c ∷ []))))
-    by true b = refl
-    by false true = refl
-    by false false = h
-
-escaped : (cs : List ℕ) → IsTrue (all_scalars cs) → IsTrue (all_scalars (escape cs))
-escaped [] h = refl
-escaped (c ∷ cs) h = let p = and_parts _ (all_scalars cs) h in
-    both_scalars (escape_char c) (escape cs) (escaped_char c (and_from _ _ p.0 refl)) (escaped cs p.1)
-
-of_tokens : (ss : List (String Global)) → IsTrue (all_scalars (pointer_text (map text ss)))
-of_tokens [] = refl
-of_tokens (s ∷ ss) = both_scalars (escape (text s)) (pointer_text (map text ss)) (escaped (text s) (text_scalars s)) (of_tokens ss)
-
-pub place_text : (p : Pointer) (s : String Global) → string_bytes s ≡ encode_utf8_all (pointer_text (tokens_of p))
-    → text s ≡ pointer_text (tokens_of p)
-place_text p s e = ap chars e ∙ encoded_chars (pointer_text (tokens_of p)) (of_tokens p.tokens.items)
 
 -- ---- the members
 

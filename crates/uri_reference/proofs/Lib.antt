@@ -1,3 +1,4 @@
+pub mod Callers
 pub mod Cuts
 mod Examples
 pub mod Fronts

@@ -1,7 +1,7 @@
 use Rattle.std.proofs.Common.{Some, codes, ◌++◌, ⊎_elim, inl, inr, string_bytes, ap, ◌∙◌}
 use Rattle.tinyjson_cli.specs.Shown.{shown}
 use Rattle.tinyjson.specs.View.{text}
-use Rattle.tinyjson_schema_report.proofs.Reports.{place_text}
+use Rattle.tinyjson_pointer.proofs.Callers.{place_text}
 use Rattle.json_schema.proofs.failure.refused_failure.Goals as goal
 
 pub returns : goal.returns

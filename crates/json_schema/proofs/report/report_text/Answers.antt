@@ -3,7 +3,7 @@ use Rattle.std.specs.Str.{chars}
 use Rattle.tinyjson.specs.Characters.{line_feed}
 use Rattle.tinyjson_cli.specs.Shown.{shown}
 use Rattle.json_schema.specs.Report.{text_head, headed}
-use Rattle.tinyjson_schema_report.proofs.Reports.{place_text}
+use Rattle.tinyjson_pointer.proofs.Callers.{place_text}
 use Rattle.json_schema.proofs.report.report_text.Goals as goal
 
 pub returns : goal.returns

@@ -6,7 +6,8 @@ use Rattle.tinyjson.specs.View.{view, members_view}
 use Rattle.tinyjson.specs.declared.value.JsonValue.TheVariants as made
 use Rattle.tinyjson_pointer.specs.Text.{pointer_text}
 use Rattle.tinyjson_pointer.specs.Tokens.{tokens_of}
-use Rattle.tinyjson_diff.proofs.Documents.{literal, path_text}
+use Rattle.tinyjson_diff.proofs.Documents.{literal}
+use Rattle.tinyjson_pointer.proofs.Callers.{place_text}
 use Rattle.tinyjson_diff.proofs.document.named.Goals as goal
 
 pub returns : goal.returns
@@ -18,7 +19,7 @@ returns c =
     let named : view (made.String name) ≡ string (chars c.args.name.now)
     = view_String name ∙ ap string (ap chars c.in_ok-name.ensures.ok) in
     let placed : view (made.String path) ≡ string (pointer_text (tokens_of c.args.path.now))
-    = view_String path ∙ ap string (path_text c.args.path.now path c.in_ok-path.ensures.ok) in
+    = view_String path ∙ ap string (place_text c.args.path.now path c.in_ok-path.ensures.ok) in
     let first : one ≡ put (codes "op") (string (chars c.args.name.now)) no_members
     = literal (codes "op") (view (made.String name)) none one refl c.in_ok-put_member.ensures.ok
     ∙ (ap (λ t. put (codes "op") t none) named

@@ -6,7 +6,7 @@ use Rattle.tinyjson.specs.Tree.{string, put}
 use Rattle.tinyjson.specs.View.{view, members_view}
 use Rattle.tinyjson.specs.declared.value.JsonValue.TheVariants as is
 use Rattle.tinyjson_schema_report.specs.Report.{place_tree}
-use Rattle.tinyjson_schema_report.proofs.Reports.{place_text}
+use Rattle.tinyjson_pointer.proofs.Callers.{place_text}
 use Rattle.tinyjson_schema_report.proofs.report.put_place.Goals as goal
 
 pub returns : goal.returns

@@ -2,7 +2,7 @@ use Rattle.std.proofs.Common.{◌∙◌, sym, ap}
 use Rattle.tinyjson.specs.View.{text}
 use Rattle.tinyjson_schema_keywords.specs.Forms.{form_at}
 use Rattle.tinyjson_schema_keywords.specs.References.{form_in}
-use Rattle.tinyjson_schema_keywords.proofs.Lookups.{text_bytes}
+use Rattle.tinyjson_schema_keywords.proofs.Callers.{text_bytes}
 use Rattle.tinyjson_schema_words.proofs.refused.form_in.Goals as goal
 
 pub returns-in-Schema : goal.returns-in-Schema
