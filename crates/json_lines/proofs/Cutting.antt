@@ -5,7 +5,8 @@ use Rattle.std.specs.Str.{chars}
 use Rattle.tinyjson.specs.Characters.{line_feed}
 use Rattle.tinyjson.proofs.Callers.{only_tree}
 use Rattle.tinyjson_lines.specs.Line.{line_of}
-use Rattle.json_lines.specs.Lines.{lines, onto_first, content, IsWithin, IsLonger, Fate, TextGives, HasFate, HaveFates, output_of, outputs_of}
+use Rattle.json_lines.specs.Lines.{lines, onto_first, content, IsWithin, IsLonger, Fate}
+use Rattle.json_lines.specs.Lines.{TextGives, HasFate, HaveFates, output_of, outputs_of}
 use Rattle.json_lines.specs.Shares.{ended, LinesOfShares, OutputOfShares}
 use Rattle.tinyjson.specs.Tree.{Tree}
 use Rattle.tinyjson_lines.specs.declared.refusal.Cause.{Cause}

@@ -1,5 +1,6 @@
 -- The operands that are patches, and the others.
-use Rattle.std.proofs.Common.{◌≡◌, ◌≤◌, ◌-◌, ℕ, Bool, cond, List, length, take, drop, map, None, Some, option_map, sym, ap, ◌∙◌, le-ltb, arith}
+use Rattle.std.proofs.Common.{◌≡◌, ◌≤◌, ◌-◌, ℕ, Bool, cond, List, length, take, drop}
+use Rattle.std.proofs.Common.{map, None, Some, option_map, sym, ap, ◌∙◌, le-ltb, arith}
 use Rattle.std.proofs.lemmas.List.{drop-map, length-map, take-map, take_rest}
 use Rattle.std.specs.Prelude.{unwrap_or}
 use Rattle.tinyjson_cli.specs.Arguments.{Given, is_given, last_number}

@@ -1,5 +1,6 @@
 -- What a check by a schema answers.
-use Rattle.std.proofs.Common.{◌≡◌, ◌≢◌, ◌⊎◌, ℕ, Bool, true, false, List, Option, None, Some, Result, Ok, Err, MatchResult, inl, inr, refl, sym, ap, ◌∙◌, subst}
+use Rattle.std.proofs.Common.{◌≡◌, ◌≢◌, ◌⊎◌, ℕ, Bool, true, false, List, Option, None, Some}
+use Rattle.std.proofs.Common.{Result, Ok, Err, MatchResult, inl, inr, refl, sym, ap, ◌∙◌, subst}
 use Rattle.std.proofs.Common.{[], ◌++◌, ◌==◌, Vec, Global}
 use Rattle.std.proofs.lemmas.Bool.{eqb-false}
 use Rattle.tinyjson_c.proofs.Stopping.{stops}
@@ -17,7 +18,8 @@ use Rattle.tinyjson_c.specs.declared.schema.Unchecked.{Unchecked}
 use Rattle.tinyjson_c.specs.declared.schema.Unchecked.TheVariants as un
 use Rattle.tinyjson_c.specs.declared.schema.Verdict.{Verdict}
 use Rattle.tinyjson_c.specs.declared.schema.Verdict.TheVariants.{Valid, Invalid, Misfit}
-use Rattle.tinyjson_c.specs.declared.status.TheConstants.{BAD_SCHEMA, INVALID, NOT_UTF8, OK, OUT_OF_MEMORY, REFUSED, SCHEMA_FAULT, STEP_LIMIT, TOO_SMALL}
+use Rattle.tinyjson_c.specs.declared.status.TheConstants.{BAD_SCHEMA, INVALID, NOT_UTF8, OK, OUT_OF_MEMORY}
+use Rattle.tinyjson_c.specs.declared.status.TheConstants.{REFUSED, SCHEMA_FAULT, STEP_LIMIT, TOO_SMALL}
 use Rattle.tinyjson_c.specs.declared.stop.Stop.{Stop}
 use Rattle.tinyjson_c.specs.declared.stop.Stop.TheVariants as stop
 use Rattle.tinyjson_grammar.specs.Tree.{Tree}

@@ -1,5 +1,6 @@
 -- What a check of lines by a schema answers.
-use Rattle.std.proofs.Common.{◌≡◌, ◌≢◌, ℕ, ◌+◌, List, [], ◌∷◌, ◌++◌, Option, None, Some, Result, Ok, Err, MatchResult, length, inl, inr, refl, sym, ap, ◌∙◌, subst, arith}
+use Rattle.std.proofs.Common.{◌≡◌, ◌≢◌, ℕ, ◌+◌, List, [], ◌∷◌, ◌++◌, Option, None, Some, Result}
+use Rattle.std.proofs.Common.{Ok, Err, MatchResult, length, inl, inr, refl, sym, ap, ◌∙◌, subst, arith}
 use Rattle.std.proofs.Common.{append_assoc, append-nil, suc, Bool, true, false, Vec, Global, ◌⊎◌, ◌==◌, vec_len}
 use Rattle.tinyjson_c.proofs.Growing.{empty, first_more, length_more, not_empty}
 use Rattle.tinyjson_c.proofs.Judging.{no_two, unchecked_bad}
@@ -18,7 +19,8 @@ use Rattle.tinyjson_c.specs.declared.schema.Unchecked.{Unchecked}
 use Rattle.tinyjson_c.specs.declared.schema.Unchecked.TheVariants as un
 use Rattle.tinyjson_c.specs.declared.schema.Verdict.{Verdict}
 use Rattle.tinyjson_c.specs.declared.schema.Verdict.TheVariants.{Valid, Invalid, Misfit}
-use Rattle.tinyjson_c.specs.declared.status.TheConstants.{BAD_SCHEMA, INVALID, NOT_UTF8, OK, OUT_OF_MEMORY, REFUSED, SCHEMA_FAULT, STEP_LIMIT, TOO_SMALL}
+use Rattle.tinyjson_c.specs.declared.status.TheConstants.{BAD_SCHEMA, INVALID, NOT_UTF8, OK, OUT_OF_MEMORY}
+use Rattle.tinyjson_c.specs.declared.status.TheConstants.{REFUSED, SCHEMA_FAULT, STEP_LIMIT, TOO_SMALL}
 use Rattle.tinyjson_c.specs.declared.stop.Stop.{Stop}
 use Rattle.tinyjson_c.specs.declared.stop.Stop.TheVariants as stop
 use Rattle.tinyjson_c.specs.declared.valid_lines.UncheckedLine.{UncheckedLine}

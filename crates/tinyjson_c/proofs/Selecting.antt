@@ -2,7 +2,8 @@
 use Rattle.std.proofs.Common.{◌≡◌, ℕ, Bool, List, [], ◌∷◌, ◌++◌, Option, Some, inl, inr, refl, sym, ap, ◌∙◌, append_assoc}
 use Rattle.tinyjson_c.proofs.Stopping.{stops}
 use Rattle.tinyjson_c.specs.Place.{length_place, memory_place}
-use Rattle.tinyjson_c.specs.Select.{IsBadQuery, IsNotFound, IsQueryOf, IsUnselected, Selects, part_line, part_lines, unselected_place, unselected_status}
+use Rattle.tinyjson_c.specs.Select.{IsBadQuery, IsNotFound, IsQueryOf, IsUnselected, Selects}
+use Rattle.tinyjson_c.specs.Select.{part_line, part_lines, unselected_place, unselected_status}
 use Rattle.tinyjson_c.specs.Stop.{IsTextOf, Stops}
 use Rattle.tinyjson_c.specs.declared.place.TinyjsonPlace.{TinyjsonPlace}
 use Rattle.tinyjson_c.specs.declared.select.Unselected.{Unselected}

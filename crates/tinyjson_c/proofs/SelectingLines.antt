@@ -1,5 +1,6 @@
 -- What a query selects in texts that are lines.
-use Rattle.std.proofs.Common.{◌≡◌, ◌≢◌, ℕ, Bool, List, [], ◌∷◌, ◌++◌, Option, Some, length, refl, sym, ap, ◌∙◌, subst, append_assoc, append-nil}
+use Rattle.std.proofs.Common.{◌≡◌, ◌≢◌, ℕ, Bool, List, [], ◌∷◌, ◌++◌, Option}
+use Rattle.std.proofs.Common.{Some, length, refl, sym, ap, ◌∙◌, subst, append_assoc, append-nil}
 use Rattle.tinyjson_c.proofs.Stopping.{stops}
 use Rattle.tinyjson_c.specs.Lines.{AreFirst, AreLines, IsStoppedAt, StopsAtLine, first_line}
 use Rattle.tinyjson_c.specs.Place.{length_place}

@@ -1,11 +1,13 @@
 -- Values beside what they lead to.
-use Rattle.std.proofs.Common.{◌≡◌, ℕ, List, Bool, true, false, Option, Some, None, option_map, unwrap_or, is_some, String, string_bytes, Global}
+use Rattle.std.proofs.Common.{◌≡◌, ℕ, List, Bool, true, false, Option, Some}
+use Rattle.std.proofs.Common.{None, option_map, unwrap_or, is_some, String, string_bytes, Global}
 use Rattle.std.proofs.Common.{Bor, [], ◌∷◌, length, refl, sym, ap, ◌∙◌, subst, arith}
 use Rattle.std.proofs.lemmas.Bool.{false≢true}
 use Rattle.std.specs.Bool.{Decides}
 use Rattle.std.specs.HashMap.{get_by_text}
 use Rattle.std.specs.Str.{IsUtf8, chars}
-use Rattle.tinyjson.proofs.Callers.{IsUtf8-string_bytes, Entry, find_get, find_put_same, is_null_view, members_view_IsSorted, no_object, some_none, view_ref}
+use Rattle.tinyjson.proofs.Callers.{IsUtf8-string_bytes, Entry, find_get, find_put_same, is_null_view}
+use Rattle.tinyjson.proofs.Callers.{members_view_IsSorted, no_object, some_none, view_ref}
 use Rattle.tinyjson.specs.Access.{JsonMap, is_null, is_object, null_part}
 use Rattle.tinyjson.specs.Equality.{same_tree, tree_eq, tree_eq_Decides}
 use Rattle.tinyjson.specs.Soundness.{IsSorted}

@@ -1,6 +1,7 @@
 -- What callers need of the text of a pointer, and of the container of a place, apart from the tree that holds it.
 use Rattle.std.proofs.Common.{◌≡◌, ◌==◌, ◌&&◌, ℕ, zero, suc, Bool, true, false, cond, bytes_eq, codes, List, [], ◌∷◌, ◌++◌, map}
-use Rattle.std.proofs.Common.{Option, Some, None, IsSome, IsTrue, String, Global, encode_utf8_all, string_bytes, option_map, refl, sym, ap, ◌∙◌}
+use Rattle.std.proofs.Common.{Option, Some, None, IsSome, IsTrue, String, Global}
+use Rattle.std.proofs.Common.{encode_utf8_all, string_bytes, option_map, refl, sym, ap, ◌∙◌}
 use Rattle.std.proofs.lemmas.Bool.{and_parts, and_from}
 use Rattle.std.proofs.lemmas.Slice.Eq.{bytes_eq-Decides}
 use Rattle.std.specs.Prelude.{option_and_then}

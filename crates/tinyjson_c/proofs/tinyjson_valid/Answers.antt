@@ -1,6 +1,7 @@
 use Rattle.std.proofs.Common.{Some, refl}
 use Rattle.tinyjson_c.proofs.Judging.{unchecked_bad, unchecked_limit, unchecked_memory, unchecked_other, unchecked_stops}
-use Rattle.tinyjson_c.proofs.Judging.{verdict_fault, verdict_invalid, verdict_left, verdict_one, verdict_other, verdict_small, verdict_valid}
+use Rattle.tinyjson_c.proofs.Judging.{verdict_fault, verdict_invalid, verdict_left, verdict_one}
+use Rattle.tinyjson_c.proofs.Judging.{verdict_other, verdict_small, verdict_valid}
 use Rattle.tinyjson_c.specs.Schema.{schema_depth}
 use Rattle.tinyjson_c.specs.declared.status.TheConstants.{BAD_SCHEMA, INVALID, OK, OUT_OF_MEMORY, SCHEMA_FAULT, STEP_LIMIT, TOO_SMALL}
 use Rattle.tinyjson_c.proofs.tinyjson_valid.Goals as goal

@@ -1,6 +1,7 @@
 use Rattle.std.proofs.Common.{◌≡◌, ◌≢◌, [], Some, refl, arith}
 use Rattle.tinyjson_c.proofs.Growing.{counted, empty, not_empty}
-use Rattle.tinyjson_c.proofs.JudgingLines.{all_judged, judged_all, judged_all_valid, no_reports, one_more_judged, some_reports, stopped_line}
+use Rattle.tinyjson_c.proofs.JudgingLines.{all_judged, judged_all, judged_all_valid, no_reports}
+use Rattle.tinyjson_c.proofs.JudgingLines.{one_more_judged, some_reports, stopped_line}
 use Rattle.tinyjson_c.specs.Schema.{schema_depth}
 use Rattle.tinyjson_schema.specs.Reading.{tree_of}
 use Rattle.tinyjson_c.proofs.valid_lines.check_lines.Goals as goal
