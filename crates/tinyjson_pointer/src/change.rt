@@ -9,7 +9,7 @@ ghost use Rattle.tinyjson_pointer.specs.Change.{without_part, Inserts, Removes};
 ghost use Rattle.tinyjson_pointer.specs.Tokens.{tokens_of, begins_with};
 ghost use Rattle.tinyjson_pointer.specs.Walk.{step, part_at, with_part};
 
-use crate::index::index;
+use crate::array_index::index;
 use crate::pointer::Pointer;
 use crate::walk::replace_at;
 use std::alloc::{AllocError, Global};

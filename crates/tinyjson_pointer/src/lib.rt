@@ -6,14 +6,14 @@
 //! ```
 #![tactic(auto)]
 
+mod array_index;
 mod change;
-mod index;
 mod parse;
 mod pointer;
 mod siblings;
 mod view;
 mod walk;
 
+pub use array_index::index;
 pub use change::{InsertError, put_member};
-pub use index::index;
 pub use pointer::{Pointer, PointerError};

@@ -11,8 +11,8 @@ ghost use Rattle.tinyjson_pointer.specs.Siblings.{boxes_view};
 ghost use Rattle.tinyjson_pointer.specs.Tokens.{tokens_of};
 ghost use Rattle.tinyjson_pointer.specs.Walk.{step};
 
+use crate::array_index::index;
 use crate::change::{InsertError, place, put_back, take_at};
-use crate::index::index;
 use crate::pointer::Pointer;
 use std::collections::VecDeque;
 use tinyjson::JsonValue;

@@ -4,7 +4,7 @@ ghost use Rattle.std.specs.Str.{chars};
 ghost use Rattle.tinyjson_pointer.specs.Tokens.{tokens_of};
 ghost use Rattle.tinyjson_pointer.specs.Walk.{step, part_at};
 
-use crate::index::index;
+use crate::array_index::index;
 use crate::pointer::Pointer;
 use tinyjson::JsonKind;
 use tinyjson_document::JsonView;

@@ -5,7 +5,7 @@ ghost use Rattle.tinyjson.specs.View.{view, text};
 ghost use Rattle.tinyjson_pointer.specs.Tokens.{tokens_of};
 ghost use Rattle.tinyjson_pointer.specs.Walk.{step, part_at, Replaces};
 
-use crate::index::index;
+use crate::array_index::index;
 use crate::pointer::Pointer;
 use std::collections::HashMap;
 use std::mem;

@@ -1,6 +1,6 @@
 use Rattle.std.proofs.Common.{◌≡◌, false, true, sym, ap, ◌∙◌}
 use Rattle.tinyjson_pointer.proofs.Indices.{no_index, index_says}
-use Rattle.tinyjson_pointer.proofs.index.index.Goals as goal
+use Rattle.tinyjson_pointer.proofs.array_index.index.Goals as goal
 use Rattle.tinyjson_pointer.specs.Index.{is_index}
 
 pub returns-then-not-is_numeral : goal.returns-then-not-is_numeral
