@@ -60,7 +60,7 @@ letters_none text xs cs goes e n l = (goes n l).2 ∙ by (goes n l).0
 -- ---- items
 
 pub class_range : (x z : Letter) (xs ys : List Letter) → range_behind xs ≡ Some (z, ys)
-    → class_items (x ∷ xs) ≡ option_and_then (λ i. option_map (λ is. i ∷ is) (class_items ys)) (range_of x z)
+    → class_items (x ∷ xs) ≡ option_and_then (λ is. option_map (λ js. is ++ js) (class_items ys)) (range_of x z)
 class_range x z [] ys e = none_some e
 class_range x z (y ∷ []) ys e = none_some e
 class_range x z (y ∷ w ∷ ws) ys e =
@@ -68,7 +68,7 @@ class_range x z (y ∷ w ∷ ws) ys e =
       | inl a ↦
           let same = some_same a.1 in
           cond-true (is_dash y) _ _ a.0
-          ∙ ap (λ p. option_and_then (λ i. option_map (λ is. i ∷ is) (class_items p.1)) (range_of x p.0)) same
+          ∙ ap (λ p. option_and_then (λ is. option_map (λ js. is ++ js) (class_items p.1)) (range_of x p.0)) same
       | inr b ↦ none_some b.1
     ]
 
@@ -95,15 +95,15 @@ items_init xs all e = by (class_items xs) ∙ ap (λ js. option_map (λ is. js +
     by None = refl
     by (Some is) = refl
 
-pub items_range : (xs rest after end : List Letter) (all all' : List Item) (x z : Letter) (i : Item)
+pub items_range : (xs rest after end : List Letter) (all all' : List Item) (x z : Letter) (added : List Item)
     → class_items xs ≡ option_map (λ is. all ++ is) (class_items rest) → rest ≡ x ∷ after → range_behind after ≡ Some (z, end)
-    → range_of x z ≡ Some i → all' ≡ all ++ i ∷ [] → class_items xs ≡ option_map (λ is. all' ++ is) (class_items end)
-items_range xs rest after end all all' x z i e f g h k =
+    → range_of x z ≡ Some added → all' ≡ all ++ added → class_items xs ≡ option_map (λ is. all' ++ is) (class_items end)
+items_range xs rest after end all all' x z added e f g h k =
     e
     ∙ (ap (λ ys. option_map (λ is. all ++ is) (class_items ys)) f
     ∙ (ap (option_map (λ is. all ++ is)) (class_range x z after end g
-    ∙ ap (option_and_then (λ j. option_map (λ is. j ∷ is) (class_items end))) h)
-    ∙ (more_items all (i ∷ []) (class_items end) ∙ ap (λ js. option_map (λ is. js ++ is) (class_items end)) (sym k))))
+    ∙ ap (option_and_then (λ js. option_map (λ is. js ++ is) (class_items end))) h)
+    ∙ (more_items all added (class_items end) ∙ ap (λ js. option_map (λ is. js ++ is) (class_items end)) (sym k))))
 
 pub items_no_range : (xs rest after end : List Letter) (all : List Item) (x z : Letter)
     → class_items xs ≡ option_map (λ is. all ++ is) (class_items rest) → rest ≡ x ∷ after → range_behind after ≡ Some (z, end)
@@ -112,7 +112,7 @@ items_no_range xs rest after end all x z e f g h =
     e
     ∙ (ap (λ ys. option_map (λ is. all ++ is) (class_items ys)) f
     ∙ ap (option_map (λ is. all ++ is)) (class_range x z after end g
-    ∙ ap (option_and_then (λ j. option_map (λ is. j ∷ is) (class_items end))) h))
+    ∙ ap (option_and_then (λ js. option_map (λ is. js ++ is) (class_items end))) h))
 
 pub items_single : (xs rest after : List Letter) (all all' : List Item) (x : Letter)
     → class_items xs ≡ option_map (λ is. all ++ is) (class_items rest) → rest ≡ x ∷ after → range_behind after ≡ None

@@ -198,6 +198,10 @@ abbrev pub RangeBehind : List Letter → Option (Letter × Bor (List Letter)) �
 RangeBehind xs None = range_behind xs ≡ None
 RangeBehind xs (Some p) = range_behind xs ≡ Some (p.0, p.1.now)
 
-abbrev pub RangeOf : Option Item → Result Item IRegexpErrorKind → Type 0
-RangeOf o (Ok i) = o ≡ Some i
-RangeOf o (Err k) = (k ≡ kind.Invalid) × (o ≡ None)
+-- items, if there are any, are appended to the first ones
+abbrev pub Appends : Option (List Item) → List Item → Result (Unit {0}) IRegexpErrorKind → List Item → Type 0
+Appends o old (Ok x) new = (is : List Item) × (o ≡ Some is) × (new ≡ old ++ is)
+Appends o old (Err kind.Invalid) new = o ≡ None
+Appends o old (Err kind.TooDeep) new = ⊥
+Appends o old (Err kind.TooLarge) new = ⊥
+Appends o old (Err kind.OutOfMemory) new = Unit {0}

@@ -167,20 +167,27 @@ character_of (Literal c) = Some c
 character_of (Named s) = None
 
 -- the range from one character to another, if it does not end before it begins
-abbrev pub ordered : ℕ → ℕ → Option Item
-ordered c d = cond (nat_le c d) (Some (Range c d)) None
+abbrev pub ordered : ℕ → ℕ → Option (List Item)
+ordered c d = cond (nat_le c d) (Some (Range c d ∷ [])) None
 
-abbrev pub range_of : Letter → Letter → Option Item
-range_of x y = option_and_then (λ c. option_and_then (ordered c) (character_of y)) (character_of x)
+-- the range between two characters, or this union where one of them is none
+abbrev pub range_or : List Item → Option ℕ → Option ℕ → Option (List Item)
+range_or union None d = Some union
+range_or union (Some c) None = Some union
+range_or union (Some c) (Some d) = ordered c d
 
--- The items of a class. A `-` between two letters makes a range, and both have to be characters.
--- Each other letter is an item by itself.
+-- a range of characters; with a set, the union of both letters and `-` (ECMA-262, B.1.2.8.1)
+abbrev pub range_of : Letter → Letter → Option (List Item)
+range_of x y = range_or (letter_items x ++ Range hyphen hyphen ∷ letter_items y) (character_of x) (character_of y)
+
+-- The items of a class. A `-` between two letters makes a range of them. Each other letter stands
+-- for itself.
 abbrev pub class_items : List Letter → Option (List Item)
 class_items [] = Some []
 class_items (x ∷ []) = Some (letter_items x)
 class_items (x ∷ y ∷ []) = Some (letter_items x ++ letter_items y)
 class_items (x ∷ y ∷ z ∷ xs) =
-    cond (is_dash y) (option_and_then (λ i. option_map (λ is. i ∷ is) (class_items xs)) (range_of x z))
+    cond (is_dash y) (option_and_then (λ is. option_map (λ js. is ++ js) (class_items xs)) (range_of x z))
     (option_map (λ is. letter_items x ++ is) (class_items (y ∷ z ∷ xs)))
 
 -- ---- marks

@@ -9,7 +9,7 @@ ghost use Rattle.i_regexp.specs.Patterns.{token as with_token};
 ghost use Rattle.i_regexp.specs.PatternFronts.{mark_of, mark_front, sign_front, class_front};
 ghost use Rattle.i_regexp.specs.PatternFronts.{letters_front, caret_front, range_behind, silent};
 ghost use Rattle.i_regexp.specs.PatternFronts.{eager, letter_mark, escape_front, repeat_front};
-ghost use Rattle.i_regexp.specs.PatternFronts.{ReadsItems, RangeBehind, RangeOf};
+ghost use Rattle.i_regexp.specs.PatternFronts.{ReadsItems, RangeBehind, Appends};
 
 use crate::class::{Class, Item};
 use crate::error::IRegexpErrorKind;
@@ -225,7 +225,7 @@ fn items(alloc: Global, letters: &[Letter]) -> Result<Vec<Item>, IRegexpErrorKin
     let mut rest = letters;
     while let Some((first, after)) = rest.split_first() {
         if let Some((last, end)) = range_behind(after) {
-            all.push(range_of(*first, last)?)?;
+            add_range(&mut all, *first, last)?;
             rest = end;
             continue;
         }
@@ -245,18 +245,22 @@ fn range_behind(letters: &[Letter]) -> Option<(Letter, &[Letter])>
     }
 }
 
-/// The range from one letter to another.
-fn range_of(first: Letter, last: Letter) -> Result<Item, IRegexpErrorKind>
-    ensures { RangeOf (range_of first last) result }
+/// Appends the range from one character to another. Where either letter is a set, it is the union of
+/// both and `-`.
+fn add_range(items: &mut Vec<Item>, first: Letter, last: Letter) -> Result<(), IRegexpErrorKind>
+    ensures { Appends (range_of first last) items.old.items result items.new.items }
 {
-    let Some(low) = first.character() else {
-        return Err(IRegexpErrorKind::Invalid);
-    };
-    let Some(high) = last.character() else {
-        return Err(IRegexpErrorKind::Invalid);
-    };
-    if high < low {
-        return Err(IRegexpErrorKind::Invalid);
+    if let Some(low) = first.character()
+        && let Some(high) = last.character()
+    {
+        if high < low {
+            return Err(IRegexpErrorKind::Invalid);
+        }
+        items.push(Item::Range(low, high))?;
+        return Ok(());
     }
-    Ok(Item::Range(low, high))
+    first.add_to(items)?;
+    items.push(Item::Range('-', '-'))?;
+    last.add_to(items)?;
+    Ok(())
 }

@@ -5,8 +5,8 @@ pub loop-first-preserved-in-Some-range_behind : goal.loop-first-preserved-in-Som
 loop-first-preserved-in-Some-range_behind c =
     items_range c.args.letters.now c.loop-first.rest.now c.in-Some.after.now c.in-Some-range_behind.end.now
     c.loop-first.all.items _ c.in-Some.first.now c.in-Some-range_behind.last
-    c.in_ok-range_of.field-0 c.loop-first.invariant c.in-Some.ensures.cases.0 c.in-Some-range_behind.ensures c.in_ok-range_of.ensures
-    c.in_ok-push.ensures.items
+    c.in_ok-add_range.ensures.0 c.loop-first.invariant c.in-Some.ensures.cases.0 c.in-Some-range_behind.ensures
+    c.in_ok-add_range.ensures.1 c.in_ok-add_range.ensures.2
 
 pub loop-first-preserved : goal.loop-first-preserved
 loop-first-preserved c =
