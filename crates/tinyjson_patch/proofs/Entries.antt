@@ -13,8 +13,8 @@ use Rattle.tinyjson.specs.Tree.{Tree, null, object, Members, no_members, find, p
 use Rattle.tinyjson.specs.View.{view, text, members_view}
 use Rattle.tinyjson.specs.declared.value.JsonValue.{JsonValue}
 use Rattle.tinyjson.specs.declared.value.JsonValue.TheVariants as made
-use Rattle.tinyjson_patch.specs.Merge.{members_of, merge_patch, merge_members}
-use Rattle.tinyjson_patch.proofs.Merging.{left_by, merged_at, sorted_merge, found_merged}
+use Rattle.tinyjson_patch.specs.Merge.{left_by, members_of, merge_members, merge_patch, merged_at}
+use Rattle.tinyjson_patch.proofs.Merging.{sorted_merge, found_merged}
 
 -- The members are those at the start with the entries before the rest merged into them.
 pub record AreMerged (start now : Members) (es rest : List Entry) : Type 0 where
