@@ -332,51 +332,87 @@ SELECTED = [
     ]),
 ]
 
-# Texts that are no query, and how many characters stand before what is refused.
+# Texts that are not in the grammar, and how many characters stand before what is refused.
 REFUSED = [
     # 2.1.1, 2.2.1: a query begins with `$`, and a blank stands neither before it nor at the end.
     ("", 0), ("a", 0), ("@", 0), ("@.a", 0), (" $", 0), ("$ ", 1), ("$.a ", 3), ("$[0]\n", 4), ("$a", 1), ("$$", 1), ("$\u00a0.a", 1), ("$\x0b.a", 1),
     # 2.5.1.1, 2.5.2.1: after a point or two come a name or `*`, with no blank between, or after two points a bracket.
     ("$.", 2), ("$..", 3), ("$...a", 3), ("$. a", 2), ("$.. a", 3), ("$..\n[0]", 3), ("$.['a']", 2), ("$.'a'", 2), ('$."a"', 2), ("$.**", 3), ("$.a.", 4), ("$['a'].", 7),
     # A name without quotes begins with no digit, and has no `-`.
-    ("$.1", 2), ("$.1a", 2), ("$..0", 3), ("$.-a", 2), ("$.a-b", 3), ("$.a$", 3), ("$.a b", 3), ("$.?", 2), ("$.@", 2),
+    ("$.1", 2), ("$.9007199254740992", 2), ("$.1a", 2), ("$..0", 3), ("$.-a", 2), ("$.a-b", 3), ("$.a$", 3), ("$.a b", 3), ("$.?", 2), ("$.@", 2),
     # 2.3, 2.5.1.1: brackets hold one selector at least.
     ("$[", 2), ("$[]", 2), ("$[ ]", 3), ("$[,0]", 2), ("$[0,]", 4), ("$[0,,1]", 4), ("$[0 1]", 4), ("$[0", 3), ("$[0,1", 5), ("$[a]", 2), ("$[0]]", 4), ("$[[0]]", 2), ("$['a'.b]", 5), ("$[**]", 3),
     # 2.3.1.1: of the two quotes only the string's own is escaped; surrogates come in pairs; no control characters.
     ("$['a", 4), ("$['a\"]", 6), ('$["\\\'"]', 4), ("$['\\\"']", 4), ('$["\\a"]', 4), ('$["\\x41"]', 4), ('$["\\U0041"]', 4), ('$["\\', 4), ('$["\\"]', 6), ('$["\n"]', 3), ("$['\x1f']", 3),
     ('$["\\u00"]', 7), ('$["\\u00g0"]', 7), ('$["\\ud800"]', 9), ('$["\\udc00"]', 5), ('$["\\ud800\\n"]', 9), ('$["\\ud800\\u0041"]', 11), ('$["\\ud800\\ud800"]', 11), ("$['a''b']", 5),
-    # 2.1, 2.3.3.1: integers without a sign `+`, `-0`, a leading zero, a fraction or a power, and no greater than 2^53 - 1.
+    # 2.1, 2.3.3.1: integers without a sign `+`, `-0`, a leading zero, a fraction or a power.
     ("$[01]", 3), ("$[00]", 3), ("$[-0]", 3), ("$[-01]", 3), ("$[+1]", 2), ("$[-]", 3), ("$[--1]", 3), ("$[- 1]", 3), ("$[1.0]", 3), ("$[1e1]", 3), ("$[.1]", 2), ("$[\u0661]", 2),
-    ("$[9007199254740992]", 2), ("$[-9007199254740992]", 3), ("$[18446744073709551617]", 2), ("$[0:9007199254740992]", 4), ("$[9007199254740992:]", 2), ("$[0::-9007199254740992]", 6), ("$[1:01]", 5), ("$[::-0]", 5),
+    ("$[1:01]", 5), ("$[::-0]", 5),
     # 2.3.5.1: a filter stands in brackets, and in it a test, parentheses, or `!` before one of these.
     ("$[?]", 3), ("$[? ]", 4), ("$[?a]", 3), ("$[?(@.a]", 7), ("$[?()]", 4), ("$[?!!@.a]", 4), ("$[?@.a)]", 6), ("$[?@.a && ]", 10), ("$[?@.a || ]", 10), ("$[?@.a,]", 7),
     ("$[?@.a ?@.b]", 7), ("$[?@.a", 6), ("$.a?@.b", 3), ("$?@.a", 1),
-    # 2.3.5.1: what is compared are literals and singular queries; no literal, no comparison of a test, and no chain stands alone.
-    ("$[?1]", 3), ("$[?'a']", 3), ("$[?true]", 3), ("$[?null]", 3), ("$[?1 == ]", 8), ("$[? == 1]", 4), ("$[?@.a = 1]", 7), ("$[?@.a === 1]", 9), ("$[?@.a == = 1]", 10),
-    ("$[?@.a = = 1]", 7), ("$[?@.a < = 1]", 9), ("$[?@.a =< 1]", 7), ("$[?@.a <> 1]", 8), ("$[?@.a ! = 1]", 7), ("$[?1 < @ < 3]", 9), ("$[?1 == 1 == 1]", 10),
-    ("$[?(@.a) == 1]", 9), ("$[?1 == (1)]", 8), ("$[?!@.a == 1]", 8), ("$[?!1 == 1]", 4), ("$[?1 && @.a]", 3), ("$[?1 == 1 && 1]", 13), ("$[?(1)]", 4), ("$[?@.a == 1)]", 11),
-    ("$[?@.a == @..b]", 11), ("$[?@..b == @.a]", 8), ("$[?@.* == 1]", 7), ("$[?@[*] == 1]", 8), ("$[?1 == @[*]]", 9), ("$[?@[0:1] == 1]", 10), ("$[?@[0,1] == 1]", 10),
-    ("$[?@['a','b'] == 1]", 14), ("$[?@[?@.a] == 1]", 11), ("$[?@[ 'a' ]==1]", 11), ("$[?@['a' ]==1]", 10), ("$[?@[ 0]==1]", 8), ("$[?1==@[ 0]]", 7), ("$[?$..a == 1]", 8), ("$[?1 == $.*]", 9),
+    # 2.3.5.1: a comparison has an operator, with no blank in it, between two operands.
+    ("$[?1 == ]", 8), ("$[? == 1]", 4), ("$[?@.a = 1]", 7), ("$[?@.a === 1]", 9), ("$[?@.a == = 1]", 10),
+    ("$[?@.a = = 1]", 7), ("$[?@.a < = 1]", 9), ("$[?@.a =< 1]", 7), ("$[?@.a <> 1]", 8), ("$[?@.a ! = 1]", 7),
+    ("$[?@.a == 1)]", 11),
     # `number`, `true`, `false`, `null`
     ("$[?@ == 01]", 8), ("$[?@ == -01]", 8), ("$[?@ == 1.]", 8), ("$[?@ == .5]", 8), ("$[?@ == +1]", 8), ("$[?@ == 1e]", 8), ("$[?@ == 1e+]", 8), ("$[?@ == -]", 8), ("$[?@ == 1.e1]", 8),
     ("$[?@ == 1.5.5]", 8), ("$[?@ == --1]", 8), ("$[?@ == 1-1]", 8), ("$[?@ == 0x1]", 9), ("$[?@ == 1a]", 9), ("$[?01 == @]", 3), ("$[?@ == - 1]", 8), ("$[?@ == e]", 8), ("$[?@ == NaN]", 8),
     ("$[?@ == True]", 8), ("$[?@ == TRUE]", 8), ("$[?@ == tru]", 8), ("$[?@ == nul]", 8), ("$[?@ == truee]", 12), ("$[?@ == nullnull]", 12), ("$[?@ == 'a]", 11), ("$[?@ == \"a']", 12), ("$[?@ == '\\x']", 10),
     ("$[?@ == []]", 8), ("$[?@ == {}]", 8), ("$[?@.a=='a' 'b']", 12),
-    # 2.4.3, 2.4.9: `length` takes a value, `count` and `value` a query, and none of them is a test; other functions are not known.
-    ("$[?length(@.*) < 3]", 11), ("$[?count(1) == 1]", 9), ("$[?count(foo(@.*)) == 1]", 9), ("$[?value(@..color)]", 3), ("$[?bar(@.a)]", 3), ("$[?bnl(@.*)]", 3), ("$[?blt(1==1)]", 3), ("$[?blt(1)]", 3), ("$[?bal(1)]", 3),
-    ("$[?length(@)]", 3), ("$[?count(@)]", 3), ("$[?length(@) ]", 3), ("$[?!count(@)]", 4), ("$[?@.a && value(@)]", 10), ("$[?(length(@))]", 4), ("$[?foo(@) == 1]", 3), ("$[?1 == foo(@)]", 8),
-    ("$[?length() == 1]", 10), ("$[?length(@, @) == 1]", 11), ("$[?length (@) == 1]", 3), ("$[?Length(@) == 1]", 3), ("$[?length == 1]", 3), ("$[?lengths(@) == 1]", 3), ("$[?length(@ == 1]", 12),
-    ("$[?count((@.*)) == 1]", 9), ("$[?count(@.* == 1) == 1]", 13), ("$[?count(length(@)) == 1]", 9), ("$[?count('a') == 1]", 9), ("$[?count() == 1]", 9), ("$[?value(null) == 1]", 9), ("$[?count(@ .. a) == 1]", 13),
-    ("$[?length(@.a == 1) == 1]", 14), ("$[?length(@.a.*) == 1]", 13), ("$[?length(@[ 'a' ]) == 1]", 11), ("$[?length(!@) == 1]", 10), ("$[?length((@)) == 1]", 10), ("$[?length(01) == 1]", 10),
-    ("$[?count(@.a) == count(1)]", 23), ("$.count(@)", 7), ("$[?count(@[?count(1)]) == 1]", 18), ("$[?count(@.*) = 1]", 3), ("$[length(@)]", 2),
-    # The same of `match` and `search`, which take two values, and are tests.
-    ("$[?match(@.timezone, 'Europe/.*') == true]", 34), ("$[?true == match(@.timezone, 'Europe/.*')]", 11), ("$[?length(match(@.a, 'x')) == 1]", 10), ("$[?count(search(@.a, 'x')) == 1]", 9),
-    ("$[?match(@.a)]", 12), ("$[?match(@.a, 'x', 'y')]", 17), ("$[?match(@.*, 'x')]", 10), ("$[?search(@.a, @..b)]", 16), ("$[?match(1, )]", 12), ("$[?search()]", 10), ("$[?match (@, 'x')]", 3),
-    ("$[?!match(@.a, 'x') == true]", 20), ("$[?match(@.a, 'x' == 'x')]", 18), ("$[?match((@), 'x')]", 9), ("$[?match(!@, 'x')]", 9), ("$[?match(@ 'x')]", 11), ("$[?match(@[0:1], 'x')]", 10),
-    ("$[?search(@.a, search(@.b, 'x'))]", 15), ("$[?match(true == true, 'x')]", 14), ("$[?matches(@, 'x')]", 3), ("$[?Search(@, 'x')]", 3), ("$[?search(@, 'x']", 16), ("$[?match]", 3),
-    ("$[?match(@.a, @.*)]", 15), ("$[?match('(', ')]", 17), ("$[?search(@, 'x') < 1]", 18), ("$[match(@, 'x')]", 2), ("$[?(match(@, 'x') == true)]", 18), ("$[?count(match(@, 'x')) == 1]", 9),
+    # 2.4: a function's name has small letters, and no blank before its parenthesis; no function is a selector.
+    ("$[?length (@) == 1]", 3), ("$[?Length(@) == 1]", 3), ("$[?length == 1]", 3),
+    ("$[?count(@ .. a) == 1]", 13),
+    ("$[?length(01) == 1]", 10),
+    ("$.count(@)", 7), ("$[length(@)]", 2),
+    ("$[?match (@, 'x')]", 3),
+    ("$[?match(@ 'x')]", 11),
+    ("$[?Search(@, 'x')]", 3), ("$[?search(@, 'x']", 16), ("$[?match]", 3),
+    ("$[?match('(', ')]", 17), ("$[match(@, 'x')]", 2),
     # 2.3.4.1
     ("$[:::]", 4), ("$[1:2:3:4]", 7), ("$[1:a]", 4), ("$[1:'a']", 4), ("$[1:*]", 4), ("$['a':1]", 5), ("$[1::", 5), ("$[1:", 4), ("$[1:2:+1]", 6),
+]
+
+# 2.4: calls of functions that are none of the five.
+UNKNOWN_FUNCTION = [
+    ("$[?count(foo(@.*)) == 1]", 9), ("$[?bar(@.a)]", 3), ("$[?bnl(@.*)]", 3), ("$[?blt(1==1)]", 3), ("$[?blt(1)]", 3), ("$[?bal(1)]", 3), ("$[?foo(@) == 1]", 3),
+    ("$[?1 == foo(@)]", 8), ("$[?lengths(@) == 1]", 3), ("$[?matches(@, 'x')]", 3), ("$[?exp(@) == 1]", 3), ("$[?a_2b(@)]", 3), ("$[?!foo(@)]", 4), ("$[?(foo(@))]", 4),
+    ("$[?length(size(@)) == 1]", 10), ("$[?match(@, lower(@))]", 12), ("$[?count2() == 1]", 3), ("$[?x(]", 3), ("$[size(@)]", 2),
+]
+
+# 2.4: calls with too few arguments, or too many.
+ARGUMENT_COUNT = [
+    ("$[?length() == 1]", 10), ("$[?length(@, @) == 1]", 11), ("$[?count() == 1]", 9), ("$[?match(@.a)]", 12), ("$[?match(@.a, 'x', 'y')]", 17), ("$[?match(1, )]", 12),
+    ("$[?search()]", 10), ("$[?count(@, 1) == 1]", 10), ("$[?value( ) == 1]", 10), ("$[?search( )]", 11),
+]
+
+# Types that do not fit.
+TYPE_MISMATCH = [
+    # 2.3.5.1, 2.4.3: neither a literal nor a function of a value is a test.
+    ("$[?1]", 3), ("$[?'a']", 3), ("$[?true]", 3), ("$[?null]", 3), ("$[?1 && @.a]", 3), ("$[?1 == 1 && 1]", 13), ("$[?(1)]", 4), ("$[?!1 == 1]", 4),
+    ("$[?value(@..color)]", 3), ("$[?length(@)]", 3), ("$[?count(@)]", 3), ("$[?length(@) ]", 3), ("$[?!count(@)]", 4), ("$[?@.a && value(@)]", 10),
+    ("$[?(length(@))]", 4), ("$[?count(@.*) = 1]", 3),
+    # What is compared are literals, singular queries and functions of a value.
+    ("$[?1 < @ < 3]", 9), ("$[?1 == 1 == 1]", 10), ("$[?(@.a) == 1]", 9), ("$[?1 == (1)]", 8), ("$[?!@.a == 1]", 8), ("$[?@.a == @..b]", 11), ("$[?@..b == @.a]", 8),
+    ("$[?@.* == 1]", 7), ("$[?@[*] == 1]", 8), ("$[?1 == @[*]]", 9), ("$[?@[0:1] == 1]", 10), ("$[?@[0,1] == 1]", 10), ("$[?@['a','b'] == 1]", 14),
+    ("$[?@[?@.a] == 1]", 11), ("$[?@[ 'a' ]==1]", 11), ("$[?@['a' ]==1]", 10), ("$[?@[ 0]==1]", 8), ("$[?1==@[ 0]]", 7), ("$[?$..a == 1]", 8), ("$[?1 == $.*]", 9),
+    ("$[?match(@.timezone, 'Europe/.*') == true]", 34), ("$[?true == match(@.timezone, 'Europe/.*')]", 11), ("$[?!match(@.a, 'x') == true]", 20),
+    ("$[?search(@, 'x') < 1]", 18), ("$[?(match(@, 'x') == true)]", 18), ("$[?@.a == !@.b]", 10),
+    # 2.4.4, 2.4.6, 2.4.7: `length`, `match` and `search` take values.
+    ("$[?length(@.*) < 3]", 11), ("$[?length(@ == 1]", 12), ("$[?length(@.a == 1) == 1]", 14), ("$[?length(@.a.*) == 1]", 13), ("$[?length(@[ 'a' ]) == 1]", 11),
+    ("$[?length(!@) == 1]", 10), ("$[?length((@)) == 1]", 10), ("$[?length(match(@.a, 'x')) == 1]", 10), ("$[?match(@.*, 'x')]", 10), ("$[?search(@.a, @..b)]", 16),
+    ("$[?match(@.a, 'x' == 'x')]", 18), ("$[?match((@), 'x')]", 9), ("$[?match(!@, 'x')]", 9), ("$[?match(@[0:1], 'x')]", 10), ("$[?search(@.a, search(@.b, 'x'))]", 15),
+    ("$[?match(true == true, 'x')]", 14), ("$[?match(@.a, @.*)]", 15), ("$[?length(@.a && @.b) == 1]", 14), ("$[?match(@.a || @.b, 'x')]", 13),
+    # 2.4.5, 2.4.8: `count` and `value` take a query.
+    ("$[?count(1) == 1]", 9), ("$[?count((@.*)) == 1]", 9), ("$[?count(@.* == 1) == 1]", 13), ("$[?count(length(@)) == 1]", 9), ("$[?count('a') == 1]", 9),
+    ("$[?value(null) == 1]", 9), ("$[?count(@.a) == count(1)]", 23), ("$[?count(@[?count(1)]) == 1]", 18), ("$[?count(search(@.a, 'x')) == 1]", 9),
+    ("$[?count(match(@, 'x')) == 1]", 9),
+]
+
+# 2.1: integers whose magnitude is above 2^53 - 1.
+INDEX_OUT_OF_RANGE = [
+    ("$[9007199254740992]", 2), ("$[-9007199254740992]", 3), ("$[18446744073709551617]", 2), ("$[0:9007199254740992]", 4), ("$[9007199254740992:]", 2),
+    ("$[0::-9007199254740992]", 6), ("$[0,9007199254740992]", 4), ("$[?@[9007199254740992] == 1]", 5),
 ]
 
 # 2.3.5.1: a number in a comparison whose power of ten is out of `i64`, and how many characters stand before it.
@@ -386,8 +422,15 @@ OUT_OF_RANGE = [
 ]
 
 # The messages of such texts and queries.
-NO_QUERY = "the query: no query of RFC 9535 at character %d"
-NO_POWER = "the query: a number whose power of ten is out of range at character %d"
+NO_QUERY = "the query: a syntax error at character %d"
+BROKEN_RULES = (
+    (REFUSED, NO_QUERY),
+    (UNKNOWN_FUNCTION, "the query: an unknown function at character %d"),
+    (ARGUMENT_COUNT, "the query: a wrong number of arguments at character %d"),
+    (TYPE_MISMATCH, "the query: types that do not fit at character %d"),
+    (INDEX_OUT_OF_RANGE, "the query: an index that is out of range at character %d"),
+    (OUT_OF_RANGE, "the query: a number whose power of ten is out of range at character %d"),
+)
 
 # What is told where a query selects nothing.
 NO_NODE = reported(1, "json_path", "the query selects no node")
@@ -715,7 +758,7 @@ def answers():
     yield from rests()
     for count in range(5):
         yield from ((it, *it) for it in sliced(count))
-    for rows, words in ((REFUSED, NO_QUERY), (OUT_OF_RANGE, NO_POWER)):
+    for rows, words in BROKEN_RULES:
         for row in rows:
             query, place = row
             yield row, [query], b"[1,]", reported(2, "json_path", words % place)
@@ -805,9 +848,9 @@ def check_padded(checks):
             checks.row(name, expected, run_of, program("json_path"), words, document, at=row)
         name, expected = f"json_path: padded {row[0]} -le", printed(b"[" + b",".join(both[0]) + b"]")
         checks.row(name, expected, run_of, program("json_path"), ["-le", query], b" ".join(document.split(b"\n")), at=row)
-    rows = [(row, *row) for row in REFUSED]
-    for row, (query, place) in padded_rows(checks, "json_path, refused", rows, padded_refusal_of_query, UNPADDED_REFUSED):
-        name, expected = f"json_path: padded {row[0]}", reported(2, "json_path", NO_QUERY % place)
+    rows = [(row, *row, words) for rows, words in BROKEN_RULES for row in rows]
+    for row, (query, words) in padded_rows(checks, "json_path, refused", rows, padded_refusal_of_query, UNPADDED_REFUSED):
+        name, expected = f"json_path: padded {row[0]}", reported(2, "json_path", words)
         checks.row(name, expected, run_of, program("json_path"), [query], b"[1,]", at=row)
 
 

@@ -153,8 +153,8 @@ def padded_selection(document, query, values, paths):
     return text_of(deep(padded(tree))), "$" + BELOW + "".join(text for *_, text in segments), values, below(paths)
 
 
-def padded_refusal_of_query(query, place):
-    """A text that is no query, and the place that is told."""
+def padded_refusal_of_query(query, place, words):
+    """A text that is no query, and the words, which name the place."""
     if not query.startswith("$") or not place:
         raise Unpadded("no query from its first character on")
-    return "$" + BELOW + query[1:], place + len(BELOW)
+    return "$" + BELOW + query[1:], words % (place + len(BELOW))

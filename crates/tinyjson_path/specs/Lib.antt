@@ -14,6 +14,7 @@ pub use Rattle.tinyjson_path_query.specs.Forms
 pub use Rattle.tinyjson_path_query.specs.Grammar
 pub use Rattle.tinyjson_path_query.specs.Message
 pub use Rattle.tinyjson_path_query.specs.Reading
+pub use Rattle.tinyjson_path_query.specs.Refusing
 pub use Rattle.tinyjson_path_query.specs.declared.error.ParseError
 pub use Rattle.tinyjson_path_query.specs.declared.error.ParseErrorKind
 pub use Rattle.tinyjson_path_query.specs.declared.query.Query

@@ -1,7 +1,7 @@
 -- Single turns over selectors, segments and conditions, at each depth.
-use Rattle.std.proofs.Common.{◌≡◌, ◌≢◌, ℕ, suc, ◌<◌, true, false, ◌==◌, List, [], ◌∷◌, length, Option, Some, None}
+use Rattle.std.proofs.Common.{◌≡◌, ◌≢◌, ℕ, zero, suc, ◌<◌, true, false, ◌==◌, List, [], ◌∷◌, length, Option, Some, None}
 use Rattle.std.proofs.Common.{option_map, option_and_then, Result, Bor, refl, sym, ap, ◌∙◌, subst, arith}
-use Rattle.std.proofs.lemmas.Bool.{cond-true, cond-false, ne_eqb}
+use Rattle.std.proofs.lemmas.Bool.{cond-true, cond-false, ne_eqb, eqb-true}
 use Rattle.tinyjson_path_query.specs.declared.query.Expression.{Expression as CodeExpression}
 use Rattle.tinyjson_path_query.specs.declared.query.Origin.{Origin}
 use Rattle.tinyjson_path_query.specs.declared.query.PatternFunction.{PatternFunction}
@@ -12,10 +12,10 @@ use Rattle.tinyjson_path_query.specs.Forms.{Comparable, Function, Argument, IsAr
 use Rattle.tinyjson_path_query.specs.Forms.{PlainSelector, Selector, Segment, Operand, Basic, Expression, Each, IsSelector}
 use Rattle.tinyjson_path_query.specs.Forms.{Disjunction, IsExpression, IsDisjunction}
 use Rattle.tinyjson_path_query.specs.Forms as form
-use Rattle.tinyjson_path_query.specs.Grammar.{after_blanks, length_call, count_call, value_call, pattern_call}
+use Rattle.tinyjson_path_query.specs.Grammar.{after_blanks, begins_with, right_parenthesis, length_call, count_call, value_call, pattern_call}
 use Rattle.tinyjson_path_query.specs.Values.{Literal, SingularSegment}
 use Rattle.tinyjson_path_query.specs.declared.query.Comparable.{Comparable as CodeComparable}
-use Rattle.tinyjson_path_query.specs.declared.error.Refusal.{Refusal}
+use Rattle.tinyjson_path_query.specs.declared.refusal.Refusal.{Refusal}
 use Rattle.tinyjson_path_query.specs.Reading.{Fronts}
 use Rattle.tinyjson_path_query.specs.Fronts.{FrontOf, end, last, more, more_of, selector_front, filtered, as_plain, plain_front, separator}
 use Rattle.tinyjson_path_query.specs.Fronts.{separated, selection_turn, selection_front, shorthand_front, begins_segment, segment_front}
@@ -334,6 +334,11 @@ pub argument_at : (n m : ℕ) (xs : List ℕ) (r : Result (CodeComparable × Bor
     → Fronts (IsComparable (IsExpression m) (IsArgument m)) (comparable_front (expression_front m) (argument_front m) xs) r
     → Fronts (IsArgument n) (argument_front n xs) r
 argument_at n m xs r s h = subst (λ l. Fronts (IsArgument l) (argument_front l xs) r) (sym s) h
+
+pub no_argument : (n : ℕ) (xs : List ℕ) → begins_with right_parenthesis xs ≡ true → argument_front n xs ≡ None
+no_argument zero xs e = refl
+no_argument (suc n) [] e = refl
+no_argument (suc n) (c ∷ cs) e = ap (λ d. argument_front (suc n) (d ∷ cs)) (eqb-true c right_parenthesis e)
 
 module _ {E C : Type 0} (F : FrontOf E) (G : FrontOf C) where
   pub query_from : (xs cs : List ℕ) (c : ℕ) (o : Origin) (p : Option (List SingularSegment × List ℕ)) → xs ≡ c ∷ cs

@@ -12,4 +12,5 @@ pub mod Steps
 pub mod Literals
 pub mod Levels
 pub mod Digits
+pub mod Meaning
 pub mod Reading

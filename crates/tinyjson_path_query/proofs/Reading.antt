@@ -1,13 +1,16 @@
 -- What is read is the one query of the text.
-use Rattle.std.proofs.Common.{◌≡◌, ℕ, ◌≤◌, List, length, Ok, Err, sym, ◌∙◌, subst, arith}
+use Rattle.std.proofs.Common.{◌≡◌, ℕ, ◌≤◌, List, length, drop, Ok, Err, sym, ap, ◌∙◌, subst, arith}
 use Rattle.tinyjson_path_query.specs.declared.error.ParseError.{ParseError}
-use Rattle.tinyjson_path_query.specs.declared.error.Refusal.{Refusal}
+use Rattle.tinyjson_path_query.specs.declared.refusal.Refusal.{Refusal}
 use Rattle.tinyjson_path_query.specs.declared.error.ParseErrorKind.TheVariants.{OutOfMemory}
 use Rattle.tinyjson_path_query.specs.declared.query.Query.{Query}
 use Rattle.tinyjson_path_query.specs.Forms.{nesting_limit}
+use Rattle.tinyjson_path_query.specs.Kinds.{kind_at}
+use Rattle.tinyjson_path_query.specs.Refusing.{Says}
 use Rattle.tinyjson_path_query.specs.Reading.{IsReading, IsRefused, ReadsQuery}
 use Rattle.tinyjson_path_query.proofs.Finds.{some_same, none_some}
 use Rattle.tinyjson_path_query.proofs.Conditions.{query_sound}
+use Rattle.tinyjson_path_query.proofs.Meaning.{kind_says}
 use Rattle.tinyjson_path_query.proofs.Complete.{expression_faithful, query_complete}
 
 pub reading : (xs cs : List ℕ) (q : Query) → xs ≡ cs → ReadsQuery nesting_limit xs (Ok q) → IsReading cs q
@@ -18,13 +21,17 @@ reading xs cs q e h = subst (λ zs. IsReading zs q) e (record {
   same = h.2;
 })
 
-pub refused : (xs cs : List ℕ) (e : Refusal) (d : ParseError) → xs ≡ cs → ReadsQuery nesting_limit xs (Err e) → d.kind ≡ e.kind →
-    d.place ≤ length xs
-    → IsRefused cs d
+pub refused : (xs cs : List ℕ) (e : Refusal) (d : ParseError) → xs ≡ cs → ReadsQuery nesting_limit xs (Err e)
+    → d.kind ≡ kind_at e.cause (drop d.place xs) → d.place ≤ length xs → IsRefused cs d
 refused xs cs e d s h k l = subst (λ zs. IsRefused zs d) s (record {
-  none = λ n ss t. none_some (sym (h (λ m. n (k ∙ m))) ∙ query_complete nesting_limit xs ss t);
+  none = λ n ss t. none_some (sym (h (λ m. n (k ∙ ap (λ c. kind_at c (drop d.place xs)) m))) ∙ query_complete nesting_limit xs ss t);
   within = l;
+  says = subst (Says (drop d.place xs)) (sym k) (kind_says e.cause (drop d.place xs));
 })
 
 pub no_characters : (cs : List ℕ) (d : ParseError) → d.kind ≡ OutOfMemory → d.place ≡ 0 → IsRefused cs d
-no_characters cs d k p = record { none = λ n. absurd (n k); within = omega (arith, p) }
+no_characters cs d k p = record {
+  none = λ n. absurd (n k);
+  within = omega (arith, p);
+  says = subst (Says (drop d.place cs)) (sym k) tt;
+}

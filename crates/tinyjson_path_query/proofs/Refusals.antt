@@ -2,26 +2,26 @@
 use Rattle.std.proofs.Common.{◌≡◌, ◌≢◌, ℕ, List, [], ◌∷◌, ◌++◌, Option, None, option_map, Result, Ok, Err, Bor}
 use Rattle.std.proofs.Common.{sym, ap, ◌∙◌, subst}
 use Rattle.std.specs.Result.{IsErrAnd}
-use Rattle.tinyjson_path_query.specs.declared.error.Refusal.{Refusal}
-use Rattle.tinyjson_path_query.specs.declared.error.ParseErrorKind.TheVariants.{OutOfMemory}
+use Rattle.tinyjson_path_query.specs.declared.refusal.Refusal.{Refusal}
+use Rattle.tinyjson_path_query.specs.declared.refusal.Cause.TheVariants.{OutOfMemory}
 use Rattle.tinyjson_path_query.specs.Forms.{Each}
 use Rattle.tinyjson_path_query.specs.Reading.{Fronts, FrontsAs}
 
 pub refused_as : {U V W : Type 0} (stands : V → U → Type 0) (o : Option (V × List ℕ)) (o' : Option W) (e : Refusal)
-    (r : Result (U × Bor (List ℕ)) Refusal) → IsErrAnd r (λ d. d ≡ e) → (e.kind ≢ OutOfMemory → o' ≡ None) → (o' ≡ None → o ≡ None)
+    (r : Result (U × Bor (List ℕ)) Refusal) → IsErrAnd r (λ d. d ≡ e) → (e.cause ≢ OutOfMemory → o' ≡ None) → (o' ≡ None → o ≡ None)
     → Fronts stands o r
 refused_as stands o o' e (Ok x) h k f = absurd h
-refused_as stands o o' e (Err d) h k f = λ n. f (k (λ m. n (ap (λ x. x.kind) h ∙ m)))
+refused_as stands o o' e (Err d) h k f = λ n. f (k (λ m. n (ap (λ x. x.cause) h ∙ m)))
 
 pub no_memory : {U V : Type 0} (stands : V → U → Type 0) (o : Option (V × List ℕ)) (r : Result (U × Bor (List ℕ)) Refusal)
-    → IsErrAnd r (λ d. d.kind ≡ OutOfMemory) → Fronts stands o r
+    → IsErrAnd r (λ d. d.cause ≡ OutOfMemory) → Fronts stands o r
 no_memory stands o (Ok x) h = absurd h
 no_memory stands o (Err d) h = λ n. absurd (n h)
 
 pub front_refused_as : {V W : Type 0} (o : Option (V × List ℕ)) (o' : Option W) (e : Refusal) (r : Result (V × Bor (List ℕ)) Refusal)
-    → IsErrAnd r (λ d. d ≡ e) → (e.kind ≢ OutOfMemory → o' ≡ None) → (o' ≡ None → o ≡ None) → FrontsAs o r
+    → IsErrAnd r (λ d. d ≡ e) → (e.cause ≢ OutOfMemory → o' ≡ None) → (o' ≡ None → o ≡ None) → FrontsAs o r
 front_refused_as o o' e (Ok x) h k f = absurd h
-front_refused_as o o' e (Err d) h k f = λ n. f (k (λ m. n (ap (λ x. x.kind) h ∙ m)))
+front_refused_as o o' e (Err d) h k f = λ n. f (k (λ m. n (ap (λ x. x.cause) h ∙ m)))
 
 pub fronts_from : {U V : Type 0} (stands : V → U → Type 0) (o o' : Option (V × List ℕ)) (r : Result (U × Bor (List ℕ)) Refusal)
     → o ≡ o' → Fronts stands o' r → Fronts stands o r

@@ -3,5 +3,7 @@ pub mod Forms
 pub mod Grammar
 pub mod Numerals
 pub mod Fronts
+pub mod Refusing
+pub mod Kinds
 pub mod Reading
 pub mod Message

@@ -8,12 +8,12 @@ ghost use Rattle.tinyjson_path_query.specs.Fronts.{operator_front, or_equal, ori
 ghost use Rattle.tinyjson_path_query.specs.Reading.{Fronts, FoundAs};
 ghost use Rattle.tinyjson_path_query.specs.Values.{IsLiteral, IsSingularSegment};
 
-use crate::error::{ParseErrorKind, Refusal};
 use crate::lexical::{
     after_blanks, behind, behind_word, integer, is_name_first, is_number_char, is_quote, push,
     push_name_chars, push_number_chars,
 };
 use crate::query::{ComparisonOperator, Literal, Origin, SingularSegment};
+use crate::refusal::{Cause, Refusal};
 use crate::string::quoted;
 use std::alloc::Global;
 use tinyjson::{JsonNumber, JsonNumberError};
@@ -59,7 +59,7 @@ pub(crate) fn singular_segments(
                 rest = after;
             }
             Err(refusal) => {
-                if refusal.kind == ParseErrorKind::OutOfMemory {
+                if refusal.cause == Cause::OutOfMemory {
                     return Err(refusal);
                 }
                 return Ok((segments, rest));
@@ -73,13 +73,13 @@ fn singular_segment(alloc: Global, text: &[char]) -> Result<(SingularSegment, &[
     ensures { Fronts IsSingularSegment (singular_segment_front text.now) result }
 {
     let Some((first, rest)) = text.split_first() else {
-        return Err(Refusal::invalid(text));
+        return Err(Refusal::at(Cause::Character, text));
     };
     if *first == '[' {
         return bracketed(alloc, rest);
     }
     if *first != '.' {
-        return Err(Refusal::invalid(text));
+        return Err(Refusal::at(Cause::Character, text));
     }
     name(alloc, rest)
 }
@@ -89,18 +89,18 @@ fn bracketed(alloc: Global, text: &[char]) -> Result<(SingularSegment, &[char]),
     ensures { Fronts IsSingularSegment (bracketed_front text.now) result }
 {
     let Some((first, rest)) = text.split_first() else {
-        return Err(Refusal::invalid(text));
+        return Err(Refusal::at(Cause::Character, text));
     };
     if is_quote(*first) {
         let (name, after) = quoted(alloc, *first, rest)?;
         let Some(behind) = behind(']', after) else {
-            return Err(Refusal::invalid(after));
+            return Err(Refusal::at(Cause::Character, after));
         };
         return Ok((SingularSegment::Name(name), behind));
     }
     let (index, after) = integer(text)?;
     let Some(behind) = behind(']', after) else {
-        return Err(Refusal::invalid(after));
+        return Err(Refusal::at(Cause::Character, after));
     };
     Ok((SingularSegment::Index(index), behind))
 }
@@ -110,10 +110,10 @@ fn name(alloc: Global, text: &[char]) -> Result<(SingularSegment, &[char]), Refu
     ensures { Fronts IsSingularSegment (name_front text.now) result }
 {
     let Some((first, rest)) = text.split_first() else {
-        return Err(Refusal::invalid(text));
+        return Err(Refusal::at(Cause::Character, text));
     };
     if !is_name_first(*first) {
-        return Err(Refusal::invalid(text));
+        return Err(Refusal::at(Cause::Character, text));
     }
     let mut name = String::new(alloc);
     push(&mut name, *first)?;
@@ -126,7 +126,7 @@ pub(crate) fn literal(alloc: Global, text: &[char]) -> Result<(Literal, &[char])
     ensures { Fronts IsLiteral (literal_front text.now) result }
 {
     let Some((first, rest)) = text.split_first() else {
-        return Err(Refusal::invalid(text));
+        return Err(Refusal::at(Cause::Value, text));
     };
     if is_quote(*first) {
         let (string, after) = quoted(alloc, *first, rest)?;
@@ -146,15 +146,9 @@ fn number(alloc: Global, text: &[char]) -> Result<(Literal, &[char]), Refusal>
     let rest = push_number_chars(&mut digits, text)?;
     match JsonNumber::from_text(alloc, digits.as_str()) {
         Ok(number) => Ok((Literal::Number(number), rest)),
-        Err(JsonNumberError::NotANumber) => Err(Refusal::invalid(text)),
-        Err(JsonNumberError::OutOfRange) => Err(Refusal {
-            kind: ParseErrorKind::NumberOutOfRange,
-            left: text.len(),
-        }),
-        Err(JsonNumberError::OutOfMemory) => Err(Refusal {
-            kind: ParseErrorKind::OutOfMemory,
-            left: 0,
-        }),
+        Err(JsonNumberError::NotANumber) => Err(Refusal::at(Cause::Value, text)),
+        Err(JsonNumberError::OutOfRange) => Err(Refusal::at(Cause::NumberOutOfRange, text)),
+        Err(JsonNumberError::OutOfMemory) => Err(Refusal::at(Cause::OutOfMemory, text)),
     }
 }
 
@@ -171,7 +165,7 @@ fn word(text: &[char]) -> Result<(Literal, &[char]), Refusal>
     if let Some(rest) = behind_word(&['n', 'u', 'l', 'l'], text) {
         return Ok((Literal::Null, rest));
     }
-    Err(Refusal::invalid(text))
+    Err(Refusal::at(Cause::Value, text))
 }
 
 /// The operator at the front, and the text after it.

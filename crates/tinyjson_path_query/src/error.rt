@@ -1,17 +1,24 @@
 //! Why a text is no query.
-ghost use Rattle.std.specs.Prelude.{◌≡◌, Some};
+ghost use Rattle.std.specs.Prelude.{Some};
 ghost use Rattle.tinyjson_path_query.specs.Message.{kind_message, error_message};
-ghost use Rattle.tinyjson_path_query.specs.declared.error.ParseErrorKind.{ParseErrorKind};
 
-use std::alloc::{AllocError, AllocFailed};
 use std::error::Error;
 use std::fmt;
 
-/// Why a text is rejected.
+/// Which rule a text breaks that is no query (RFC 9535).
 #[derive(Clone, Copy, Debug, PartialEq, Eq)]
 pub enum ParseErrorKind {
-    /// The text is no query of RFC 9535.
-    Invalid,
+    /// No query of the grammar continues so.
+    Syntax,
+    /// A name before a parenthesis is none of the five functions (2.4).
+    UnknownFunction,
+    /// A function has too few arguments, or too many.
+    ArgumentCount,
+    /// The types do not fit (2.3.5.1 and 2.4.3): something other than a single value is compared or passed as a
+    /// value, a value is tested, or an argument is no query where one is needed.
+    TypeMismatch,
+    /// The magnitude of an index, or of a number of a slice, is above 2^53 - 1 (2.1).
+    IndexOutOfRange,
     /// The power of ten of a number that is compared is outside the range of `i64`.
     NumberOutOfRange,
     /// More than 64 logical expressions and function arguments are nested.
@@ -25,7 +32,11 @@ impl fmt::Display for ParseErrorKind {
 
     fn fmt<W: fmt::Write>(&self, f: &mut fmt::Formatter<W>) -> fmt::Result {
         f.write_str(match self {
-            ParseErrorKind::Invalid => "no query of RFC 9535",
+            ParseErrorKind::Syntax => "a syntax error",
+            ParseErrorKind::UnknownFunction => "an unknown function",
+            ParseErrorKind::ArgumentCount => "a wrong number of arguments",
+            ParseErrorKind::TypeMismatch => "types that do not fit",
+            ParseErrorKind::IndexOutOfRange => "an index that is out of range",
             ParseErrorKind::NumberOutOfRange => "a number whose power of ten is out of range",
             ParseErrorKind::TooDeep => "more than 64 nested expressions",
             ParseErrorKind::OutOfMemory => "out of memory",
@@ -36,10 +47,10 @@ impl fmt::Display for ParseErrorKind {
 /// Why a text is rejected, and where.
 ///
 /// ```
-/// if let Err(error) = Query::parse(alloc, "$.a[01]") {
-///     assert_eq!(rt; error.place, 5);
+/// if let Err(error) = Query::parse(alloc, "$[?size(@.a) > 1]") {
+///     assert_eq!(rt; error.kind, ParseErrorKind::UnknownFunction);
 ///     let words = error.to_string(alloc)?;
-///     assert_eq!(rt; words.as_str(), "no query of RFC 9535 at character 5");
+///     assert_eq!(rt; words.as_str(), "an unknown function at character 3");
 /// }
 /// ```
 #[derive(Clone, Copy, Debug, PartialEq, Eq)]
@@ -59,45 +70,3 @@ impl fmt::Display for ParseError {
 }
 
 impl Error for ParseError {}
-
-/// Why a text is rejected, and at which place.
-#[derive(Clone, Copy)]
-pub(crate) struct Refusal {
-    pub(crate) kind: ParseErrorKind,
-    /// The number of characters from there to the end.
-    pub(crate) left: usize,
-}
-
-impl Refusal {
-    /// The text at this place is not in the grammar.
-    pub(crate) fn invalid(rest: &[char]) -> Refusal
-        ensures { result.kind ≡ ParseErrorKind.Invalid }
-    {
-        Refusal {
-            kind: ParseErrorKind::Invalid,
-            left: rest.len(),
-        }
-    }
-}
-
-impl From<AllocError> for Refusal {
-    ghost from_gives = { λ _ e. e.kind ≡ ParseErrorKind.OutOfMemory };
-
-    fn from(_: AllocError) -> Refusal {
-        Refusal {
-            kind: ParseErrorKind::OutOfMemory,
-            left: 0,
-        }
-    }
-}
-
-impl<T: Drop> From<AllocFailed<T>> for Refusal {
-    ghost from_gives = { λ _ e. e.kind ≡ ParseErrorKind.OutOfMemory };
-
-    fn from(_: AllocFailed<T>) -> Refusal {
-        Refusal {
-            kind: ParseErrorKind::OutOfMemory,
-            left: 0,
-        }
-    }
-}

@@ -1,13 +1,14 @@
 //! Blanks, names and integers.
-ghost use Rattle.std.specs.Prelude.{◌≡◌, ◌<◌, ◌≤◌, ◌++◌, ◌∷◌, [], IfOk, string_bytes};
+ghost use Rattle.std.specs.Prelude.{◌≡◌, ◌<◌, ◌≤◌, ◌++◌, ◌∷◌, [], IfOk, IfErr, string_bytes};
 ghost use Rattle.tinyjson.specs.Characters.{is_white, text};
 ghost use Rattle.tinyjson_path_query.specs.Fronts.{begins_int, magnitude_front, int_front, behind, behind_both};
 ghost use Rattle.tinyjson_path_query.specs.Fronts.{behind_word, is_quote};
 ghost use Rattle.tinyjson_path_query.specs.Grammar.{after_blanks, is_name_first, is_name_char, name_chars};
 ghost use Rattle.tinyjson_path_query.specs.Grammar.{is_digit, is_number_char, number_chars, greatest_exact};
 ghost use Rattle.tinyjson_path_query.specs.Reading.{FrontsAs, IsRest, PushesName, PushesNumber};
+ghost use Rattle.tinyjson_path_query.specs.declared.refusal.Cause.{Cause};
 
-use crate::error::Refusal;
+use crate::refusal::{Cause, Refusal};
 use std::alloc::AllocError;
 
 /// The greatest integer of the interoperable range: it and all smaller ones are exact in a double (RFC 9535,
@@ -47,7 +48,7 @@ fn is_name_char(c: char) -> bool
     is_name_first(c) || is_digit(c)
 }
 
-fn is_digit(c: char) -> bool
+pub(crate) fn is_digit(c: char) -> bool
     ensures { result ≡ is_digit c }
 {
     '0' <= c && c <= '9'
@@ -163,7 +164,7 @@ pub(crate) fn integer(text: &[char]) -> Result<(i64, &[char]), Refusal>
     ensures { FrontsAs (int_front text.now) result }
 {
     let Some((first, rest)) = text.split_first() else {
-        return Err(Refusal::invalid(text));
+        return Err(Refusal::at(Cause::Integer, text));
     };
     if *first == '0' {
         return Ok((0, rest));
@@ -177,15 +178,16 @@ pub(crate) fn integer(text: &[char]) -> Result<(i64, &[char]), Refusal>
 }
 
 /// Parses an integer without a sign, other than 0.
-fn magnitude(text: &[char]) -> Result<(u64, &[char]), Refusal>
+pub(crate) fn magnitude(text: &[char]) -> Result<(u64, &[char]), Refusal>
     ensures read { FrontsAs (magnitude_front text.now) result }
     ensures exact { IfOk result (λ r. r.0 ≤ greatest_exact) }
+    ensures cause { IfErr result (λ e. e.cause ≡ Cause.Integer) }
 {
     let Some((first, after)) = text.split_first() else {
-        return Err(Refusal::invalid(text));
+        return Err(Refusal::at(Cause::Integer, text));
     };
     if *first == '0' || !is_digit(*first) {
-        return Err(Refusal::invalid(text));
+        return Err(Refusal::at(Cause::Integer, text));
     }
     let mut value = *first as u64 - '0' as u64;
     let mut rest = after;
@@ -195,7 +197,7 @@ fn magnitude(text: &[char]) -> Result<(u64, &[char]), Refusal>
         }
         value = 10 * value + (*next as u64 - '0' as u64);
         if value > GREATEST_EXACT {
-            return Err(Refusal::invalid(text));
+            return Err(Refusal::at(Cause::Integer, text));
         }
         rest = after;
     }

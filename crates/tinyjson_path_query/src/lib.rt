@@ -10,6 +10,7 @@ mod error;
 mod lexical;
 mod parse;
 mod query;
+mod refusal;
 mod string;
 
 pub use error::{ParseError, ParseErrorKind};

@@ -10,12 +10,13 @@ ghost use Rattle.tinyjson_path_query.specs.Fronts.{begins_segment, segment_front
 ghost use Rattle.tinyjson_path_query.specs.Fronts.{basic_front, conjunction_front, expression_front, argument_front};
 ghost use Rattle.tinyjson_path_query.specs.Fronts.{comparable_front, function_front, filter_query_front, closed_front};
 ghost use Rattle.tinyjson_path_query.specs.Fronts.{pattern_front, arguments_front};
+ghost use Rattle.tinyjson_path_query.specs.Kinds.{end_of};
 ghost use Rattle.tinyjson_path_query.specs.Reading.{Reads, ReadsQuery, Fronts, FrontsAs};
 
 use crate::comparable::{
     begins_call, begins_pattern, literal, operator, origin, singular_segments,
 };
-use crate::error::{ParseError, ParseErrorKind, Refusal};
+use crate::error::{ParseError, ParseErrorKind};
 use crate::lexical::{
     after_blanks, begins_integer, behind, behind_both, behind_word, integer, is_name_first, push,
     push_name_chars,
@@ -24,6 +25,7 @@ use crate::query::{
     Comparable, Expression, FilterQuery, FunctionExpression, PatternFunction, Query, Segment,
     Selector, SingularQuery,
 };
+use crate::refusal::{Cause, Refusal, begins_with};
 use crate::string::quoted;
 use std::alloc::{AllocError, Global};
 
@@ -47,12 +49,10 @@ impl Query {
                 place: 0,
             });
         };
-        match query(alloc, NESTING_LIMIT, all.as_slice()) {
+        let text = all.as_slice();
+        match query(alloc, NESTING_LIMIT, text) {
             Ok(query) => Ok(query),
-            Err(refusal) => Err(ParseError {
-                kind: refusal.kind,
-                place: all.len().saturating_sub(refusal.left),
-            }),
+            Err(refusal) => Err(refusal.error(text)),
         }
     }
 }
@@ -70,14 +70,14 @@ fn query(alloc: Global, levels: usize, text: &[char]) -> Result<Query, Refusal>
     ensures { ReadsQuery levels text.now result }
 {
     let Some((first, rest)) = text.split_first() else {
-        return Err(Refusal::invalid(text));
+        return Err(Refusal::at(Cause::Character, text));
     };
     if *first != '$' {
-        return Err(Refusal::invalid(text));
+        return Err(Refusal::at(Cause::Character, text));
     }
     let (segments, after) = segments(alloc, levels, rest)?;
     if !after.is_empty() {
-        return Err(Refusal::invalid(after));
+        return Err(Refusal::at(Cause::Character, after));
     }
     Ok(Query { segments })
 }
@@ -122,17 +122,17 @@ fn segment<'t>(
         (segment_front (expression_front levels) text.now) result }
 {
     let Some((first, rest)) = text.split_first() else {
-        return Err(Refusal::invalid(text));
+        return Err(Refusal::at(Cause::Character, text));
     };
     if *first == '[' {
         let (selectors, after) = selection(alloc, levels, rest)?;
         return Ok((Segment::Child(selectors), after));
     }
     if *first != '.' {
-        return Err(Refusal::invalid(text));
+        return Err(Refusal::at(Cause::Character, text));
     }
     let Some((next, behind)) = rest.split_first() else {
-        return Err(Refusal::invalid(rest));
+        return Err(Refusal::at(Cause::Character, rest));
     };
     if *next == '.' {
         return descendant(alloc, levels, behind);
@@ -152,7 +152,7 @@ fn descendant<'t>(
         (descendant_front (expression_front levels) text.now) result }
 {
     let Some((first, rest)) = text.split_first() else {
-        return Err(Refusal::invalid(text));
+        return Err(Refusal::at(Cause::Character, text));
     };
     if *first == '[' {
         let (selectors, after) = selection(alloc, levels, rest)?;
@@ -167,7 +167,7 @@ fn shorthand<'t>(alloc: Global, text: &'t [char]) -> Result<(Vec<Selector>, &'t 
     ensures { Fronts IsOneSelector (shorthand_front text.now) result }
 {
     let Some((first, rest)) = text.split_first() else {
-        return Err(Refusal::invalid(text));
+        return Err(Refusal::at(Cause::Character, text));
     };
     let mut selectors = Vec::new(alloc);
     if *first == '*' {
@@ -175,7 +175,7 @@ fn shorthand<'t>(alloc: Global, text: &'t [char]) -> Result<(Vec<Selector>, &'t 
         return Ok((selectors, rest));
     }
     if !is_name_first(*first) {
-        return Err(Refusal::invalid(text));
+        return Err(Refusal::at(Cause::Character, text));
     }
     let mut name = String::new(alloc);
     push(&mut name, *first)?;
@@ -198,17 +198,28 @@ fn selection<'t>(
     let mut rest = text;
     loop {
         let (selector, after) = selector(alloc, levels, after_blanks(rest))?;
+        let cause = end_of(&selector);
         selectors.push(selector)?;
         let Some((separator, behind)) = after.split_first() else {
-            return Err(Refusal::invalid(after));
+            return Err(Refusal::at(cause, after));
         };
         if *separator == ']' {
             return Ok((selectors, behind));
         }
         if *separator != ',' {
-            return Err(Refusal::invalid(after));
+            return Err(Refusal::at(cause, after));
         }
         rest = behind;
+    }
+}
+
+/// What is missing where neither a comma nor a bracket is behind the selector.
+fn end_of(selector: &Selector) -> Cause
+    ensures { result ≡ end_of selector.now }
+{
+    match selector {
+        Selector::Filter(_) => Cause::ConditionEnd,
+        _ => Cause::Character,
     }
 }
 
@@ -223,7 +234,7 @@ fn selector<'t>(
         (selector_front (expression_front levels) text.now) result }
 {
     let Some((first, rest)) = text.split_first() else {
-        return Err(Refusal::invalid(text));
+        return Err(Refusal::at(Cause::Character, text));
     };
     if *first == '?' {
         let (condition, after) = expression(alloc, levels, after_blanks(rest))?;
@@ -242,10 +253,7 @@ fn expression<'t>(
     ensures { Fronts (IsExpression levels) (expression_front levels text.now) result }
 {
     if levels == 0 {
-        return Err(Refusal {
-            kind: ParseErrorKind::TooDeep,
-            left: text.len(),
-        });
+        return Err(Refusal::at(Cause::TooDeep, text));
     }
     let mut alternatives = Vec::new(alloc);
     let mut rest = text;
@@ -292,7 +300,7 @@ fn basic<'t>(
         (basic_front (expression_front levels) (argument_front levels) text.now) result }
 {
     let Some((first, rest)) = text.split_first() else {
-        return Err(Refusal::invalid(text));
+        return Err(Refusal::at(Cause::Value, text));
     };
     if *first == '!' {
         let (condition, after) = operand(alloc, levels, after_blanks(rest))?;
@@ -329,7 +337,7 @@ fn pattern_test<'t>(
         return pattern_arguments(alloc, levels, PatternFunction::Match, rest);
     }
     let Some(rest) = behind_word(&['s', 'e', 'a', 'r', 'c', 'h', '('], text) else {
-        return Err(Refusal::invalid(text));
+        return Err(Refusal::at(Cause::Test, text));
     };
     pattern_arguments(alloc, levels, PatternFunction::Search, rest)
 }
@@ -348,7 +356,7 @@ fn pattern_arguments<'t>(
     let (value, after) = argument(alloc, levels, after_blanks(text))?;
     let rest = after_blanks(after);
     let Some(second) = behind(',', rest) else {
-        return Err(Refusal::invalid(rest));
+        return Err(Refusal::at(Cause::Comma, rest));
     };
     let (pattern, behind) = value_argument(alloc, levels, second)?;
     Ok((
@@ -368,7 +376,7 @@ fn comparable<'t>(
         (comparable_front (expression_front levels) (argument_front levels) text.now) result }
 {
     let Some((first, rest)) = text.split_first() else {
-        return Err(Refusal::invalid(text));
+        return Err(Refusal::at(Cause::Value, text));
     };
     if let Some(origin) = origin(*first) {
         let (segments, after) = singular_segments(alloc, rest)?;
@@ -402,7 +410,7 @@ fn function<'t>(
         return Ok((FunctionExpression::Count(query), after));
     }
     let Some(rest) = behind_word(&['v', 'a', 'l', 'u', 'e', '('], text) else {
-        return Err(Refusal::invalid(text));
+        return Err(Refusal::at(Cause::Value, text));
     };
     let (query, after) = query_argument(alloc, levels, rest)?;
     Ok((FunctionExpression::Value(query), after))
@@ -420,7 +428,7 @@ fn value_argument<'t>(
     let (value, after) = argument(alloc, levels, after_blanks(text))?;
     let rest = after_blanks(after);
     let Some(behind) = behind(')', rest) else {
-        return Err(Refusal::invalid(rest));
+        return Err(Refusal::at(Cause::LastArgument, rest));
     };
     Ok((value, behind))
 }
@@ -435,10 +443,10 @@ fn argument<'t>(
     ensures { Fronts (IsArgument levels) (argument_front levels text.now) result }
 {
     if levels == 0 {
-        return Err(Refusal {
-            kind: ParseErrorKind::TooDeep,
-            left: text.len(),
-        });
+        return Err(Refusal::at(Cause::TooDeep, text));
+    }
+    if begins_with(')', text) {
+        return Err(Refusal::at(Cause::Argument, text));
     }
     comparable(alloc, levels - 1, text)
 }
@@ -456,7 +464,7 @@ fn query_argument<'t>(
     let (query, after) = filter_query(alloc, levels, after_blanks(text))?;
     let rest = after_blanks(after);
     let Some(behind) = behind(')', rest) else {
-        return Err(Refusal::invalid(rest));
+        return Err(Refusal::at(Cause::LastArgument, rest));
     };
     Ok((query, behind))
 }
@@ -472,10 +480,10 @@ fn filter_query<'t>(
         (filter_query_front (expression_front levels) text.now) result }
 {
     let Some((first, rest)) = text.split_first() else {
-        return Err(Refusal::invalid(text));
+        return Err(Refusal::at(Cause::Nodes, text));
     };
     let Some(origin) = origin(*first) else {
-        return Err(Refusal::invalid(text));
+        return Err(Refusal::at(Cause::Nodes, text));
     };
     let (segments, after) = segments(alloc, levels, rest)?;
     Ok((FilterQuery { origin, segments }, after))
@@ -492,12 +500,12 @@ fn operand<'t>(
         (operand_front (expression_front levels) (argument_front levels) text.now) result }
 {
     let Some((first, rest)) = text.split_first() else {
-        return Err(Refusal::invalid(text));
+        return Err(Refusal::at(Cause::Test, text));
     };
     if *first == '(' {
         let (condition, after) = expression(alloc, levels, after_blanks(rest))?;
         let Some(behind) = behind(')', after) else {
-            return Err(Refusal::invalid(after));
+            return Err(Refusal::at(Cause::ConditionEnd, after));
         };
         return Ok((condition, after_blanks(behind)));
     }
@@ -516,7 +524,7 @@ fn plain_selector<'t>(alloc: Global, text: &'t [char]) -> Result<(Selector, &'t 
     ensures { Fronts IsPlain (plain_front text.now) result }
 {
     let Some((first, rest)) = text.split_first() else {
-        return Err(Refusal::invalid(text));
+        return Err(Refusal::at(Cause::Character, text));
     };
     match *first {
         '"' | '\'' => {

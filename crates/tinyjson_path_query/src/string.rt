@@ -6,8 +6,8 @@ ghost use Rattle.tinyjson_path_query.specs.Fronts.{escape_front, character_front
 ghost use Rattle.tinyjson_path_query.specs.Grammar.{is_unescaped, escape_of};
 ghost use Rattle.tinyjson_path_query.specs.Reading.{Fronts, FrontsAs, IsText};
 
-use crate::error::Refusal;
 use crate::lexical::push;
+use crate::refusal::{Cause, Refusal};
 use std::alloc::Global;
 
 /// The string after its opening quote.
@@ -28,7 +28,7 @@ pub(crate) fn quoted<'t>(
         push(&mut string, c)?;
         rest = after;
     }
-    Err(Refusal::invalid(rest))
+    Err(Refusal::at(Cause::Character, rest))
 }
 
 /// A character of a string.
@@ -36,13 +36,13 @@ fn character(quote: char, text: &[char]) -> Result<(char, &[char]), Refusal>
     ensures { FrontsAs (character_front quote text.now) result }
 {
     let Some((first, rest)) = text.split_first() else {
-        return Err(Refusal::invalid(text));
+        return Err(Refusal::at(Cause::Character, text));
     };
     if *first == '\\' {
         return escaped(quote, rest);
     }
     if !is_unescaped(quote, *first) {
-        return Err(Refusal::invalid(text));
+        return Err(Refusal::at(Cause::Character, text));
     }
     Ok((*first, rest))
 }
@@ -59,14 +59,14 @@ fn escaped(quote: char, text: &[char]) -> Result<(char, &[char]), Refusal>
     ensures { FrontsAs (escape_front quote text.now) result }
 {
     let Some((first, rest)) = text.split_first() else {
-        return Err(Refusal::invalid(text));
+        return Err(Refusal::at(Cause::Character, text));
     };
     if *first == 'u' {
         return unicode(rest);
     }
     match escape(quote, *first) {
         Some(c) => Ok((c, rest)),
-        None => Err(Refusal::invalid(text)),
+        None => Err(Refusal::at(Cause::Character, text)),
     }
 }
 
@@ -97,7 +97,7 @@ fn unicode(text: &[char]) -> Result<(char, &[char]), Refusal>
         return low_surrogate(unit, rest);
     }
     let Some(c) = char::from_u32(unit) else {
-        return Err(Refusal::invalid(text));
+        return Err(Refusal::at(Cause::Character, text));
     };
     Ok((c, rest))
 }
@@ -108,14 +108,14 @@ fn low_surrogate(high: u32, text: &[char]) -> Result<(char, &[char]), Refusal>
     ensures { FrontsAs (pair_front high text.now) result }
 {
     let [first, second, rest @ ..] = text else {
-        return Err(Refusal::invalid(text));
+        return Err(Refusal::at(Cause::Character, text));
     };
     if *first != '\\' || *second != 'u' {
-        return Err(Refusal::invalid(text));
+        return Err(Refusal::at(Cause::Character, text));
     }
     let (low, after) = code(rest)?;
     if !is_low(low) {
-        return Err(Refusal::invalid(rest));
+        return Err(Refusal::at(Cause::Character, rest));
     }
     Ok((pair(high, low), after))
 }
@@ -159,10 +159,10 @@ fn hex_digit(text: &[char]) -> Result<(u32, &[char]), Refusal>
     ensures small { IfOk result (λ r. r.0 < 16) }
 {
     let Some((first, rest)) = text.split_first() else {
-        return Err(Refusal::invalid(text));
+        return Err(Refusal::at(Cause::Character, text));
     };
     match first.to_digit(16) {
         Some(value) => Ok((value, rest)),
-        None => Err(Refusal::invalid(text)),
+        None => Err(Refusal::at(Cause::Character, text)),
     }
 }

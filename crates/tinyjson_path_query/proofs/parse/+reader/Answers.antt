@@ -7,6 +7,7 @@ use Rattle.tinyjson_path_query.specs.Fronts.{begins_segment, selector_front, sel
 use Rattle.tinyjson_path_query.specs.Fronts.{segments_front, joined_turn}
 use Rattle.tinyjson_path_query.specs.Fronts.{expression_front, argument_front, behind_both, as_negated, begins_call, begins_pattern}
 use Rattle.tinyjson_path_query.specs.Fronts.{filter_query_front}
+use Rattle.tinyjson_path_query.specs.Grammar.{begins_with}
 use Rattle.tinyjson_path_query.specs.Reading.{IsRest}
 use Rattle.tinyjson_path_query.proofs.Turns.{goes_init, goes_more, goes_last, goes_end, goes_none}
 use Rattle.tinyjson_path_query.proofs.Refusals.{refused_as, fronts_from, fronts_map, each_none, each_pushed}
@@ -22,7 +23,7 @@ use Rattle.tinyjson_path_query.proofs.Levels.{selection_at, selection_none, segm
 use Rattle.tinyjson_path_query.proofs.Levels.{descendant_short, segment_bracket, segment_short, closed_at}
 use Rattle.tinyjson_path_query.proofs.Levels.{query_from, call_from, literal_from, length_from}
 use Rattle.tinyjson_path_query.proofs.Levels.{count_from, value_from, closed_from, begun_from}
-use Rattle.tinyjson_path_query.proofs.Levels.{argument_at, pattern_from, basics_at, conjunctions_at, IsOperandAt, IsComparableAt, IsBasicAt}
+use Rattle.tinyjson_path_query.proofs.Levels.{argument_at, no_argument, pattern_from, basics_at, conjunctions_at, IsOperandAt, IsComparableAt, IsBasicAt}
 use Rattle.tinyjson_path_query.proofs.Levels.{IsConjunctionAt}
 use Rattle.tinyjson_path_query.proofs.Levels.{pattern_at, match_from, search_from, arguments_at}
 use Rattle.tinyjson_path_query.proofs.Levels.{operated_from, compared_at, tested_at, negated_from, affirmed_from, joined_at, joined_none}
@@ -498,6 +499,11 @@ filter_query-returns t c =
           (Some (s.0, c.in_ok-segments.after.now)) c.in-Some.ensures.cases.0 (sym c.origin.ensures ∙ c.in-Some-origin.is) s.1,
       (c.in_ok-segments.segments, refl, s.2),
     )
+
+pub argument-returns-then-begins_with : goal.argument-returns-then-begins_with
+argument-returns-then-begins_with t c = λ _.
+    let closes : begins_with 41 c.args.text.now ≡ true = search rules in
+    no_argument c.args.levels c.args.text.now closes
 
 pub argument-returns : goal.argument-returns
 argument-returns t c =
