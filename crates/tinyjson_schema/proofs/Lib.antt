@@ -3,7 +3,6 @@ pub mod Loops
 pub mod Marks
 pub mod Operands
 pub mod Parts
-pub mod Patterns
 pub mod Places
 pub mod Refusals
 pub mod Settling

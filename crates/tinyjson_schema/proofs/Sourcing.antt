@@ -12,11 +12,9 @@ use Rattle.tinyjson.specs.declared.value.JsonValue.TheVariants as is
 use Rattle.tinyjson_schema_keywords.specs.Applied.{schema_at, schemas_at, schema_map_at, branch}
 use Rattle.tinyjson_schema_keywords.specs.Names.{name}
 use Rattle.tinyjson_schema_keywords.specs.References.{referenced}
-use Rattle.tinyjson_schema_keywords.specs.Walks.{IsDeeper}
 use Rattle.tinyjson_schema_keywords.specs.declared.keyword.Keyword.{Keyword}
 use Rattle.tinyjson_schema_keywords.specs.declared.keyword.Keyword.TheVariants as kw
 use Rattle.tinyjson_schema_keywords.specs.declared.walk.CheckError.{CheckError}
-use Rattle.tinyjson_schema_keywords.specs.declared.walk.Walk.{Walk}
 use Rattle.tinyjson_schema_keywords.proofs.Callers.{drop_item, drop_end, drop_suc}
 use Rattle.tinyjson_schema.specs.Evaluated.{Child, member_at, item_at, value_of, Answers, rest_keyword, applies_to, branch_evaluates}
 use Rattle.tinyjson_schema.specs.Evaluated.{inner_evaluate, others_evaluate, rest_accepts, rest_accepted, members_pass, items_pass}
@@ -24,11 +22,13 @@ use Rattle.tinyjson_schema.specs.Evaluated.{some_evaluate, accepting_evaluate, d
 use Rattle.tinyjson_schema.specs.Parts.{member_schema, item_schema}
 use Rattle.tinyjson_schema.specs.Places.{IsMemberPart, IsItemPart}
 use Rattle.tinyjson_schema.specs.Sources.{source_evaluates, sources_evaluate, AreWithin, Adds, InRest, FindsLeft}
-use Rattle.tinyjson_schema.specs.Valid.{answers, answers_in, by_rules, says, Follows, FindsRest, in_rest}
+use Rattle.tinyjson_schema.specs.Valid.{answers, answers_in, root_of, by_rules, says, Follows, FindsRest, in_rest}
 use Rattle.tinyjson_schema.specs.declared.part.Part.{Part}
 use Rattle.tinyjson_schema.specs.declared.validate.unevaluated.Source.{Source}
+use Rattle.tinyjson_schema.specs.Walks.{IsDeeper}
 use Rattle.tinyjson_schema.specs.declared.violation.Violation.{Violation}
-use Rattle.tinyjson_schema.proofs.Validity.{reported}
+use Rattle.tinyjson_schema.specs.declared.walk.Walk.{Walk}
+use Rattle.tinyjson_schema.proofs.Validity.{reported, same_root}
 
 or_assoc : (a b c : Bool) → ((a || b) || c) ≡ (a || (b || c))
 or_assoc true b c = refl
@@ -83,8 +83,8 @@ schema_added w inner x t xs ys zs d answers_for same put k g c =
     let more = inner_evaluate root (answers_in inner g) s t c in
     let one : source_evaluates g x c ≡ (rest || own)
     = (λ i. (not (answers_for i) && rest) || applies_to (says (same i) g) s c) in
-    let all : answers_in w g ≡ by_rules root (answers_in inner g)
-    = ap (λ n. answers (view w.whole.now.root.now) n g) d.1 ∙ sym (ap (λ r. answers (view r.now.root.now) (suc inner.steps) g) d.0) in
+    let all : answers_in w g ≡ by_rules (root_of inner) (answers_in inner g)
+    = ap (λ n. answers (root_of w) n g) d.1 ∙ sym (ap (λ r. answers r (suc inner.steps) g) (same_root w inner d)) in
     k g c ∙ (ap (λ l. sources_evaluate g l c || more) put ∙ (ap (λ b. b || more) (pushed g c xs x)
     ∙ (ap (λ b. (old || b) || more) one ∙ (or_assoc old (rest || own) more ∙ (ap (λ b. old || b) (or_assoc rest own more)
     ∙ sym (ap (λ (a : Answers). old || a.evaluates s t c) all))))))
@@ -247,7 +247,7 @@ rest_place : (w : Walk) (s t r : Tree) (xs : List Source) (a : Keyword) (v : Vio
     → ((g : Answers) (c : Child) → sources_evaluate g xs c ≡ others_evaluate (view w.whole.now.root.now) (answers_in w g) s t c)
     → Some r ≡ schema_at s a → InRest w a xs r t v → FindsRest w s t (Ok (Some v))
 rest_place w s t r xs a v sources e h =
-    reported (view w.whole.now.root.now) (suc w.steps) s t v _ _
+    reported (root_of w) (suc w.steps) s t v _ _
     (h.placed.0 ∙ ap (λ k. name k ∷ h.location) (sym h.keyword), h.placed.1)
     (in_rest h.child (ap (schema_at s) h.keyword ∙ sym e) h.named (λ g. sym (sources g h.child) ∙ h.left g) h.invalid)
 

@@ -16,24 +16,25 @@ use Rattle.i_regexp.specs.PatternDeciding.{is_found}
 use Rattle.tinyjson_schema_keywords.specs.Applied.{schema_at, schemas_at, schema_map_at, branch, members_in}
 use Rattle.tinyjson_schema_keywords.specs.Names.{name}
 use Rattle.tinyjson_schema_keywords.specs.References.{referenced}
-use Rattle.tinyjson_schema_keywords.specs.Walks.{IsDeeper}
 use Rattle.tinyjson_schema_keywords.specs.declared.keyword.Keyword.{Keyword}
 use Rattle.tinyjson_schema_keywords.specs.declared.keyword.Keyword.TheVariants as kw
 use Rattle.tinyjson_schema_keywords.specs.declared.walk.CheckError.{CheckError}
-use Rattle.tinyjson_schema_keywords.specs.declared.walk.Walk.{Walk}
 use Rattle.tinyjson_schema.specs.Applicators.{Judge, all_accept, branch_accepts, dependents_accept, applies, apply_all, counts, tests}
 use Rattle.tinyjson_schema.specs.Applicators.{demands, member_accepted, members_accepted, item_accepted, items_accepted, found_pass}
 use Rattle.tinyjson_schema.specs.Applicators.{patterns_accept, parts_accepted}
 use Rattle.tinyjson_schema.specs.Evaluated.{Child, member_at, item_at, value_of, IsChild, Answers, rest_keyword, others_evaluate}
 use Rattle.tinyjson_schema.specs.Evaluated.{rest_accepts, rest_accepted, members_pass, items_pass, children_pass}
-use Rattle.tinyjson_schema.specs.Assertions.{meets_all, assertions}
+use Rattle.tinyjson_schema_assertions.specs.Assertions.{meets_all, assertions}
 use Rattle.tinyjson_schema.specs.Parts.{item_schema, part_schema}
 use Rattle.tinyjson_schema.specs.Places.{IsAt}
-use Rattle.tinyjson_schema.specs.Valid.{is_reference, target_accepts, refuses_all, judge, reference_accepts, accepts_by, IsValid}
-use Rattle.tinyjson_schema.specs.Valid.{MeetsRules, IsInvalidAt, Validates, by_rules, answers, answers_in, FindsRest, in_rest, Agrees, says}
+use Rattle.tinyjson_schema.specs.Valid.{is_reference, target_accepts, refuses_all, judge, reference_accepts, accepts_by, Root, IsValidIn}
+use Rattle.tinyjson_schema.specs.Valid.{MeetsRules, IsInvalidAt, ValidatesIn, by_rules, answers, answers_in, root_of, FindsRest, in_rest}
+use Rattle.tinyjson_schema.specs.Valid.{AgreesIn, says}
 use Rattle.tinyjson_schema.specs.Valid.{Follows, Decides, Judges, Finds, IsUnapplied, refused, unmet, not_applied, in_all_of, in_branch}
 use Rattle.tinyjson_schema.specs.Valid.{in_dependent, in_patterned, in_reference, in_part}
+use Rattle.tinyjson_schema.specs.Walks.{IsDeeper}
 use Rattle.tinyjson_schema.specs.declared.violation.Violation.{Violation}
+use Rattle.tinyjson_schema.specs.declared.walk.Walk.{Walk}
 
 pub flipped : (b c : Bool) → c ≡ not b → b ≡ not c
 flipped true c h = ap not (sym h)
@@ -41,20 +42,20 @@ flipped false c h = ap not (sym h)
 
 -- ---- what a valid value meets
 
-pub record IsMet (root : Tree) (a : Answers) (s t : Tree) : Type 0 where
+pub record IsMet (root : Root) (a : Answers) (s t : Tree) : Type 0 where
   pub accepted : refuses_all s ≡ false
-  pub asserted : meets_all assertions s t ≡ true
+  pub asserted : meets_all (assertions root.formats) s t ≡ true
   pub tested : apply_all a.accepts tests s t ≡ true
   pub demanded : apply_all a.accepts demands s t ≡ true
-  pub referred : reference_accepts root a.accepts s t ≡ true
+  pub referred : reference_accepts root.tree a.accepts s t ≡ true
   pub parts : parts_accepted a.accepts s t ≡ true
-  pub rest : rest_accepted root a s t ≡ true
+  pub rest : rest_accepted root.tree a s t ≡ true
 
 not_true : (b : Bool) → not b ≡ true → b ≡ false
 not_true true h = cc
 not_true false h = refl
 
-met : (root : Tree) (a : Answers) (s t : Tree) → accepts_by root a s t ≡ true → IsMet root a s t
+met : (root : Root) (a : Answers) (s t : Tree) → accepts_by root a s t ≡ true → IsMet root a s t
 met root f s t h =
     let a = and_parts _ _ h in
     let b = and_parts _ _ a.1 in
@@ -72,7 +73,7 @@ met root f s t h =
       rest = l.1;
     }
 
-pub valid_from : (root : Tree) (a : Answers) (s t : Tree) → IsMet root a s t → accepts_by root a s t ≡ true
+pub valid_from : (root : Root) (a : Answers) (s t : Tree) → IsMet root a s t → accepts_by root a s t ≡ true
 valid_from root a s t m = λ i. not (m.accepted i) && (m.asserted i && (m.tested i && (m.demanded i && (m.referred i
     && (m.parts i && m.rest i)))))
 
@@ -102,28 +103,28 @@ from_dependents = kw.DependentSchemas ∷ kw.PatternProperties ∷ []
 abbrev from_if : List Keyword
 from_if = kw.If ∷ from_dependents
 
-after_any_of : (root : Tree) (a : Answers) (s t : Tree) → IsMet root a s t → apply_all a.accepts from_one_of s t ≡ true
+after_any_of : (root : Root) (a : Answers) (s t : Tree) → IsMet root a s t → apply_all a.accepts from_one_of s t ≡ true
 after_any_of root a s t m = rest_met a.accepts s t kw.AnyOf from_one_of m.tested
 
-after_one_of : (root : Tree) (a : Answers) (s t : Tree) → IsMet root a s t → apply_all a.accepts from_not s t ≡ true
+after_one_of : (root : Root) (a : Answers) (s t : Tree) → IsMet root a s t → apply_all a.accepts from_not s t ≡ true
 after_one_of root a s t m = rest_met a.accepts s t kw.OneOf from_not (after_any_of root a s t m)
 
-after_not : (root : Tree) (a : Answers) (s t : Tree) → IsMet root a s t → apply_all a.accepts from_names s t ≡ true
+after_not : (root : Root) (a : Answers) (s t : Tree) → IsMet root a s t → apply_all a.accepts from_names s t ≡ true
 after_not root a s t m = rest_met a.accepts s t kw.Not from_names (after_one_of root a s t m)
 
-after_names : (root : Tree) (a : Answers) (s t : Tree) → IsMet root a s t → apply_all a.accepts counts s t ≡ true
+after_names : (root : Root) (a : Answers) (s t : Tree) → IsMet root a s t → apply_all a.accepts counts s t ≡ true
 after_names root a s t m = rest_met a.accepts s t kw.PropertyNames counts (after_not root a s t m)
 
-after_contains : (root : Tree) (a : Answers) (s t : Tree) → IsMet root a s t → apply_all a.accepts from_max_contains s t ≡ true
+after_contains : (root : Root) (a : Answers) (s t : Tree) → IsMet root a s t → apply_all a.accepts from_max_contains s t ≡ true
 after_contains root a s t m = rest_met a.accepts s t kw.Contains from_max_contains (after_names root a s t m)
 
-after_all_of : (root : Tree) (a : Answers) (s t : Tree) → IsMet root a s t → apply_all a.accepts from_if s t ≡ true
+after_all_of : (root : Root) (a : Answers) (s t : Tree) → IsMet root a s t → apply_all a.accepts from_if s t ≡ true
 after_all_of root a s t m = rest_met a.accepts s t kw.AllOf from_if m.demanded
 
-after_if : (root : Tree) (a : Answers) (s t : Tree) → IsMet root a s t → apply_all a.accepts from_dependents s t ≡ true
+after_if : (root : Root) (a : Answers) (s t : Tree) → IsMet root a s t → apply_all a.accepts from_dependents s t ≡ true
 after_if root a s t m = rest_met a.accepts s t kw.If from_dependents (after_all_of root a s t m)
 
-applied : (root : Tree) (a : Answers) (s t : Tree) (k : Keyword) → IsMet root a s t → applies a.accepts k s t ≡ true
+applied : (root : Root) (a : Answers) (s t : Tree) (k : Keyword) → IsMet root a s t → applies a.accepts k s t ≡ true
 applied root a s t kw.AnyOf m = first_met a.accepts s t kw.AnyOf from_one_of m.tested
 applied root a s t kw.OneOf m = first_met a.accepts s t kw.OneOf from_not (after_any_of root a s t m)
 applied root a s t kw.Not m = first_met a.accepts s t kw.Not from_names (after_one_of root a s t m)
@@ -306,7 +307,7 @@ child_step _ k (item_at i u) e = let none = e.1 in cc
 -- ---- places
 
 -- what is not met is not accepted, whatever is said further in
-pub refuted : {root : Tree} {n : ℕ} {s t : Tree} {ks js : List (List ℕ)} → IsInvalidAt root n s t ks js → (g : Answers)
+pub refuted : {root : Root} {n : ℕ} {s t : Tree} {ks js : List (List ℕ)} → IsInvalidAt root n s t ks js → (g : Answers)
     → judge root n g s t ≡ true → ⊥
 refuted {n = zero} x g v = elim x [ ]
 refuted {root} {n = suc n} {s} {t} (refused e) g v = true≢false (sym e ∙ (met root (answers root n g) s t v).accepted)
@@ -327,12 +328,12 @@ refuted {root} {n = suc n} {s} {t} (in_patterned {r} {u} {p} {k} a b c h) g v =
     (pattern_accepts (judge root n g) (members_in t) (schema_map_at s kw.PatternProperties) p r
     (applied root (answers root n g) s t kw.PatternProperties (met root (answers root n g) s t v)) a) b c)
 refuted {root} {n = suc n} {s} {t} (in_reference {r} k i e h) g v =
-    refuted h g (reference_chosen root (judge root n g) s t r k
-    (reference_met_at root (judge root n g) s t k i (met root (answers root n g) s t v).referred) e)
+    refuted h g (reference_chosen root.tree (judge root n g) s t r k
+    (reference_met_at root.tree (judge root n g) s t k i (met root (answers root n g) s t v).referred) e)
 refuted {root} {n = suc n} {s} {t} (in_part {r} {u} {k} ls a b c h) g v =
     refuted h g (part_accepts (judge root n g) s t k r u (met root (answers root n g) s t v).parts a b)
 refuted {root} {n = suc n} {s} {t} (in_rest {r} {k} c a b d h) g v =
-    refuted h g (rest_passes root (answers root n g) s t c k r (met root (answers root n g) s t v).rest a b (d g))
+    refuted h g (rest_passes root.tree (answers root n g) s t c k r (met root (answers root n g) s t v).rest a b (d g))
 
 isnt_true : (b : Bool) → (b ≡ true → ⊥) → false ≡ b
 isnt_true true n = absurd (n refl)
@@ -341,27 +342,27 @@ isnt_true false n = refl
 -- ---- more steps, and no end of them
 
 -- n steps, and m further in, are k
-further : (root : Tree) (n m k : ℕ) (g : Answers) → n + m ≡ k → answers root n (answers root m g) ≡ answers root k g
+further : (root : Root) (n m k : ℕ) (g : Answers) → n + m ≡ k → answers root n (answers root m g) ≡ answers root k g
 further root zero m k g e = let same : m ≡ k = omega (arith, e) in ap (λ j. answers root j g) same
 further root (suc n) m zero g e = absurd (omega (arith, e))
 further root (suc n) m (suc k) g e = ap (by_rules root) (further root n m k g (omega (arith, e)))
 
-pub not_valid : {s t : Tree} {n : ℕ} {ks js : List (List ℕ)} → IsInvalidAt s n s t ks js → IsValid s t → ⊥
-not_valid {s} {t} {n} h v =
+pub not_valid : {root : Root} {t : Tree} {n : ℕ} {ks js : List (List ℕ)} → IsInvalidAt root n root.tree t ks js → IsValidIn root t → ⊥
+not_valid {root} {t} {n} h v =
     let m = v.0 in
     let g : Answers = record { accepts = λ r u. true; evaluates = λ r u c. true } in
-    let same : answers s n (answers s m g) ≡ answers s m (answers s n g)
-    = further s n m (n + m) g refl ∙ sym (further s m n (n + m) g (omega arith)) in
-    refuted h (answers s m g) (ap (λ (a : Answers). a.accepts s t) same ∙ v.1 (answers s n g))
+    let same : answers root n (answers root m g) ≡ answers root m (answers root n g)
+    = further root n m (n + m) g refl ∙ sym (further root m n (n + m) g (omega arith)) in
+    refuted h (answers root m g) (ap (λ (a : Answers). a.accepts root.tree t) same ∙ v.1 (answers root n g))
 
 -- what meets the rules says what any number of steps gives
-at_rest : (root : Tree) (a : Answers) (n : ℕ) → MeetsRules root a → a ≡ answers root n a
+at_rest : (root : Root) (a : Answers) (n : ℕ) → MeetsRules root a → a ≡ answers root n a
 at_rest root a zero m = refl
 at_rest root a (suc n) m =
     (λ i. record { accepts = λ s t. m.accepts s t i; evaluates = λ s t c. m.evaluates s t c i })
     ∙ ap (by_rules root) (at_rest root a n m)
 
-pub there : {root : Tree} {n : ℕ} {s t : Tree} {ks js : List (List ℕ)} → IsInvalidAt root n s t ks js → IsSome (part_at t js)
+pub there : {root : Root} {n : ℕ} {s t : Tree} {ks js : List (List ℕ)} → IsInvalidAt root n s t ks js → IsSome (part_at t js)
 there (refused e) = refl
 there (unmet k e) = refl
 there (not_applied k e) = refl
@@ -378,36 +379,38 @@ there {t} {js = k ∷ js} (in_rest c a b d h) =
 -- ---- results
 
 -- the tokens of a violation's places
-at_tokens : (root : Tree) (n : ℕ) (s t : Tree) (v : Violation) (ks js : List (List ℕ)) → IsAt ks js v → IsInvalidAt root n s t ks js
+at_tokens : (root : Root) (n : ℕ) (s t : Tree) (v : Violation) (ks js : List (List ℕ)) → IsAt ks js v → IsInvalidAt root n s t ks js
     → IsInvalidAt root n s t (tokens_of v.keyword_location) (tokens_of v.instance_location)
 at_tokens root n s t v ks js at h = subst (λ x. IsInvalidAt root n s t (tokens_of v.keyword_location) x) (sym at.1)
     (subst (λ x. IsInvalidAt root n s t x js) (sym at.0) h)
 
 -- a violation with its reasons
-pub reported : (root : Tree) (n : ℕ) (s t : Tree) (v : Violation) (ks js : List (List ℕ)) → IsAt ks js v → IsInvalidAt root n s t ks js
+pub reported : (root : Root) (n : ℕ) (s t : Tree) (v : Violation) (ks js : List (List ℕ)) → IsAt ks js v → IsInvalidAt root n s t ks js
     → Decides root n s t (Ok (Some v))
 reported root n s t v ks js at h = at_tokens root n s t v ks js at h
 
 -- the same at its tokens
 pub placed : (w : Walk) (q : Judge → Bool) (s t : Tree) (v : Violation) (ks js : List (List ℕ)) → IsAt ks js v
-    → IsInvalidAt (view w.whole.now.root.now) (suc w.steps) s t ks js → Finds w q s t (Ok (Some v))
-placed w q s t v ks js at h = at_tokens (view w.whole.now.root.now) (suc w.steps) s t v ks js at h
+    → IsInvalidAt (root_of w) (suc w.steps) s t ks js → Finds w q s t (Ok (Some v))
+placed w q s t v ks js at h = at_tokens (root_of w) (suc w.steps) s t v ks js at h
 
 -- of a valid value nothing is found, and of another something
-pub verdict : (root : Tree) (n : ℕ) (s t : Tree) (o : Option Violation) → Decides root n s t (Ok o) → (g : Answers)
+pub verdict : (root : Root) (n : ℕ) (s t : Tree) (o : Option Violation) → Decides root n s t (Ok o) → (g : Answers)
     → not (is_some o) ≡ judge root n g s t
 verdict root n s t None h g = sym (h g)
 verdict root n s t (Some v) h g = isnt_true (judge root n g s t) (refuted h g)
 
 -- the answer to the caller
-pub answered : (n : ℕ) (s t : Tree) (x : Result (Option Violation) CheckError) → Decides s n s t x → Validates n s t x
-answered n s t (Ok None) h = (n, h)
-answered n s t (Ok (Some v)) h = (h, there h, not_valid h)
-answered n s t (Err e) h = tt
+pub answered : (n : ℕ) (root : Root) (t : Tree) (x : Result (Option Violation) CheckError) → Decides root n root.tree t x
+    → ValidatesIn n root t x
+answered n root t (Ok None) h = (n, h)
+answered n root t (Ok (Some v)) h = (h, there h, not_valid h)
+answered n root t (Err e) h = tt
 
-pub agreed : (n : ℕ) (s t : Tree) (x : Result (Option Violation) CheckError) → Decides s n s t x → IfOk x (λ o. Agrees s t o)
-agreed n s t (Ok o) h = λ a m. ap (λ (b : Answers). b.accepts s t) (at_rest s a n m) ∙ sym (verdict s n s t o h a)
-agreed n s t (Err e) h = tt
+pub agreed : (n : ℕ) (root : Root) (t : Tree) (x : Result (Option Violation) CheckError) → Decides root n root.tree t x
+    → IfOk x (λ o. AgreesIn root t o)
+agreed n root t (Ok o) h = λ a m. ap (λ (b : Answers). b.accepts root.tree t) (at_rest root a n m) ∙ sym (verdict root n root.tree t o h a)
+agreed n root t (Err e) h = tt
 
 -- the last of the tests
 pub last_tested : (w : Walk) (s t : Tree) (x : Result (Option Keyword) CheckError)
@@ -420,14 +423,14 @@ last_tested w s t (Err e) a h = tt
 
 -- the last step of the check
 pub last_found : (w : Walk) (s t : Tree) (x : Result (Option Violation) CheckError)
-    → refuses_all s ≡ false → meets_all assertions s t ≡ true → ((g : Answers) → apply_all (says w g) tests s t ≡ true)
+    → refuses_all s ≡ false → meets_all (assertions w.formats) s t ≡ true → ((g : Answers) → apply_all (says w g) tests s t ≡ true)
     → ((g : Answers) → applies (says w g) kw.AllOf s t ≡ true) → ((g : Answers) → applies (says w g) kw.If s t ≡ true)
     → ((g : Answers) → applies (says w g) kw.DependentSchemas s t ≡ true)
     → ((g : Answers) → applies (says w g) kw.PatternProperties s t ≡ true)
     → ((g : Answers) → reference_accepts (view w.whole.now.root.now) (says w g) s t ≡ true)
     → ((g : Answers) → parts_accepted (says w g) s t ≡ true)
-    → FindsRest w s t x → Decides (view w.whole.now.root.now) (suc w.steps) s t x
-last_found w s t (Ok None) a b c d e k p r l h = λ g. valid_from (view w.whole.now.root.now) (answers_in w g) s t (record {
+    → FindsRest w s t x → Decides (root_of w) (suc w.steps) s t x
+last_found w s t (Ok None) a b c d e k p r l h = λ g. valid_from (root_of w) (answers_in w g) s t (record {
   accepted = a;
   asserted = b;
   tested = c g;
@@ -439,11 +442,14 @@ last_found w s t (Ok None) a b c d e k p r l h = λ g. valid_from (view w.whole.
 last_found w s t (Ok (Some v)) a b c d e k p r l h = h
 last_found w s t (Err x) a b c d e k p r l h = tt
 
+pub same_root : (w inner : Walk) → IsDeeper w inner → root_of inner ≡ root_of w
+same_root w inner d = λ i. record { tree = view (d.0 i).now.root.now; formats = d.2 i }
+
 -- what is known of a schema in the walk, one step before
 pub before : (w inner : Walk) → IsDeeper w inner → (s t : Tree) (x : Result (Option Violation) CheckError)
-    → Decides (view inner.whole.now.root.now) (suc inner.steps) s t x → Judges w s t x
-before w inner d s t x h = subst (λ n. Decides (view w.whole.now.root.now) n s t x) (sym d.1)
-    (subst (λ r. Decides (view r.now.root.now) (suc inner.steps) s t x) d.0 h)
+    → Decides (root_of inner) (suc inner.steps) s t x → Judges w s t x
+before w inner d s t x h = subst (λ n. Decides (root_of w) n s t x) (sym d.1)
+    (subst (λ r. Decides r (suc inner.steps) s t x) (same_root w inner d) h)
 
 -- ---- the schema that `if` chooses
 
@@ -464,9 +470,9 @@ module _ (w : Walk) (s t c : Tree) (b : Bool) (k : Keyword) (test : Some c ≡ s
     branch_met r h v g = by_branch g (ap (λ o. option_map_or (λ r. says w g r t) o true) (taken g ∙ sym h) ∙ v g)
 
     pub branch_place : (r : Tree) (ks js : List (List ℕ)) → Some r ≡ schema_at s k
-        → IsInvalidAt (view w.whole.now.root.now) w.steps r t ks js
-        → IsInvalidAt (view w.whole.now.root.now) (suc w.steps) s t (name k ∷ ks) js
-    branch_place r ks js h v = subst (λ x. IsInvalidAt (view w.whole.now.root.now) (suc w.steps) s t (name x ∷ ks) js) (sym chosen)
+        → IsInvalidAt (root_of w) w.steps r t ks js
+        → IsInvalidAt (root_of w) (suc w.steps) s t (name k ∷ ks) js
+    branch_place r ks js h v = subst (λ x. IsInvalidAt (root_of w) (suc w.steps) s t (name x ∷ ks) js) (sym chosen)
         (in_branch (sym test) (λ g. sym (told g)) (ap (schema_at s) (sym chosen) ∙ sym h) v)
 
 -- ---- the schema that a reference leads to

@@ -11,7 +11,7 @@ use Rattle.tinyjson_schema_keywords.specs.Forms.{is_some_item}
 use Rattle.tinyjson_schema_keywords.specs.Applied.{schema_at, schemas_at, schema_map_at, members_in, branch}
 use Rattle.tinyjson_schema_keywords.specs.declared.keyword.Keyword.{Keyword}
 use Rattle.tinyjson_schema_keywords.specs.declared.keyword.Keyword.TheVariants as kw
-use Rattle.tinyjson_schema.specs.Assertions.{is_count_at_most, is_count_at_least}
+use Rattle.tinyjson_schema_assertions.specs.Assertions.{is_count_at_most, is_count_at_least}
 use Rattle.tinyjson_schema.specs.Parts.{member_schema, item_schema}
 
 -- whether a schema, the first tree, accepts a value

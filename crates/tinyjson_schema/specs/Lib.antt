@@ -1,5 +1,4 @@
 pub mod Applicators
-pub mod Assertions
 pub mod Circles
 pub mod Evaluated
 pub mod Marks
@@ -11,3 +10,4 @@ pub mod Refused
 pub mod Schemas
 pub mod Sources
 pub mod Valid
+pub mod Walks

@@ -7,7 +7,7 @@ use Rattle.tinyjson.specs.Tree.{Tree, number, string, array, object, Items, no_i
 use Rattle.tinyjson_compare.specs.Distinct.{are_distinct}
 use Rattle.tinyjson_compare.specs.Multiples.{is_divisor}
 use Rattle.tinyjson_schema_keywords.specs.Forms.{is_some_item}
-use Rattle.tinyjson_schema.specs.Assertions.{is_among}
+use Rattle.tinyjson_schema_assertions.specs.Assertions.{is_among}
 
 abbrev pub is_count : Tree → Bool
 is_count (number d) = not d.negative && int_le (pos 0) d.power

@@ -7,12 +7,12 @@ use Rattle.tinyjson_schema_keywords.specs.Applied.{schema_at}
 use Rattle.tinyjson_schema_keywords.specs.Names.{name}
 use Rattle.tinyjson_schema_keywords.specs.declared.keyword.Keyword.{Keyword}
 use Rattle.tinyjson_schema_keywords.specs.declared.walk.CheckError.{CheckError}
-use Rattle.tinyjson_schema_keywords.specs.declared.walk.Walk.{Walk}
 use Rattle.tinyjson_schema.specs.Evaluated.{Child, IsChild, value_of, Answers, rest_keyword, applies_to, children_pass}
 use Rattle.tinyjson_schema.specs.Places.{IsAt}
-use Rattle.tinyjson_schema.specs.Valid.{answers_in, says, IsInvalidAt}
+use Rattle.tinyjson_schema.specs.Valid.{answers_in, root_of, says, IsInvalidAt}
 use Rattle.tinyjson_schema.specs.declared.validate.unevaluated.Source.{Source}
 use Rattle.tinyjson_schema.specs.declared.violation.Violation.{Violation}
+use Rattle.tinyjson_schema.specs.declared.walk.Walk.{Walk}
 
 -- A keyword of the schema evaluates the child. The keyword for the rest counts except in the schema that asks.
 abbrev pub source_evaluates : Answers → Source → Child → Bool
@@ -46,7 +46,7 @@ pub record InRest (w : Walk) (a : Keyword) (xs : List Source) (r t : Tree) (v : 
   pub named : IsChild t token child
   pub left : (g : Answers) → sources_evaluate g xs child ≡ false
   pub placed : IsAt (name a ∷ location) (token ∷ within) v
-  pub invalid : IsInvalidAt (view w.whole.now.root.now) w.steps r (value_of child) location within
+  pub invalid : IsInvalidAt (root_of w) w.steps r (value_of child) location within
 
 -- No violation, and r accepts each child that the sources do not evaluate; or a violation by such a child.
 abbrev pub FindsLeft : Walk → Keyword → List Source → Tree → Tree → Result (Option Violation) CheckError → Type 0

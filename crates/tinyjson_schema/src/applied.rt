@@ -9,10 +9,11 @@ ghost use Rattle.tinyjson_schema_keywords.specs.Names.{name};
 ghost use Rattle.tinyjson_schema_keywords.specs.References.{referenced};
 ghost use Rattle.tinyjson_schema.specs.Marks.{mark, HasMarks};
 
+use crate::walk::Walk;
 use std::alloc::{AllocError, Global};
 use std::collections::HashMap;
 use tinyjson::JsonValue;
-use tinyjson_schema_keywords::{Keyword, Walk, referenced, schema_at, schema_map_at, schemas_at};
+use tinyjson_schema_keywords::{Keyword, referenced, schema_at, schema_map_at, schemas_at};
 
 /// A schema that is applied, and the marks of its names. A keyword whose mark is not among these is not in the schema,
 /// so it is not looked up. It is two words, as the walk is.
@@ -81,7 +82,7 @@ impl<'s> Applied<'s> {
         if !self.may_have(keyword) {
             return Ok(None);
         }
-        referenced(self.schema, keyword, walk)
+        referenced(self.schema, keyword, walk.following())
     }
 }
 

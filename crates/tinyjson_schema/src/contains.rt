@@ -8,9 +8,9 @@ ghost use Rattle.tinyjson_schema.specs.Applicators.{contains_some, contains_at_m
 ghost use Rattle.tinyjson_schema.specs.Applicators.{contains_at_least, is_zero};
 
 use crate::applied::Applied;
-use crate::assertions::{is_count_at_least, is_count_at_most};
 use std::alloc::{AllocError, Global};
 use tinyjson::JsonValue;
+use tinyjson_schema_assertions::{is_count_at_least, is_count_at_most};
 use tinyjson_schema_keywords::Keyword;
 
 /// Whether the count is at least 1, unless `minContains` is 0; true for `None`.

@@ -14,10 +14,11 @@ mod operand;
 mod part;
 mod refused;
 mod schema;
-mod unique;
 mod validate;
 mod violation;
+mod walk;
 
-pub use schema::{Limits, Schema, SchemaError};
+pub use schema::{Checks, Limits, Schema, SchemaError};
+pub use tinyjson_schema_assertions::unknown_formats;
 pub use tinyjson_schema_keywords::{CheckError, unknown_words};
 pub use violation::Violation;

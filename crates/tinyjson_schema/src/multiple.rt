@@ -1,11 +1,10 @@
-//! `multipleOf`: multiples of a number, and which numbers it accepts.
+//! Which numbers `multipleOf` accepts.
 ghost use Rattle.std.specs.Prelude.{◌≡◌};
 ghost use Rattle.tinyjson.specs.View.{view};
 ghost use Rattle.tinyjson_schema.specs.Operands.{is_divisor_number};
-ghost use Rattle.tinyjson_schema.specs.Assertions.{are_multiple};
 
 use tinyjson::JsonValue;
-use tinyjson_compare::{is_divisor, is_multiple};
+use tinyjson_compare::is_divisor;
 
 /// Whether the value is a number above zero with at most 19 digits.
 pub fn is_divisor_number(value: &JsonValue) -> bool
@@ -14,17 +13,5 @@ pub fn is_divisor_number(value: &JsonValue) -> bool
     match value {
         JsonValue::Number(number) => is_divisor(number),
         _ => false,
-    }
-}
-
-/// Whether the number is a multiple of the divisor; true if one is no number, or the divisor is not allowed.
-pub fn are_multiple(number: &JsonValue, divisor: &JsonValue) -> bool
-    ensures { result ≡ are_multiple (view number.now) (view divisor.now) }
-{
-    match (number, divisor) {
-        (JsonValue::Number(number), JsonValue::Number(divisor)) => {
-            !is_divisor(divisor) || is_multiple(number, divisor)
-        }
-        _ => true,
     }
 }

@@ -10,10 +10,10 @@ ghost use Rattle.tinyjson_schema.specs.Operands.{are_strings, are_keys, is_key_l
 ghost use Rattle.tinyjson_schema.specs.Operands.{have_key_lists, is_key_map, is_dialect};
 ghost use Rattle.tinyjson_schema.specs.Refused.{whole_of};
 
-use crate::assertions::is_among;
 use std::alloc::{AllocError, Global};
 use tinyjson::{JsonValue, sorted_members};
 use tinyjson_compare::are_distinct;
+use tinyjson_schema_assertions::is_among;
 use tinyjson_schema_keywords::{Document, is_plain_name, is_some_item};
 
 /// Whether it is a plain name, but not the first one that the document has twice.

@@ -7,8 +7,9 @@ ghost use Rattle.tinyjson_schema.specs.Parts.{additional};
 ghost use Rattle.tinyjson_schema.specs.Places.{IsMemberPart, IsItemPart};
 
 use crate::applied::Applied;
+use crate::walk::Walk;
 use tinyjson::JsonValue;
-use tinyjson_schema_keywords::{CheckError, Keyword, Walk, operand};
+use tinyjson_schema_keywords::{CheckError, Keyword, operand};
 
 /// The schema for a part of the value, and the keyword that applies it.
 #[derive(Clone, Copy)]

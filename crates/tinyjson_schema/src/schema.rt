@@ -7,11 +7,12 @@ ghost use Rattle.tinyjson_schema.specs.declared.schema.SchemaError.{SchemaError}
 use crate::refused::{Reason, refused_place};
 use crate::validate::find_violation;
 use crate::violation::Violation;
+use crate::walk::Walk;
 use std::alloc::{AllocError, Global};
 use tinyjson::JsonValue;
 use tinyjson_pointer::Pointer;
 use tinyjson_schema_keywords::{
-    Budget, CheckError, Document, KeptPatterns, Walk, Whole, anchors_of, repeated,
+    Budget, CheckError, Document, KeptPatterns, Whole, anchors_of, repeated,
 };
 
 /// A schema that can be applied. Each keyword in it is applied or is an annotation, and its value has the
@@ -30,6 +31,16 @@ pub struct Limits {
     /// How many steps the check may take in all. A step is a schema that is applied to a part of the value, a key that
     /// is looked up for it, a value of `enum` that is compared, or 32 bytes that are searched for a pattern.
     pub steps: u64,
+}
+
+/// How a value is checked.
+#[derive(Clone, Copy, Debug, PartialEq, Eq)]
+pub struct Checks {
+    /// How much the check may do.
+    pub limits: Limits,
+    /// Whether `format` is an assertion (Validation, 7.2.2). By default it is only an annotation. Names that
+    /// `text_formats` does not have assert nothing.
+    pub formats: bool,
 }
 
 /// Why a tree is not accepted as a schema.
@@ -54,8 +65,8 @@ impl From<AllocError> for SchemaError {
 }
 
 impl<'s> Schema<'s> {
-    ghost use Rattle.tinyjson_schema.specs.Reading.{ReadsSchema, tree_of};
-    ghost use Rattle.tinyjson_schema.specs.Valid.{Validates, Agrees};
+    ghost use Rattle.tinyjson_schema.specs.Reading.{ReadsSchema, tree_of, root_in};
+    ghost use Rattle.tinyjson_schema.specs.Valid.{Validates, Agrees, ValidatesIn, AgreesIn};
 
     /// Checks a tree, and returns it as a schema. The error has the place of what can't be applied (Core, 4.3), or
     /// of a pattern that is too deep or too large.
@@ -137,11 +148,36 @@ impl<'s> Schema<'s> {
         ensures judged { Validates limits.nested (tree_of self.now) (view value.now) result }
         ensures only { IfOk result (λ found. Agrees (tree_of self.now) (view value.now) found) }
     {
-        self.whole.budget.renew(limits.steps);
+        let checks = Checks {
+            limits,
+            formats: false,
+        };
+        self.invalid_place_by(value, checks, alloc)
+    }
+
+    /// [`Schema::invalid_place_within`], with `format` as an assertion if that is asked for.
+    ///
+    /// ```
+    /// let checks = Checks { limits, formats: true };
+    /// let place = schema.invalid_place_by(&value, checks, alloc)?;
+    /// ```
+    pub fn invalid_place_by(
+        &self,
+        value: &JsonValue,
+        checks: Checks,
+        alloc: Global,
+    ) -> Result<Option<Violation>, CheckError>
+        ensures judged { ValidatesIn checks.limits.nested (root_in self.now checks.formats)
+            (view value.now) result }
+        ensures only { IfOk result
+            (λ found. AgreesIn (root_in self.now checks.formats) (view value.now) found) }
+    {
+        self.whole.budget.renew(checks.limits.steps);
         let walk = Walk {
             whole: &self.whole,
-            steps: limits.nested,
+            steps: checks.limits.nested,
             alloc,
+            formats: checks.formats,
         };
         find_violation(value, walk)
     }

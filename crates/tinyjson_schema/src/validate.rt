@@ -9,21 +9,22 @@ ghost use Rattle.tinyjson_schema_keywords.specs.declared.keyword.Keyword.TheVari
 ghost use Rattle.tinyjson_schema.specs.Applicators.{all_accept, applies, dependents_accept};
 ghost use Rattle.tinyjson_schema.specs.Applicators.{members_accepted, items_accepted};
 ghost use Rattle.tinyjson_schema.specs.Applicators.{parts_accepted};
-ghost use Rattle.tinyjson_schema.specs.Valid.{refuses_all, reference_accepts, Validates, Agrees};
+ghost use Rattle.tinyjson_schema.specs.Valid.{refuses_all, reference_accepts, ValidatesIn, AgreesIn};
 ghost use Rattle.tinyjson_schema.specs.Valid.{Judges, Follows, Finds, FindsFound, is_reference};
-ghost use Rattle.tinyjson_schema.specs.Valid.{target_accepts};
+ghost use Rattle.tinyjson_schema.specs.Valid.{target_accepts, root_of};
 
 mod tested;
 mod unevaluated;
 
 use crate::applied::{Applied, marks_of};
-use crate::assertions::{ASSERTIONS, unmet};
+use crate::assertions::{assertions, unmet};
 use crate::part::{item_part, member_part};
 use crate::validate::tested::unmet_test;
 use crate::validate::unevaluated::in_rest;
 use crate::violation::Violation;
+use crate::walk::Walk;
 use tinyjson::{JsonValue, sorted_members};
-use tinyjson_schema_keywords::{CheckError, Keyword, Walk, branch, has_key, listed_members};
+use tinyjson_schema_keywords::{CheckError, Keyword, branch, has_key, listed_members};
 
 /// What the value violates of the whole schema, if it violates it; `None` means that the value is valid. Nested
 /// schemas are applied, by keywords and by references, up to the steps that the walk has left; for more the error
@@ -38,10 +39,8 @@ pub fn find_violation(
     value: &JsonValue,
     walk: Walk<'_, '_>,
 ) -> Result<Option<Violation>, CheckError>
-    ensures judged { Validates walk.entry.steps (view walk.entry.whole.now.root.now)
-        (view value.now) result }
-    ensures only { IfOk result
-        (λ found. Agrees (view walk.entry.whole.now.root.now) (view value.now) found) }
+    ensures judged { ValidatesIn walk.entry.steps (root_of walk.entry) (view value.now) result }
+    ensures only { IfOk result (λ found. AgreesIn (root_of walk.entry) (view value.now) found) }
 {
     violation_in(value, walk.whole.root, walk)
 }
@@ -63,7 +62,7 @@ fn violation_in(
         schema,
         marks: marks_of(schema),
     };
-    if let Some(keyword) = unmet(&ASSERTIONS, here, value, walk)? {
+    if let Some(keyword) = unmet(assertions(walk.formats), here, value, walk)? {
         return Ok(Some(Violation::of_keyword(walk.alloc, keyword)?));
     }
     if let Some(keyword) = unmet_test(value, here, inner)? {

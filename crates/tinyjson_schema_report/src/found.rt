@@ -1,13 +1,13 @@
 //! What a value violates of a schema, with the words.
 ghost use Rattle.std.specs.Prelude.{◌≡◌, Ok, Some};
 ghost use Rattle.tinyjson.specs.View.{view};
-ghost use Rattle.tinyjson_schema.specs.Reading.{tree_of};
-ghost use Rattle.tinyjson_schema.specs.Valid.{Validates};
-ghost use Rattle.tinyjson_schema_report.specs.Finds.{Finds};
+ghost use Rattle.tinyjson_schema.specs.Reading.{tree_of, root_in};
+ghost use Rattle.tinyjson_schema.specs.Valid.{ValidatesIn};
+ghost use Rattle.tinyjson_schema_report.specs.Finds.{Finds, FindsIn};
 
 use std::alloc::Global;
 use tinyjson::JsonValue;
-use tinyjson_schema::{CheckError, Limits, Schema, Violation};
+use tinyjson_schema::{CheckError, Checks, Limits, Schema, Violation};
 use tinyjson_schema_keywords::Walk;
 use tinyjson_schema_words::{Places, words};
 
@@ -58,9 +58,31 @@ pub fn find(
 ) -> Result<Option<Finding>, CheckError>
     ensures { Finds limits.nested (tree_of schema.now) (view value.now) result }
 {
-    match schema.invalid_place_within(value, limits, alloc) {
+    let checks = Checks {
+        limits,
+        formats: false,
+    };
+    find_by(schema, value, checks, alloc)
+}
+
+/// [`find`], with `format` as an assertion if that is asked for.
+///
+/// ```
+/// let checks = Checks { limits: limits_of(text.len()), formats: true };
+/// let found = find_by(&schema, &value, checks, alloc)?;
+/// ```
+pub fn find_by(
+    schema: &Schema<'_>,
+    value: &JsonValue,
+    checks: Checks,
+    alloc: Global,
+) -> Result<Option<Finding>, CheckError>
+    ensures { FindsIn checks.limits.nested (root_in schema.now checks.formats) (view value.now)
+        result }
+{
+    match schema.invalid_place_by(value, checks, alloc) {
         Ok(None) => Ok(None),
-        Ok(Some(violation)) => with_words(schema, value, violation, limits.nested, alloc),
+        Ok(Some(violation)) => with_words(schema, value, violation, checks, alloc),
         Err(error) => Err(error),
     }
 }
@@ -70,11 +92,13 @@ fn with_words(
     schema: &Schema<'_>,
     value: &JsonValue,
     violation: Violation,
-    steps: usize,
+    checks: Checks,
     alloc: Global,
 ) -> Result<Option<Finding>, CheckError>
-    requires { Validates steps (tree_of schema.now) (view value.now) (Ok (Some violation)) }
-    ensures { Finds steps (tree_of schema.now) (view value.now) result }
+    requires { ValidatesIn checks.limits.nested (root_in schema.now checks.formats)
+        (view value.now) (Ok (Some violation)) }
+    ensures { FindsIn checks.limits.nested (root_in schema.now checks.formats) (view value.now)
+        result }
 {
     let places = Places {
         keyword: &violation.keyword_location,
@@ -82,7 +106,7 @@ fn with_words(
     };
     let walk = Walk {
         whole: schema.whole(),
-        steps,
+        steps: checks.limits.nested,
         alloc,
     };
     match words(places, value, walk) {

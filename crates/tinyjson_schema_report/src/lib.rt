@@ -10,5 +10,5 @@
 mod found;
 mod report;
 
-pub use found::{Finding, find, limits_of};
+pub use found::{Finding, find, find_by, limits_of};
 pub use report::output_unit;

@@ -8,7 +8,7 @@ use Rattle.tinyjson_schema_keywords.specs.declared.keyword.Keyword.TheVariants a
 use Rattle.tinyjson_schema_words.specs.Brief.{brief, brief_list}
 use Rattle.tinyjson_schema_words.specs.Counts.{count_words, contained_words, length_of, items_count_of, members_count_of}
 use Rattle.tinyjson_schema_words.specs.Ends.{At, ends_from}
-use Rattle.tinyjson_schema_words.specs.Kinds.{type_words}
+use Rattle.tinyjson_schema_words.specs.Kinds.{type_name, type_words}
 use Rattle.tinyjson_schema_words.specs.Missing.{required_words}
 
 -- `must be at most 10, is 12`
@@ -24,6 +24,10 @@ at_most w what found = count_words (codes "must have at most ") w what found
 
 abbrev pub at_least : Tree → List ℕ → Option ℕ → List ℕ
 at_least w what found = count_words (codes "must have at least ") w what found
+
+-- `must be a date, is "2024-02-30"`
+abbrev pub format_words : Tree → Tree → List ℕ
+format_words w t = codes "must be " ++ (type_name w ++ (codes ", is " ++ brief t))
 
 -- the words of a keyword that compares nothing; a keyword with a schema leads to the schema `false`
 abbrev pub fixed : Keyword → List ℕ
@@ -56,6 +60,7 @@ keyword_words kw.MinContains w t = contained_words (codes "must have at least ")
 keyword_words kw.MaxProperties w t = at_most w (codes " member") (members_count_of t)
 keyword_words kw.MinProperties w t = at_least w (codes " member") (members_count_of t)
 keyword_words kw.Required w t = required_words w t
+keyword_words kw.Format w t = format_words w t
 keyword_words k w t = fixed k
 
 -- the words for the place in the schema and the part of the value

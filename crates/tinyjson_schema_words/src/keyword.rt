@@ -3,11 +3,11 @@ ghost use Rattle.std.specs.Prelude.{◌≡◌, IfOk};
 ghost use Rattle.std.specs.String.{string_bytes};
 ghost use Rattle.tinyjson.specs.View.{view};
 ghost use Rattle.tinyjson_schema_words.specs.Words.{keyword_words, compared, one_of, fixed};
-ghost use Rattle.tinyjson_schema_words.specs.Words.{at_most, at_least};
+ghost use Rattle.tinyjson_schema_words.specs.Words.{at_most, at_least, format_words};
 
 use crate::brief::{brief, brief_list};
 use crate::count::{Count, contained_words, count_words, item_count, length, member_count};
-use crate::kind::type_words;
+use crate::kind::{type_name, type_words};
 use crate::missing::required_words;
 use std::alloc::{AllocError, Global};
 use tinyjson::JsonValue;
@@ -42,6 +42,7 @@ pub fn keyword_words(
         Keyword::MaxProperties => at_most(operand, " member", member_count(value, alloc)?, alloc),
         Keyword::MinProperties => at_least(operand, " member", member_count(value, alloc)?, alloc),
         Keyword::Required => required_words(operand, value, alloc),
+        Keyword::Format => format_words(operand, value, alloc),
         _ => String::from_str(alloc, fixed(keyword)),
     }
 }
@@ -59,6 +60,16 @@ fn compared(
     let bound = brief(operand, alloc)?;
     let found = brief(value, alloc)?;
     format!(in alloc; "{wanted}{}, is {}", bound.as_str(), found.as_str())
+}
+
+/// The format that is wanted, and what the value is.
+fn format_words(format: &JsonValue, value: &JsonValue, alloc: Global) -> Result<String, AllocError>
+    ensures { IfOk result
+        (λ s. string_bytes s ≡ format_words (view format.now) (view value.now)) }
+{
+    let wanted = type_name(format, alloc)?;
+    let found = brief(value, alloc)?;
+    format!(in alloc; "must be {wanted}, is {found}")
 }
 
 fn one_of(values: &JsonValue, alloc: Global) -> Result<String, AllocError>

@@ -43,8 +43,8 @@ fn type_list(names: &[JsonValue], alloc: Global) -> Result<String, AllocError>
     Ok(words)
 }
 
-/// A type with its article.
-fn type_name(name: &JsonValue, alloc: Global) -> Result<String, AllocError>
+/// A type, or a format, with its article.
+pub fn type_name(name: &JsonValue, alloc: Global) -> Result<String, AllocError>
     ensures { IfOk result (λ s. string_bytes s ≡ type_name (view name.now)) }
 {
     match name {
@@ -73,7 +73,7 @@ fn article(name: &str) -> &'static str
 {
     match name {
         "null" => "",
-        "array" | "integer" | "object" => "an ",
+        "array" | "email" | "integer" | "ipv4" | "ipv6" | "object" => "an ",
         _ => "a ",
     }
 }

@@ -11,8 +11,9 @@ ghost use Rattle.tinyjson_schema.specs.Valid.{Follows, IsUnapplied};
 use crate::applied::Applied;
 use crate::contains::{contains_at_least, contains_at_most, contains_some};
 use crate::validate::is_accepted;
+use crate::walk::Walk;
 use tinyjson::JsonValue;
-use tinyjson_schema_keywords::{CheckError, Keyword, Walk, is_some_item, listed_members, name_of};
+use tinyjson_schema_keywords::{CheckError, Keyword, is_some_item, listed_members, name_of};
 
 /// One of these keywords that the value violates, if there is one.
 #[cycle(validate)]

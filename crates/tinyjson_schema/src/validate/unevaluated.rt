@@ -24,9 +24,10 @@ use crate::applied::{Applied, marks_of};
 use crate::part::{is_patterned, item_part, member_part};
 use crate::validate::{is_accepted, violation_in};
 use crate::violation::Violation;
+use crate::walk::Walk;
 use std::alloc::AllocError;
 use tinyjson::{JsonValue, sorted_members};
-use tinyjson_schema_keywords::{CheckError, Keyword, Walk, branch, has_key};
+use tinyjson_schema_keywords::{CheckError, Keyword, branch, has_key};
 
 /// A schema whose keywords evaluate members and items, and the walk in it.
 #[derive(Clone, Copy)]

@@ -2,7 +2,7 @@ use Rattle.std.proofs.Common.{◌≡◌, true, sym, ap, subst}
 use Rattle.std.specs.Option.{option_map_or}
 use Rattle.std.specs.Prelude.{IfOk}
 use Rattle.tinyjson.specs.View.{view}
-use Rattle.tinyjson_schema.specs.Assertions.{accepts}
+use Rattle.tinyjson_schema_assertions.specs.Assertions.{accepts}
 use Rattle.tinyjson_schema.proofs.assertions.meets.Goals as goal
 
 pub returns-in-Some : goal.returns-in-Some

@@ -1,6 +1,6 @@
 use Rattle.std.proofs.Common.{◌≡◌, drop}
 use Rattle.tinyjson.specs.View.{view}
-use Rattle.tinyjson_schema.specs.Assertions.{meets_all}
+use Rattle.tinyjson_schema_assertions.specs.Assertions.{meets_all}
 use Rattle.tinyjson_schema.proofs.assertions.unmet.Given as goal
 
 abbrev pub invariant-loop-keyword : goal.invariant-loop-keyword

@@ -23,13 +23,13 @@ use Rattle.tinyjson_schema.specs.Applicators.{applies, parts_accepted, tests, co
 use Rattle.tinyjson_schema.specs.Applicators.{one_of, branch_accepts, some_accepts, accepting, keys_pass, passing, items_passing}
 use Rattle.tinyjson_schema.specs.Evaluated.{Answers, Child, member_at, item_at, value_of, others_evaluate, rest_accepted, members_pass}
 use Rattle.tinyjson_schema.specs.Evaluated.{some_evaluate, accepting_evaluate, branch_evaluates, dependents_evaluate, target_evaluates}
-use Rattle.tinyjson_schema.specs.Assertions.{IsUnmet}
+use Rattle.tinyjson_schema_assertions.specs.Assertions.{IsUnmet, IsUnmetAmong}
 use Rattle.tinyjson_schema.specs.Parts.{item_schema}
 use Rattle.tinyjson_schema.specs.Places.{IsMemberPart, IsUnderKey, IsWithin, Enters, place}
 use Rattle.tinyjson_schema.specs.Sources.{sources_evaluate, AreWithin}
 use Rattle.tinyjson_schema.specs.Valid.{answers_in, FindsRest, reference_accepts, target_accepts, says, Judges, Finds, IsUnapplied, refused}
 use Rattle.tinyjson_schema.specs.Valid.{unmet, not_applied, in_all_of, in_dependent, in_patterned, in_reference, in_part, IsInvalidAt}
-use Rattle.tinyjson_schema.specs.Valid.{FindsFound}
+use Rattle.tinyjson_schema.specs.Valid.{FindsFound, root_of}
 use Rattle.tinyjson_schema.specs.declared.validate.unevaluated.Source.{Source}
 use Rattle.tinyjson_schema.proofs.Loops.{items_turn, items_end, item_passes, item_free, members_turn, member_passes, member_free}
 use Rattle.tinyjson_schema.proofs.Loops.{dependents_turn, dependent_passes, dependent_free, no_parts, found_holds, not_found, found_turn}
@@ -106,7 +106,7 @@ violation_in-returns-then-refuses_all t c =
     let s = view c.args.schema.now in
     let v = view c.args.value.now in
     before c.args.walk inner c.in_ok-inner.ensures s v (Ok (Some c.of_schema.result))
-    (reported (view inner.whole.now.root.now) (suc inner.steps) s v c.of_schema.result _ _ c.of_schema.ensures
+    (reported (root_of inner) (suc inner.steps) s v c.of_schema.result _ _ c.of_schema.ensures
     (refused (sym c.refuses_all.ensures ∙ c.if-refuses_all.true)))
 
 pub violation_in-returns-in-Some : goal.violation_in-returns-in-Some
@@ -115,8 +115,10 @@ violation_in-returns-in-Some t c =
     let s = view c.args.schema.now in
     let v = view c.args.value.now in
     before c.args.walk inner c.in_ok-inner.ensures s v (Ok (Some c.in_ok-of_keyword.field-0))
-    (reported (view inner.whole.now.root.now) (suc inner.steps) s v c.in_ok-of_keyword.field-0 _ _ c.in_ok-of_keyword.ensures
-    (unmet c.in-Some.keyword (subst (λ o. IsUnmet s v o) c.in-Some.is c.in_ok-keyword.ensures)))
+    (reported (root_of inner) (suc inner.steps) s v c.in_ok-of_keyword.field-0 _ _ c.in_ok-of_keyword.ensures
+    (unmet c.in-Some.keyword (subst (λ f. IsUnmet f s v (Some c.in-Some.keyword)) (sym c.in_ok-inner.ensures.2)
+    (subst (λ o. IsUnmet c.args.walk.formats s v o) c.in-Some.is
+    (subst (λ ks. IsUnmetAmong ks s v c.in_ok-keyword.field-0) c.assertions.ensures c.in_ok-keyword.ensures)))))
 
 pub violation_in-returns-in-Some-2 : goal.violation_in-returns-in-Some-2
 violation_in-returns-in-Some-2 t c =
@@ -124,7 +126,7 @@ violation_in-returns-in-Some-2 t c =
     let s = view c.args.schema.now in
     let v = view c.args.value.now in
     before c.args.walk inner c.in_ok-inner.ensures s v (Ok (Some c.in_ok-of_keyword-2.field-0))
-    (reported (view inner.whole.now.root.now) (suc inner.steps) s v c.in_ok-of_keyword-2.field-0 _ _ c.in_ok-of_keyword-2.ensures
+    (reported (root_of inner) (suc inner.steps) s v c.in_ok-of_keyword-2.field-0 _ _ c.in_ok-of_keyword-2.ensures
     (not_applied c.in-Some-2.keyword (subst (λ o. IsUnapplied inner tests s v o) c.in-Some-2.is c.in_ok-keyword-2.ensures)))
 
 pub violation_in-returns-in-Some-3 : goal.violation_in-returns-in-Some-3
@@ -183,7 +185,8 @@ violation_in-returns t c =
     let v = view c.args.value.now in
     before c.args.walk inner c.in_ok-inner.ensures s v c.in_rest.result
     (last_found inner s v c.in_rest.result (sym c.refuses_all.ensures ∙ c.if-refuses_all.false)
-    (subst (λ o. IsUnmet s v o) c.in_default.is c.in_ok-keyword.ensures)
+    (subst (λ f. IsUnmet f s v None) (sym c.in_ok-inner.ensures.2) (subst (λ o. IsUnmet c.args.walk.formats s v o) c.in_default.is
+    (subst (λ ks. IsUnmetAmong ks s v c.in_ok-keyword.field-0) c.assertions.ensures c.in_ok-keyword.ensures)))
     (subst (λ o. IsUnapplied inner tests s v o) c.in_default-2.is c.in_ok-keyword-2.ensures)
     (subst (λ o. Finds inner (λ f. applies f kw.AllOf s v) s v (Ok o)) c.in_default-3.is c.in_ok-found.ensures)
     (subst (λ o. Finds inner (λ f. applies f kw.If s v) s v (Ok o)) c.in_default-4.is c.in_ok-found-2.ensures)
@@ -196,7 +199,7 @@ violation_in-returns t c =
 
 pub is_accepted-returns : goal.is_accepted-returns
 is_accepted-returns t c g = flipped c.is_none.result _ c.is_none.ensures
-    ∙ verdict (view c.args.walk.whole.now.root.now) c.args.walk.steps (view c.args.schema.now) (view c.args.value.now) c.in_ok-found.found
+    ∙ verdict (root_of c.args.walk) c.args.walk.steps (view c.args.schema.now) (view c.args.value.now) c.in_ok-found.found
     c.in_ok-found.ensures g
 
 pub tested::unmet_test-returns-then-not-any : goal.tested::unmet_test-returns-then-not-any
@@ -578,7 +581,7 @@ in_found-returns-in-Some t c =
       at = ap (find k) (sym (ap members_listed c.as_slice-members.ensures.value ∙ c.in_ok-listed.ensures.listed))
           ∙ listed_found ps i p sorted c.loop-key-test.true c.loop-key-item.is;
       placed = entered.1;
-      invalid = subst (λ xs. IsInvalidAt (view w.whole.now.root.now) w.steps r (view p.1.now) xs (tokens_of old.instance_location))
+      invalid = subst (λ xs. IsInvalidAt (root_of w) w.steps r (view p.1.now) xs (tokens_of old.instance_location))
           (sym entered.0) inner;
     }
 

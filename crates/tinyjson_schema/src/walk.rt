@@ -1,0 +1,63 @@
+//! The state of a check of a value, which is passed down from schema to subschema.
+ghost use Rattle.i_regexp.specs.PatternDeciding.{is_found};
+ghost use Rattle.std.specs.Prelude.{◌≡◌, IfOk};
+ghost use Rattle.std.specs.Str.{chars};
+ghost use Rattle.tinyjson_schema.specs.Walks.{IsDeeper};
+
+use std::alloc::Global;
+use tinyjson_schema_keywords as keywords;
+use tinyjson_schema_keywords::{CheckError, Whole};
+
+/// The whole schema, in which references lead; how many more nested schemas may be applied; the allocator; and whether
+/// `format` is an assertion.
+#[derive(Clone, Copy)]
+pub struct Walk<'d, 's> {
+    pub whole: &'d Whole<'s>,
+    pub steps: usize,
+    pub alloc: Global,
+    pub formats: bool,
+}
+
+impl<'d, 's> Walk<'d, 's> {
+    /// The walk in which references are followed.
+    pub fn following(self) -> keywords::Walk<'d, 's>
+        ensures { result.whole ≡ self.entry.whole }
+    {
+        keywords::Walk {
+            whole: self.whole,
+            steps: self.steps,
+            alloc: self.alloc,
+        }
+    }
+
+    /// The state for a subschema: one step less is left.
+    pub fn deeper(self) -> Result<Walk<'d, 's>, CheckError>
+        ensures { IfOk result (IsDeeper self.entry) }
+    {
+        match self.steps.checked_sub(1) {
+            Some(steps) => Ok(Walk {
+                whole: self.whole,
+                steps,
+                alloc: self.alloc,
+                formats: self.formats,
+            }),
+            None => Err(CheckError::TooDeep),
+        }
+    }
+
+    /// The state for a schema that is applied: one step of the budget is taken, and one less nested schema is left.
+    pub fn entered(self) -> Result<Walk<'d, 's>, CheckError>
+        ensures { IfOk result (IsDeeper self.entry) }
+    {
+        self.whole.budget.spend(1)?;
+        self.deeper()
+    }
+
+    /// Whether the pattern matches somewhere in the text. One that is no pattern matches nothing. It takes a step of
+    /// the budget, and another one for each 32 bytes of the pattern and the text.
+    pub fn is_found(self, pattern: &str, text: &str) -> Result<bool, CheckError>
+        ensures { IfOk result (λ is. is ≡ is_found (chars pattern.now) (chars text.now)) }
+    {
+        self.following().is_found(pattern, text)
+    }
+}

@@ -1,0 +1,3 @@
+pub mod Formatted
+pub mod Operands
+pub mod Patterns

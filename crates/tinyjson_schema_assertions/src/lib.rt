@@ -1,0 +1,14 @@
+//! Assertions of JSON Schema 2020-12: the keywords that constrain a value itself, not its parts (Validation, sections 6 and 7).
+//!
+//! ```
+//! let is_met = accepts(Keyword::Maximum, &limit, &value, walk)?;
+//! ```
+#![tactic(auto)]
+
+mod assertion;
+mod formats;
+mod multiple;
+mod unique;
+
+pub use assertion::{accepts, is_among, is_count_at_least, is_count_at_most};
+pub use formats::unknown_formats;
