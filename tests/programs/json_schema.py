@@ -850,6 +850,51 @@ UNKNOWN = [
     ('{"":1,"b\\nvalid\\u001b\\u007f\\u009b":2,"\u00e9\\"":3}', ["", "bU+000AvalidU+001BU+007FU+009B", '\u00e9"']),
 ]
 
+# Validation, 7.3: of each format that `-f` checks, texts that have it and texts that have not, by its RFC. Most are those of the official
+# suite.
+FORMATS = [
+    ("date", ["1963-06-19", "2024-02-29", "2000-02-29"], ["2024-02-30", "2023-02-29", "1900-02-29", "2020-13-01", "06/19/1963", "1963-6-19", "1963-06-1৪", ""]),
+    ("time", ["08:30:06Z", "08:30:06.283185z", "23:59:60Z", "15:59:60-08:00"], ["08:30:06", "24:00:00Z", "00:60:00Z", "23:58:60Z", "01:02:03+24:00", "8:30:06Z"]),
+    ("date-time", ["1963-06-19T08:30:06.283185Z", "1998-12-31T23:59:60Z", "1937-01-01t12:00:27.87+00:20"], ["1998-12-31T23:58:60Z", "1990-02-31T15:59:59.123-08:00", "1963-06-19 08:30:06Z", "1963-06-19"]),
+    ("duration", ["P4DT12H30M5S", "PT36H", "P4Y", "P2W"], ["PT1D", "P", "P1YT", "P2D1Y", "P1", "P1Y2W", "4DT12H"]),
+    ("email", ["joe.bloggs@example.com", "te~st@example.com", "joe@[127.0.0.1]"], ["2962", ".test@example.com", "te..st@example.com", "joe@[127.0.0.300]"]),
+    ("hostname", ["www.example.com", "xn--4gbwdl.xn--wgbh1c", "h0st", "a" * 63], ["-a", "a-", "not_a_name", "a" * 64, "a..b"]),
+    ("ipv4", ["192.168.0.1", "0.0.0.0", "255.255.255.255"], ["256.256.256.256", "127.0.0.0.1", "127.0", "087.10.0.1", "0x7f.0.0.1", "1.2.3.4/24"]),
+    ("ipv6", ["::1", "::", "1:d6::42", "::ffff:192.168.0.1", "a:b:c:d:e:f:0:1"], ["12345::", "1:1:1:1:1:1:1:1:1", "1::d6::42", ":2:3:4:5:6:7:8", "::1%eth0", "::laptop"]),
+    ("uri", ["http://foo.bar/?baz=qux#quuz", "urn:oasis:names:specification:docbook:dtd:xml:4.1.2", "ftp://[2001:db8::7]/c"], ["//foo.bar/?baz=qux#quuz", "/abc", "http:// shouldfail.com", "bar,baz:a b", "http://a/%"]),
+    ("uri-reference", ["/abc", "#fragment", "//foo.bar/?baz=qux#quuz", "", "http://a/b"], ["\\\\WINDOWS\\fileshare", "#frag\\ment", "1:a"]),
+    ("uuid", ["2EB8AA08-aa98-11EA-B4Aa-73B441D16380", "00000000-0000-0000-0000-000000000000"], ["2eb8aa08-aa98-11ea-b4aa-73b441d1638", "2eb8aa08aa9811eab4aa73b441d16380", "2eb8aa08-aa98-11ea-b4ga-73b441d16380"]),
+    ("json-pointer", ["", "/foo/bar~0/baz~1/%a", "//", "/ "], ["/foo/bar~", "#", "a", "/~2", "0/a"]),
+    ("relative-json-pointer", ["1", "0/foo/bar", "0#", "120/foo/bar"], ["/foo/bar", "-1/foo/bar", "01/a", "0##", "", "+1/a"]),
+]
+
+# Where `format` is asserted: the schema, values that are valid, and values that are not, each with the place in it and the keyword's.
+ASSERTED = [
+    ('{"format":"date"}', ["12", "null", "[]", '["x"]', '{"a":"x"}', "true"], []),
+    ('{"type":"string","format":"date"}', ['"2024-01-01"'], [("5", "", "/type"), ('"5"', "", "/format")]),
+    ('{"format":"none"}', ['"x"', '""'], []),
+    ('{"items":{"format":"ipv4"}}', ['["1.2.3.4",5]'], [('["1.2.3.4","x"]', "/1", "/items/format")]),
+    ('{"properties":{"a":{"$ref":"#/$defs/b"}},"$defs":{"b":{"format":"uuid"}}}', ['{"b":"x"}'], [('{"a":"x"}', "/a", "/properties/a/$ref/format")]),
+    ('{"not":{"format":"date"}}', ['"x"'], [('"2024-01-01"', "", "/not"), ("1", "", "/not")]),
+    ('{"anyOf":[{"format":"date"},{"format":"time"}]}', ['"2024-01-01"', '"08:30:06Z"'], [('"x"', "", "/anyOf")]),
+    ('{"oneOf":[{"format":"uri"},{"format":"uri-reference"}]}', ['"/abc"'], [('"http://a"', "", "/oneOf")]),
+    ('{"if":{"format":"date"},"then":{"maxLength":0},"else":{"minLength":3}}', ['"xyz"'], [('"2024-01-01"', "", "/then/maxLength"), ('"x"', "", "/else/minLength")]),
+    ('{"contains":{"format":"json-pointer"},"propertyNames":{"format":"hostname"}}', ['["a",""]', '{"a-b":1}'], [('["a"]', "", "/contains"), ('{"a_b":1}', "", "/propertyNames")]),
+    ('{"allOf":[{"properties":{"a":{"format":"date"}}}],"unevaluatedProperties":{"format":"time"}}', ['{"a":"2024-01-01","b":"08:30:06Z"}'],
+     [('{"b":"x"}', "/b", "/unevaluatedProperties/format"), ('{"a":"x"}', "/a", "/allOf/0/properties/a/format")]),
+    # Older drafts have it, too.
+    *((of % '"items":{"format":"date"}', ['["2024-01-01",1]'], [('["x"]', "/0", "/items/format")])
+      for of in ('{"$schema":"http://json-schema.org/draft-04/schema#",%s}', '{"$schema":"http://json-schema.org/draft-07/schema#",%s}', '{"$schema":"https://json-schema.org/draft/2019-09/schema",%s}')),
+]
+
+# Schemas, and the names of formats that are told: each once, in the order of bytes.
+UNKNOWN_FORMATS = [
+    ('{"format":"regex","items":{"format":"color"},"properties":{"a":{"format":"date"},"b":{"format":"color"}}}', ["color", "regex"]),
+    ('{"format":"Date","if":{"format":""},"allOf":[{"format":"b\\n\\u001b"}]}', ["", "Date", "bU+000AU+001B"]),
+    # What is no schema has none.
+    ('{"enum":[{"format":"x"}],"properties":{"format":{"const":{"format":"y"}}},"default":{"format":"z"}}', []),
+]
+
 # A schema, the lines of an input, the reports of it as the line, the place in the value and the keyword's, what is told of lines
 # that can't be checked, and the status.
 BY_LINES = [
@@ -1355,6 +1400,27 @@ def limited(lines):
     return 1, output, errors
 
 
+def check_formats(checks):
+    """Formats are asserted with `-f` alone."""
+    row = lambda words, schema, given, answer: checks.row(f"json_schema: {words} {schema[:60]} {given[:60]}", answer, placed, checks.folder, schema, words, given)
+    for name, valid, others in FORMATS:
+        schema = json.dumps({"format": name})
+        given = b"".join(json.dumps(text).encode() + b"\n" for text in valid + others)
+        reports = b"".join(unit_of("", "/format", line=len(valid) + i + 1) for i in range(len(others)))
+        row(["-l", "-f"], schema, given, (1, reports, b""))
+        row(["-l"], schema, given, (0, b"", b""))
+    for words, (schema, valid, others) in zip(itertools.cycle((["-f"], ["--assert-format"])), ASSERTED):
+        told_of = told(['the schema: "none" is an unknown format'] if "none" in schema else [])
+        for value, places in [*((value, None) for value in valid), *((value, places) for value, *places in others)]:
+            row(words, schema, value.encode(), (*judged(places)[:2], told_of))
+    for schema, names in UNKNOWN_FORMATS:
+        row(["-f"], schema, b"1", (int("enum" in schema), unit_of("", "/enum") if "enum" in schema else b"", told(f'the schema: "{name}" is an unknown format' for name in names)))
+    row([], UNKNOWN_FORMATS[0][0], b"1", judged(None))
+    for name, words in (("date-time", 'must be a date-time, is "x"'), ("ipv4", 'must be an ipv4, is "x"'), ("email", 'must be an email, is "x"')):
+        schema, expected = json.dumps({"format": name}), (1, unit_of("", "/format", words), b"")
+        checks.row(f"json_schema: words of {schema}", expected, checked, checks.folder, schema, ["-f"], b'"x"')
+
+
 def check_long_lines(checks):
     """With -l, a line that is longer than a limit is not checked; without, there is no such limit."""
     schema = os.path.join(checks.folder, "false")
@@ -1579,4 +1645,4 @@ def check_memory(checks):
 
 PAGE, LINES_PAGE = Page("json_schema", [SCHEMA], b"[1]"), Page("json_schema", ["-l", SCHEMA], b"[1]", is_lines=True)
 
-PARTS = (PAGE.check, LINES_PAGE.check_pipes, *shared(check_rows), check_words, check_reasons, check_drafts, check_lines, check_long_lines, check_files, check_texts, check_documents, check_padded, check_padded_lines, check_deep, check_order, check_faults, *shared(check_memory))
+PARTS = (PAGE.check, LINES_PAGE.check_pipes, *shared(check_rows), check_words, check_reasons, check_drafts, check_formats, check_lines, check_long_lines, check_files, check_texts, check_documents, check_padded, check_padded_lines, check_deep, check_order, check_faults, *shared(check_memory))

@@ -6,12 +6,11 @@ use Rattle.std.specs.Io.KnownBytes.{Appends, Keeps}
 use Rattle.std.specs.Result.{IsErr}
 use Rattle.std.specs.declared.io.Error.{Error}
 use Rattle.tinyjson.proofs.Callers.{Appends_keeps, Appends_written, begins, stop, written_same}
-use Rattle.tinyjson.specs.Tree.{Tree}
 use Rattle.tinyjson.specs.Written.{Written, WrittenPart}
 use Rattle.tinyjson_lines.specs.Within.{IsWithin}
-use Rattle.tinyjson_schema.specs.Reading.{tree_of}
+use Rattle.tinyjson_schema.specs.Valid.{Root}
 use Rattle.json_schema.specs.Run.{Handles, Refuses, outcome_of, shown_of, told_of}
-use Rattle.json_schema.specs.Verdicts.{LineGives, GivesWithin}
+use Rattle.json_schema.specs.Verdicts.{judged, LineGives, GivesWithin}
 use Rattle.json_schema.specs.declared.lines.Check.{Check}
 use Rattle.json_schema.specs.declared.lines.Outcome.{Outcome}
 use Rattle.json_schema.specs.declared.verdict.Cause.{Cause}
@@ -20,7 +19,7 @@ use Rattle.json_schema.specs.declared.verdict.Verdict.{Verdict}
 use Rattle.json_schema.specs.declared.verdict.Verdict.TheVariants.{Valid, Invalid, Refused}
 
 -- a line within the limit has the verdict on its text
-pub within_checked : (max : Option ℕ) (s : Tree) (line : List ℕ) (v : Verdict) → IsWithin max line → LineGives s line v
+pub within_checked : (max : Option ℕ) (s : Root) (line : List ℕ) (v : Verdict) → IsWithin max line → LineGives s line v
     → GivesWithin max s line v
 within_checked max s line Valid w k = (w, k)
 within_checked max s line (Invalid v) w k = (w, k)
@@ -41,7 +40,7 @@ module _ (check : Check) (n : ℕ) (line : List ℕ) (held told : Option (List �
       → Handles check n line held holds told told r
   unhandled holds r i k = at_error holds told r i (λ e. inl (k, Keeps-refl told))
 
-  module _ (v : Verdict) (h : GivesWithin check.max_line (tree_of check.schema.now) line v) (holds : Option (List ℕ)) where
+  module _ (v : Verdict) (h : GivesWithin check.max_line (judged check.judge) line v) (holds : Option (List ℕ)) where
     pub line_shown : (o : Outcome) → o ≡ outcome_of v → [] ≡ told_of check n v → Written held holds (shown_of check n line v) []
         → Handles check n line held holds told told (Ok o)
     line_shown o e t w = (
@@ -56,7 +55,7 @@ module _ (check : Check) (n : ℕ) (line : List ℕ) (held told : Option (List �
         → Handles check n line held holds told told r
     show_failed r i w = at_error holds told r i (λ e. inr (record { line = line; verdict = v }, (refl, h), w, stop begins))
 
-  module _ (c : Cause) (h : GivesWithin check.max_line (tree_of check.schema.now) line (Refused c)) (holds after tells : Option (List ℕ)) where
+  module _ (c : Cause) (h : GivesWithin check.max_line (judged check.judge) line (Refused c)) (holds after tells : Option (List ℕ)) where
     pub line_refused : (r : Result Outcome Error) → Written held holds (shown_of check n line (Refused c)) []
         → Refuses check n c holds after told tells r → Handles check n line held after told tells r
     line_refused (Ok o) w q = (

@@ -14,13 +14,14 @@ are_lines ValidLines = true
 are_lines OtherLines = true
 are_lines _ = false
 
--- whether each line is a text, by `-l` or since lines are written; what is written; the numbers behind `-m` and `-d`; the
--- texts behind `-r`, with its letter; the name of the schema's file, and the other files
-abbrev pub asks : Given → Option (((Bool × Shows) × ((Option ℕ × Option ℕ) × List (ℕ × List ℕ))) × (List ℕ × List (List ℕ)))
+-- Whether each line is a text, by `-l` or since lines are written, and whether `format` is an assertion. What is
+-- written; the numbers behind `-m` and `-d`; the texts
+-- behind `-r`, with its letter; the name of the schema's file, and the other files
+abbrev pub asks : Given → Option ((((Bool × Bool) × Shows) × ((Option ℕ × Option ℕ) × List (ℕ × List ℕ))) × (List ℕ × List (List ℕ)))
 asks a = option_map
     (λ o. (
       (
-        (is_given 108 a || are_lines (asked_shows a), asked_shows a),
+        ((is_given 108 a || are_lines (asked_shows a), is_given 102 a), asked_shows a),
         ((last_number 109 None a.numbers, last_number 100 None a.numbers), a.texts),
       ),
       o,

@@ -8,12 +8,11 @@ use Rattle.tinyjson_cli.specs.declared.status.Status.{Status}
 use Rattle.tinyjson_cli.specs.declared.status.Status.TheVariants as ended
 use Rattle.tinyjson_lines.specs.Line.{line_of}
 use Rattle.tinyjson_lines.specs.Lines.{AnswersAll, StopsAmong, content}
-use Rattle.tinyjson_schema.specs.Reading.{tree_of}
 use Rattle.tinyjson_schema_report.specs.Report.{report_tree}
 use Rattle.tinyjson_schema_report.specs.declared.found.Finding.{Finding}
 use Rattle.json_schema.specs.Report.{text_line}
 use Rattle.json_schema.specs.Told.{told_line}
-use Rattle.json_schema.specs.Verdicts.{GivesWithin}
+use Rattle.json_schema.specs.Verdicts.{judged, GivesWithin}
 use Rattle.json_schema.specs.declared.lines.Check.{Check}
 use Rattle.json_schema.specs.declared.lines.Outcome.{Outcome}
 use Rattle.json_schema.specs.declared.lines.Outcome.TheVariants.{AllValid, SomeInvalid, SomeRefused}
@@ -107,7 +106,7 @@ outcome_of_all (f ∷ fs) = both (outcome_of f.verdict) (outcome_of_all fs)
 
 -- a line that was checked, with the verdict on it in this check
 abbrev pub Gives : Check → List ℕ → Checked → Type 0
-Gives k line f = (f.line ≡ line) × GivesWithin k.max_line (tree_of k.schema.now) line f.verdict
+Gives k line f = (f.line ≡ line) × GivesWithin k.max_line (judged k.judge) line f.verdict
 
 -- A run of this check: the input before and after, the output before and after, and standard error before and
 -- after.

@@ -49,3 +49,11 @@ told_dialect k = codes "json_schema: the schema: \"" ++ (shown k ++ (codes "\" i
 abbrev pub told_words : List (List ℕ) → List ℕ
 told_words [] = []
 told_words (k ∷ ks) = told_word k ++ told_words ks
+
+-- that a name at `format` is not known
+abbrev pub told_format : List ℕ → List ℕ
+told_format k = codes "json_schema: the schema: \"" ++ (shown k ++ (codes "\" is an unknown format" ++ line_feed ∷ []))
+
+abbrev pub told_formats : List (List ℕ) → List ℕ
+told_formats [] = []
+told_formats (k ∷ ks) = told_format k ++ told_formats ks

@@ -9,19 +9,18 @@ ghost use Rattle.json_schema.specs.Run.{is_line_shown, is_others, is_kept};
 
 use crate::refusal::{Unchecked, tell_line};
 use crate::report::{write_report, write_text};
-use crate::verdict::{Cause, Verdict, check_line};
+use crate::verdict::{Cause, Judge, Verdict, check_line};
 use std::alloc::Global;
 use std::io::{self, BufRead, ErrorKind, Write};
 use tinyjson_cli::Status;
 use tinyjson_lines::{LineRead, content, read_line_within, write_all};
-use tinyjson_schema::Schema;
 use tinyjson_schema_report::Finding;
 
 /// The schema that lines are checked against, and the file that they are from.
 #[derive(Clone, Copy)]
 pub struct Check<'a, 's> {
     /// The schema.
-    pub schema: &'a Schema<'s>,
+    pub judge: Judge<'a, 's>,
     /// The name of the file with the lines, if it has one, for messages.
     pub file: Option<&'a str>,
     /// How many bytes a line may have before its line feed, if there is a limit.
@@ -151,7 +150,7 @@ fn handle_line<W: Write, E: Write>(
         (W.contents output.old) (W.contents output.new)
         (E.contents errors.old) (E.contents errors.new) result }
 {
-    let verdict = check_line(alloc, check.schema, line)?;
+    let verdict = check_line(alloc, check.judge, line)?;
     show(alloc, check, number, line, &verdict, output)?;
     match verdict {
         Verdict::Valid => Ok(Outcome::AllValid),

@@ -27,12 +27,12 @@ use tinyjson_cli::{
     Text, VERSION, answer_files, answer_lines, argument_words, arguments_of, misused, read_named,
     report, writing_error,
 };
-use tinyjson_schema::{Schema, SchemaError, unknown_words};
+use tinyjson_schema::{Schema, SchemaError, unknown_formats, unknown_words};
 use tinyjson_schema_bundle::bundled;
 use tinyjson_schema_drafts::{Dialect, Draft, dialect_of, read_as, unknown_dialect};
 use tinyjson_schema_words::Refusal;
-use unknown::{tell_dialect, tell_words};
-use verdict::{DEPTH_LIMIT, Verdict, check_text};
+use unknown::{tell_dialect, tell_formats, tell_words};
+use verdict::{DEPTH_LIMIT, Judge, Verdict, check_text};
 
 /// `-l` and `--lines`.
 const LINES: Known<'static> = Known {
@@ -53,6 +53,13 @@ const REF: Known<'static> = Known {
     letter: b'r',
     name: "ref",
     takes: Some(Taken::Text),
+};
+
+/// `-f` and `--assert-format`.
+const FORMAT: Known<'static> = Known {
+    letter: b'f',
+    name: "assert-format",
+    takes: None,
 };
 
 /// `-t` and `--text`.
@@ -79,10 +86,10 @@ const INVALID: Known<'static> = Known {
 const PROGRAM: Program<'static> = Program {
     name: "json_schema",
     options: &[
-        LINES, TEXT, VALID, INVALID, MAX_LINE, DRAFT, REF, HELP, VERSION,
+        LINES, TEXT, VALID, INVALID, MAX_LINE, DRAFT, REF, FORMAT, HELP, VERSION,
     ],
     help: "\
-Usage: json_schema [-l] [-t | -v | -i] [-m N] [-d DRAFT] [-r FILE].. SCHEMA [FILE..]
+Usage: json_schema [-lf] [-t | -v | -i] [-m N] [-d N] [-r FILE].. SCHEMA [FILE..]
 
 Checks JSON texts against a JSON Schema of draft 4, 6, 7, 2019-09 or 2020-12.
 SCHEMA is the name of the schema's file. Of a value that is not valid one line
@@ -104,6 +111,9 @@ Options:
   -d, --draft N     read a schema that names no draft in draft N
   -r, --ref FILE    let references lead into this schema, too: by its $id or its
                     name in the folder of SCHEMA, or by a URI: -r URI=FILE
+  -f, --assert-format  assert \"format\" of strings: date, time, date-time,
+                    duration, email, hostname, ipv4, ipv6, uri, uri-reference,
+                    uuid, json-pointer, relative-json-pointer; others are told
   -h, --help        print this page
   -V, --version     print the version
 
@@ -148,6 +158,8 @@ fn run(rt: &HostRuntime) -> Result<Status, Status> {
 struct Request<'w, 'a> {
     /// Whether each line of an input is a text of its own.
     by_lines: bool,
+    /// Whether `format` is an assertion.
+    formats: bool,
     /// What is written of the values.
     shows: Shows,
     /// How many bytes a line may have before its line feed, if there is a limit.
@@ -162,20 +174,22 @@ struct Request<'w, 'a> {
     files: &'a [&'w str],
 }
 
-/// Parses the arguments: `[-l] [-t | -v | -i] [-m N] [-d DRAFT] [-r FILE].. SCHEMA [FILE..]`.
+/// Parses the arguments: `[-lf] [-t | -v | -i] [-m N] [-d N] [-r FILE].. SCHEMA [FILE..]`.
 fn requested<'w, 'a>(arguments: &'a Arguments<'w>) -> Option<Request<'w, 'a>>
     ensures { option_map (λ r. (
-      ((r.by_lines, r.shows), ((r.max_line, r.draft), map text_of r.documents.now)),
+      (((r.by_lines, r.formats), r.shows), ((r.max_line, r.draft), map text_of r.documents.now)),
       (r.schema.now, map (λ f. f.now) r.files.now),
     )) result ≡ asks (given_of arguments.now) }
 {
     let shows = requested_shows(arguments);
     let by_lines = arguments.has(b'l') || are_lines(shows);
+    let formats = arguments.has(b'f');
     let max_line = arguments.number(b'm');
     let draft = arguments.number(b'd');
     let (schema, files) = arguments.first()?;
     Some(Request {
         by_lines,
+        formats,
         shows,
         max_line,
         draft,
@@ -277,9 +291,16 @@ fn check_by(
     if let Err(error) = tell_words(alloc, &mut rt.stderr(), &unknown_words(tree, alloc)?) {
         return Err(writing_error(error));
     }
+    if request.formats {
+        tell_unknown_formats(rt, tree)?;
+    }
+    let judge = Judge {
+        schema: &schema,
+        formats: request.formats,
+    };
     let mut asked = Asked {
         alloc,
-        schema: &schema,
+        judge,
         max_line: request.max_line,
         shows: request.shows,
     };
@@ -287,6 +308,15 @@ fn check_by(
         return Ok(by_lines(rt, request.files, &mut asked));
     }
     Ok(by_texts(rt, request.files, &asked))
+}
+
+/// Tells of the formats of the schema that are not known.
+fn tell_unknown_formats(rt: &HostRuntime, tree: &JsonValue) -> Result<(), Failure> {
+    let alloc = rt.alloc();
+    match tell_formats(alloc, &mut rt.stderr(), &unknown_formats(tree, alloc)?) {
+        Ok(()) => Ok(()),
+        Err(error) => Err(writing_error(error)),
+    }
 }
 
 #[inline(never)]
@@ -302,7 +332,7 @@ fn by_texts(rt: &HostRuntime, files: &[&str], asked: &Asked<'_, '_>) -> Status {
     let mut status = Status::Done;
     for name in inputs {
         let text = AskedText {
-            schema: asked.schema,
+            judge: asked.judge,
             shows: asked.shows,
             file: if *name == "-" { None } else { Some(*name) },
             is_read: Cell::new(false),
@@ -347,7 +377,7 @@ fn read_schema(alloc: Global, tree: &JsonValue, is_older: bool) -> Result<Schema
 #[derive(Drop)]
 struct Asked<'a, 's> {
     alloc: Global,
-    schema: &'a Schema<'s>,
+    judge: Judge<'a, 's>,
     max_line: Option<usize>,
     shows: Shows,
 }
@@ -355,7 +385,7 @@ struct Asked<'a, 's> {
 /// The schema that the text of a file is checked against.
 #[derive(Drop)]
 struct AskedText<'a, 's, 'f> {
-    schema: &'a Schema<'s>,
+    judge: Judge<'a, 's>,
     shows: Shows,
     /// The name of the file, if it has one.
     file: Option<&'f str>,
@@ -371,7 +401,7 @@ impl Answer for AskedText<'_, '_, '_> {
         output: &mut W,
     ) -> Result<Status, Failure> {
         self.is_read.set(true);
-        let finding = match check_text(alloc, self.schema, text)? {
+        let finding = match check_text(alloc, self.judge, text)? {
             Verdict::Valid => return Ok(Status::Done),
             Verdict::Refused(cause) => return Err(text_failure(alloc, cause)),
             Verdict::Invalid(finding) => finding,
@@ -396,7 +426,7 @@ impl AnswerLines for Asked<'_, '_> {
         errors: &mut E,
     ) -> io::Result<(bool, Status)> {
         let check = Check {
-            schema: self.schema,
+            judge: self.judge,
             file,
             max_line: self.max_line,
             shows: self.shows,

@@ -2,18 +2,25 @@
 ghost use Rattle.std.specs.Prelude.{◌≡◌, IfOk};
 ghost use Rattle.std.specs.Str.{chars};
 ghost use Rattle.tinyjson.specs.View.{view};
-ghost use Rattle.tinyjson_schema.specs.Reading.{tree_of};
-ghost use Rattle.json_schema.specs.Verdicts.{ValueGives, TextGives, LineGives};
+ghost use Rattle.json_schema.specs.Verdicts.{judged, ValueGives, TextGives, LineGives};
 
 use std::alloc::{AllocError, Global};
 use std::str;
 use tinyjson::{JsonParseError, JsonValue};
 use tinyjson_lines::content;
-use tinyjson_schema::{CheckError, Limits, Schema};
-use tinyjson_schema_report::{Finding, find, limits_of};
+use tinyjson_schema::{CheckError, Checks, Limits, Schema};
+use tinyjson_schema_report::{Finding, find_by, limits_of};
 
 /// How many containers may be nested in a schema or a value: the check takes stack with the nesting.
 pub const DEPTH_LIMIT: usize = 100;
+
+/// The schema that texts are checked against.
+#[derive(Clone, Copy)]
+pub struct Judge<'a, 's> {
+    pub schema: &'a Schema<'s>,
+    /// Whether `format` is an assertion.
+    pub formats: bool,
+}
 
 /// The verdict on a text.
 #[derive(Drop)]
@@ -42,12 +49,12 @@ pub enum Cause {
 }
 
 /// Checks a text. The only error is out of memory.
-pub fn check_text(alloc: Global, schema: &Schema<'_>, text: &str) -> Result<Verdict, AllocError>
-    ensures { IfOk result (TextGives (tree_of schema.now) (chars text.now)) }
+pub fn check_text(alloc: Global, judge: Judge<'_, '_>, text: &str) -> Result<Verdict, AllocError>
+    ensures { IfOk result (TextGives (judged judge.entry) (chars text.now)) }
 {
     match JsonValue::from_str_with_depth_limit(alloc, text, DEPTH_LIMIT) {
         Ok(value) => {
-            let verdict = check_value(alloc, schema, &value, limits_of(text.len()));
+            let verdict = check_value(alloc, judge, &value, limits_of(text.len()));
             value.dismantle();
             verdict
         }
@@ -62,14 +69,18 @@ pub fn check_text(alloc: Global, schema: &Schema<'_>, text: &str) -> Result<Verd
 
 fn check_value(
     alloc: Global,
-    schema: &Schema<'_>,
+    judge: Judge<'_, '_>,
     value: &JsonValue,
     limits: Limits,
 ) -> Result<Verdict, AllocError>
     requires { limits.nested ≡ 200 }
-    ensures { IfOk result (ValueGives (tree_of schema.now) (view value.now)) }
+    ensures { IfOk result (ValueGives (judged judge.entry) (view value.now)) }
 {
-    match find(schema, value, limits, alloc) {
+    let checks = Checks {
+        limits,
+        formats: judge.formats,
+    };
+    match find_by(judge.schema, value, checks, alloc) {
         Ok(None) => Ok(Verdict::Valid),
         Ok(Some(finding)) => Ok(Verdict::Invalid(finding)),
         Err(CheckError::TooDeep) => Ok(Verdict::Refused(Cause::TooDeep)),
@@ -79,11 +90,11 @@ fn check_value(
 }
 
 /// Checks the text on a line, without its line feed.
-pub fn check_line(alloc: Global, schema: &Schema<'_>, line: &[u8]) -> Result<Verdict, AllocError>
-    ensures { IfOk result (LineGives (tree_of schema.now) line.now) }
+pub fn check_line(alloc: Global, judge: Judge<'_, '_>, line: &[u8]) -> Result<Verdict, AllocError>
+    ensures { IfOk result (LineGives (judged judge.entry) line.now) }
 {
     match str::from_utf8(content(line)) {
-        Ok(text) => check_text(alloc, schema, text),
+        Ok(text) => check_text(alloc, judge, text),
         Err(_) => Ok(Verdict::Refused(Cause::NotUtf8)),
     }
 }

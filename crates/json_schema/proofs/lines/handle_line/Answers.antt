@@ -1,9 +1,8 @@
 use Rattle.std.proofs.Common.{[], ap, subst, sym}
 use Rattle.std.proofs.KnownBytes.{Keeps-refl}
 use Rattle.tinyjson.specs.Written.{Written}
-use Rattle.tinyjson_schema.specs.Reading.{tree_of}
 use Rattle.json_schema.specs.Run.{outcome_of, shown_of, told_of}
-use Rattle.json_schema.specs.Verdicts.{GivesWithin}
+use Rattle.json_schema.specs.Verdicts.{judged, GivesWithin}
 use Rattle.json_schema.proofs.Handling.{within_checked, unhandled, line_shown, show_failed, line_refused}
 use Rattle.json_schema.proofs.lines.handle_line.Goals as goal
 
@@ -16,7 +15,7 @@ returns-in_err-show g c = λ w.
     let k = c.args.check in
     let line = c.args.line.now in
     let v = c.in_ok-verdict.verdict in
-    show_failed k c.args.number line _ _ v (within_checked k.max_line (tree_of k.schema.now) line v w c.in_ok-verdict.ensures) _
+    show_failed k c.args.number line _ _ v (within_checked k.max_line (judged k.judge) line v w c.in_ok-verdict.ensures) _
     c.from_residual-in_err-show.result c.from_residual-in_err-show.ensures.0 c.in_err-show.ensures
 
 pub returns-in-Valid : goal.returns-in-Valid
@@ -24,7 +23,7 @@ returns-in-Valid g c = λ w.
     let k = c.args.check in
     let line = c.args.line.now in
     let v = c.in_ok-verdict.verdict in
-    line_shown k c.args.number line _ _ v (within_checked k.max_line (tree_of k.schema.now) line v w c.in_ok-verdict.ensures) _ _
+    line_shown k c.args.number line _ _ v (within_checked k.max_line (judged k.judge) line v w c.in_ok-verdict.ensures) _ _
     (sym (ap outcome_of c.in-Valid.is)) (sym (ap (told_of k c.args.number) c.in-Valid.is)) c.in_ok-show.ensures
 
 pub returns-in-Invalid : goal.returns-in-Invalid
@@ -32,14 +31,14 @@ returns-in-Invalid g c = λ w.
     let k = c.args.check in
     let line = c.args.line.now in
     let v = c.in_ok-verdict.verdict in
-    line_shown k c.args.number line _ _ v (within_checked k.max_line (tree_of k.schema.now) line v w c.in_ok-verdict.ensures) _ _
+    line_shown k c.args.number line _ _ v (within_checked k.max_line (judged k.judge) line v w c.in_ok-verdict.ensures) _ _
     (sym (ap outcome_of c.in-Invalid.is)) (sym (ap (told_of k c.args.number) c.in-Invalid.is)) c.in_ok-show.ensures
 
 pub returns : goal.returns
 returns g c = λ w.
     let k = c.args.check in
     let line = c.args.line.now in
-    let s = tree_of k.schema.now in
+    let s = judged k.judge in
     let v = c.in_ok-verdict.verdict in
     line_refused k c.args.number line _ _ c.in-Refused.cause
     (subst (GivesWithin k.max_line s line) c.in-Refused.is (within_checked k.max_line s line v w c.in_ok-verdict.ensures)) _ _ _
