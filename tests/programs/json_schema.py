@@ -102,6 +102,9 @@ KEYWORDS = [
     ('{"pattern":"^(?:[+-]?\\\\d+|0x[\\\\dA-Fa-f]+)$"}', ['"-12"', '"0xFf"', '"007"'], [('"0x"', "", "/pattern"), ('"12a"', "", "/pattern"), ('"\\u0663"', "", "/pattern")]),
     ('{"pattern":"^[\\\\u4e2d-\\\\u6587\\\\t]+$"}', ['"中文"', '"中\\t"'], [('"中 文"', "", "/pattern"), ('"u4e2d"', "", "/pattern")]),
     ('{"pattern":"^\\\\w\\\\W\\\\s\\\\/\\\\x41$"}', ['"_!\\u00a0/A"', '"9é\\t/A"'], [('"é!\\u00a0/A"', "", "/pattern"), ('"__\\u00a0/A"', "", "/pattern")]),
+    ('{"pattern":"^([\\\\p{L}\\\\p{Z}\\\\p{N}_.:/=+\\\\-@]*)$"}', ['"Ökotopia 9"', '"a_b:c/@"', '""'], [('"a;b"', "", "/pattern"), ('"a\\n"', "", "/pattern")]),
+    ('{"pattern":"^\\\\P{C}*$"}', ['"a b"', '"\\u00e9\\u2028"'], [('"a\\tb"', "", "/pattern"), ('"\\u00ad"', "", "/pattern")]),
+    ('{"patternProperties":{"^\\\\p{Uppercase_Letter}":{"type":"null"}}}', ['{"Éa":null,"éa":1}'], [('{"Éa":1}', "/Éa", "/patternProperties/^\\p{Uppercase_Letter}/type")]),
     ('{"items":{"type":"string","pattern":"é"}}', ['["café","é"]', "[]"], [('["café","cafe\\u0301"]', "/1", "/items/pattern"), ("[1]", "/0", "/items/type")]),
     # 6.4.1 and 6.4.2
     ('{"maxItems":2}', ["[1]", "[1,2]", "[]", '"foobar"', '{"a":1,"b":2,"c":3}'], [("[1,2,3]", "", "/maxItems")]),
@@ -389,7 +392,7 @@ REFUSED = [
     ("5", ""), ("null", ""), ("[]", ""), ('"x"', ""),
     # Patterns outside of the dialect of Core, 6.4, or that are none; also as keys.
     ('{"pattern":5}', "/pattern"), ('{"pattern":["a"]}', "/pattern"), ('{"pattern":"a(?=b)"}', "/pattern"), ('{"pattern":"(?<!a)b"}', "/pattern"), ('{"pattern":"(?<n>a)"}', "/pattern"),
-    ('{"pattern":"(a)\\\\1"}', "/pattern"), ('{"pattern":"\\\\ba"}', "/pattern"), ('{"pattern":"\\\\p{L}"}', "/pattern"), ('{"pattern":"a("}', "/pattern"), ('{"pattern":"a)"}', "/pattern"),
+    ('{"pattern":"(a)\\\\1"}', "/pattern"), ('{"pattern":"\\\\ba"}', "/pattern"), ('{"pattern":"\\\\p{Latin}"}', "/pattern"), ('{"pattern":"a("}', "/pattern"), ('{"pattern":"a)"}', "/pattern"),
     ('{"pattern":"[b-a]"}', "/pattern"), ('{"pattern":"[a"}', "/pattern"), ('{"pattern":"*a"}', "/pattern"), ('{"pattern":"a**"}', "/pattern"), ('{"pattern":"a{3,2}"}', "/pattern"),
     ('{"pattern":"\\\\"}', "/pattern"), ('{"pattern":"^\\\\S(|(.|\\\\n)*\\\\S)\\\\Z"}', "/pattern"), ('{"properties":{"a":{"pattern":"(?!x)"}}}', "/properties/a/pattern"),
     ('{"patternProperties":[]}', "/patternProperties"), ('{"patternProperties":{"a":5}}', "/patternProperties/a"), ('{"patternProperties":{"a":{"type":"any"}}}', "/patternProperties/a/type"),
@@ -1034,7 +1037,7 @@ REASONS = [
       for pattern, words, place in (
           ("^(?=a)", "a look-ahead", 1), ("é(?!a)", "a look-ahead", 1), ("(?<=a)b", "a look-behind", 0), ("b(?<!a)b", "a look-behind", 1),
           ("(?<year>a)", "a named group", 0), ("(?P<year>a)", "a named group", 0), ("(?i)a", "a flag", 0), ("a(?-i:b)", "a flag", 1), ("(?>a)", "an unknown group", 0),
-          ("\\Aa", "\\A", 0), ("a\\Z", "\\Z", 1), ("\\ba", "a word boundary", 0), ("a\\B", "a word boundary", 1), ("\\p{L}", "a property of characters", 0), ("\\P{L}", "a property of characters", 0),
+          ("\\Aa", "\\A", 0), ("a\\Z", "\\Z", 1), ("\\ba", "a word boundary", 0), ("a\\B", "a word boundary", 1), ("\\p{Latin}", "a property of characters", 0), ("\\P{sc=Latn}", "a property of characters", 0),
           ("(a)\\1", "a back-reference", 3), ("(a)\\9", "a back-reference", 3), ("\\k<a>", "a back-reference", 0), ("\\y", "an unknown escape", 0), ("\\08", "an unknown escape", 0),
           ("a(", "the end of the text in a group", 2), ("a^", "a ^ inside", 1), ("𝄞$b", "a $ inside", 1), ("[b-a]", "a wrong class", 0), ("a)", "a ) without its (", 1), ("*a", "a wrong sign", 0),
           ("(?:(?=a))", "a look-ahead", 3), ("[(?=]\\((?=a)", "a look-ahead", 7),

@@ -1,2 +1,3 @@
 pub mod Runs
 pub mod Categories
+pub mod Names

@@ -9,8 +9,10 @@
 ghost use Rattle.std.specs.Prelude.{◌≡◌, Some, None, codes};
 ghost use Rattle.general_category.specs.Categories.{named, is_in, general_category};
 ghost use Rattle.general_category.specs.Categories.{category_number, numbered};
+ghost use Rattle.general_category.specs.Names.{value_named};
 ghost use Rattle.general_category.specs.Runs.{run_category, IsPartition};
 
+mod names;
 mod table;
 
 use table::RUNS;
@@ -51,6 +53,19 @@ impl Category {
             }),
             None => None,
         }
+    }
+
+    /// The category or group with this name among the values of `General_Category` in ECMA-262
+    /// (22.2.1), as `Lu`, `Uppercase_Letter` or `Letter`. `None` if there is no such name.
+    ///
+    /// ```
+    /// let digit = Category::value_named(&['d', 'i', 'g', 'i', 't']);
+    /// assert!(rt; digit.is_some_and(|k| k.contains('7') && !k.contains('x')));
+    /// ```
+    pub fn value_named(name: &[char]) -> Option<Category>
+        ensures { result ≡ value_named name.now }
+    {
+        names::value_named(name)
     }
 
     /// Whether the character is in the category, or in one of the group.

@@ -7,7 +7,8 @@ use Rattle.std.proofs.lemmas.Bool.{cond-true, cond-false, eqb-true, and_parts, n
 use Rattle.std.specs.Prelude.{option_and_then}
 use Rattle.i_regexp.specs.declared.class.Item.{Item}
 use Rattle.i_regexp.specs.declared.letter.Letter.{Letter}
-use Rattle.i_regexp.specs.declared.letter.Letter.TheVariants.{Literal}
+use Rattle.i_regexp.specs.declared.letter.Letter.TheVariants.{Literal, Named}
+use Rattle.i_regexp.specs.declared.letter.Set.{Set}
 use Rattle.i_regexp.specs.Fronts.{token_front}
 use Rattle.i_regexp.specs.Grammar as regexp
 use Rattle.i_regexp.specs.Grammar.{Token, characters, opened, closed, bar, quantifier, one, CaretText, begins_with_caret}
@@ -15,16 +16,18 @@ use Rattle.i_regexp.specs.Levels.{IsFit}
 use Rattle.i_regexp.specs.PatternMachine.{IsFitMark}
 use Rattle.i_regexp.specs.Patterns as is
 use Rattle.i_regexp.specs.Patterns.{named_letter, hex_digit, byte_of, code_of, value_of, is_high, is_low, is_surrogate, scalar}
+use Rattle.i_regexp.specs.Patterns.{others, PropertyText}
 use Rattle.i_regexp.specs.Patterns.{pair_of, control_of, LetterText, begins_with_digit, follows, ends_class, LettersText}
 use Rattle.i_regexp.specs.Patterns.{class_items, Mark, start, end, token, dot, is_normal, Spells, begins_with_question, fits}
 use Rattle.i_regexp.specs.PatternFronts.{literal_front, byte_front, four_front, low_front, half_front, value_front, braced_front}
 use Rattle.i_regexp.specs.PatternFronts.{unit_front}
-use Rattle.i_regexp.specs.PatternFronts.{control_front, null_front, escape_front, letter_front, letters_step, letters_front}
+use Rattle.i_regexp.specs.PatternFronts.{control_front, null_front, property_front, escape_front, letter_front, letters_step, letters_front}
 use Rattle.i_regexp.specs.PatternFronts.{caret_front, class_of, class_from, class_front, silent, eager, repeat_front, letter_mark}
 use Rattle.i_regexp.specs.PatternFronts.{token_mark}
 use Rattle.i_regexp.specs.PatternFronts.{sign_front, fitting, mark_front}
 use Rattle.i_regexp.proofs.Lexing.{cond_cases, then_cases, map_cases, none_some, some_same, not_equal, no_caret, front_sound}
 use Rattle.i_regexp.proofs.Lexing.{front_complete}
+use Rattle.i_regexp.proofs.PatternProperties.{property_found, property_read}
 use Rattle.i_regexp.proofs.Lexing.{spells_some}
 
 -- ---- letters
@@ -218,6 +221,22 @@ null_sound xs x ys e =
           }
     ]
 
+abbrev set_letter : (Set → Letter) → Set × List ℕ → Letter × List ℕ
+set_letter view p = (view p.0, p.1)
+
+property_sound : (l : ℕ) (view : Set → Letter) (xs : List ℕ) (x : Letter) (ys : List ℕ)
+    → ((cs : List ℕ) (s : Set) → PropertyText cs s → LetterText (92 ∷ l ∷ 123 ∷ (cs ++ 125 ∷ [])) (view s))
+    → option_map (set_letter view) (property_front xs) ≡ Some (x, ys) → EscapeFront (l ∷ xs) x ys
+property_sound l view xs x ys make e =
+    let m = map_cases (set_letter view) (property_front xs) (x, ys) e in
+    let f = property_found xs m.0.0 m.0.1 m.1 in
+    record {
+      cs = l ∷ 123 ∷ (f.cs ++ 125 ∷ []);
+      split = ap (λ us. l ∷ us) f.split ∙ ap (λ p. l ∷ 123 ∷ ((f.cs ++ 125 ∷ []) ++ p.1)) m.2;
+      text = subst (LetterText (92 ∷ l ∷ 123 ∷ (f.cs ++ 125 ∷ []))) (ap (λ p. p.0) m.2) (make f.cs m.0.0 f.text);
+      after = refl;
+    }
+
 escape_sound : (xs : List ℕ) (x : Letter) (ys : List ℕ) → escape_front xs ≡ Some (x, ys) → EscapeFront xs x ys
 escape_sound [] x ys e = none_some e
 escape_sound (l ∷ cs) x ys e =
@@ -229,14 +248,22 @@ escape_sound (l ∷ cs) x ys e =
           | inl a ↦ subst (λ k. EscapeFront (k ∷ cs) x ys) (sym (eqb-true l 99 a.0)) (control_sound cs x ys a.1)
           | inr o ↦ elim (cond_cases (l == 48) _ _ (x, ys) o.1) [
             | inl a ↦ subst (λ k. EscapeFront (k ∷ cs) x ys) (sym (eqb-true l 48 a.0)) (null_sound cs x ys a.1)
-            | inr z ↦
-                let m = map_cases (λ y. let p : Letter × List ℕ = (y, cs) in p) (named_letter l) (x, ys) z.1 in
-                record {
-                  cs = l ∷ [];
-                  split = ap (λ p. l ∷ p.1) m.2;
-                  text = subst (LetterText (92 ∷ l ∷ [])) (ap (λ p. p.0) m.2) (is.named l m.0 m.1);
-                  after = ap (λ b. not (b && begins_with_digit ys)) z.0;
-                }
+            | inr z ↦ elim (cond_cases (l == 112) _ _ (x, ys) z.1) [
+              | inl a ↦ subst (λ k. EscapeFront (k ∷ cs) x ys) (sym (eqb-true l 112 a.0)) (property_sound 112 Named cs x ys is.property a.1)
+              | inr p ↦ elim (cond_cases (l == 80) _ _ (x, ys) p.1) [
+                | inl a ↦
+                    subst (λ k. EscapeFront (k ∷ cs) x ys) (sym (eqb-true l 80 a.0))
+                    (property_sound 80 (λ s. Named (others s)) cs x ys is.no_property a.1)
+                | inr q ↦
+                    let m = map_cases (λ y. let p : Letter × List ℕ = (y, cs) in p) (named_letter l) (x, ys) q.1 in
+                    record {
+                      cs = l ∷ [];
+                      split = ap (λ p. l ∷ p.1) m.2;
+                      text = subst (LetterText (92 ∷ l ∷ [])) (ap (λ p. p.0) m.2) (is.named l m.0 m.1);
+                      after = ap (λ b. not (b && begins_with_digit ys)) z.0;
+                    }
+              ]
+            ]
           ]
         ]
       ]
@@ -348,7 +375,9 @@ letter_complete cs x (is.named c y h) ys f =
     cond-false (c == 120) _ _ (named_not c 120 y refl h)
     ∙ (cond-false (c == 117) _ _ (named_not c 117 y refl h)
     ∙ (cond-false (c == 99) _ _ (named_not c 99 y refl h)
-    ∙ (cond-false (c == 48) _ _ (named_not c 48 y refl h) ∙ ap (option_map (λ z. let p : Letter × List ℕ = (z, ys) in p)) h)))
+    ∙ (cond-false (c == 48) _ _ (named_not c 48 y refl h)
+    ∙ (cond-false (c == 112) _ _ (named_not c 112 y refl h)
+    ∙ (cond-false (c == 80) _ _ (named_not c 80 y refl h) ∙ ap (option_map (λ z. let p : Letter × List ℕ = (z, ys) in p)) h)))))
 letter_complete cs x is.null ys f = cond-false (begins_with_digit ys) _ _ (not-true (begins_with_digit ys) f)
 letter_complete cs x (is.control c n h) ys f = ap (literal_front ys) h
 letter_complete cs x (is.byte a b n h) ys f = ap (literal_front ys) h
@@ -365,6 +394,8 @@ letter_complete cs x (is.braced d ds m n h k) ys f =
     ∙ (ap (option_and_then (λ p. literal_front p.1 (scalar p.0)))
     (cond-false (d == 125) _ _ (no_brace d t.0 t.1) ∙ value_complete (d ∷ ds) 0 m ys h (scalar_parts m n k).1)
     ∙ ap (literal_front ys) k)
+letter_complete cs x (is.property ns s t) ys f = ap (option_map (set_letter Named)) (property_read ns s ys t)
+letter_complete cs x (is.no_property ns s t) ys f = ap (option_map (set_letter (λ z. Named (others z)))) (property_read ns s ys t)
 
 letter_some : (cs : List ℕ) (x : Letter) → LetterText cs x → 0 < length cs
 letter_some cs x (is.plain c h) = omega arith
@@ -375,6 +406,8 @@ letter_some cs x (is.byte a b n h) = omega arith
 letter_some cs x (is.unit a b c d m n h k) = omega arith
 letter_some cs x (is.pair a b c d e f g h k m n i j l) = omega arith
 letter_some cs x (is.braced d ds m n h k) = omega arith
+letter_some cs x (is.property ns s t) = omega arith
+letter_some cs x (is.no_property ns s t) = omega arith
 
 pub letter_shorter : (xs : List ℕ) (x : Letter) (ys : List ℕ) → letter_front xs ≡ Some (x, ys) → length ys < length xs
 letter_shorter xs x ys e =
@@ -421,6 +454,8 @@ closing cs x (is.byte a b n h) e = absurd (true≢false (sym e))
 closing cs x (is.unit a b c d m n h k) e = absurd (true≢false (sym e))
 closing cs x (is.pair a b c d f g h i k m n j l o) e = absurd (true≢false (sym e))
 closing cs x (is.braced d ds m n h k) e = absurd (true≢false (sym e))
+closing cs x (is.property ns s t) e = absurd (true≢false (sym e))
+closing cs x (is.no_property ns s t) e = absurd (true≢false (sym e))
 
 -- what follows a letter of a class may be its end, which is no digit
 follows_closed : (cs ds ys : List ℕ) → follows cs (ds ++ 93 ∷ ys) ≡ follows cs ds

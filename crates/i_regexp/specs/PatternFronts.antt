@@ -1,23 +1,27 @@
 -- The first part of a pattern's text, and the text after it; for private contracts.
 use Rattle.std.specs.Prelude.{◌≡◌, ℕ, zero, suc, ◌+◌, ◌*◌, Bool, true, false, ◌&&◌, ◌==◌, nat_le, cond, List, [], ◌∷◌, ◌++◌, length, Option}
 use Rattle.std.specs.Prelude.{Some, None}
-use Rattle.std.specs.Prelude.{option_map, option_and_then, Result, Ok, Err}
+use Rattle.std.specs.Prelude.{option_map, option_and_then, Result, Ok, Err, codes}
+use Rattle.std.specs.Option.{option_map_or}
 use Rattle.std.specs.Borrow.{Bor}
 use Rattle.std.specs.declared.alloc.Global.{Global}
 use Rattle.std.specs.declared.vec.Vec.{Vec}
 use Rattle.i_regexp.specs.declared.error.IRegexpErrorKind.{IRegexpErrorKind}
 use Rattle.i_regexp.specs.declared.error.IRegexpErrorKind.TheVariants as kind
 use Rattle.i_regexp.specs.Characters.{left_parenthesis, right_parenthesis, vertical_bar, question_mark, full_stop, left_bracket, circumflex}
-use Rattle.i_regexp.specs.Characters.{reverse_solidus, left_brace, right_brace, digit_zero}
+use Rattle.i_regexp.specs.Characters.{reverse_solidus, left_brace, right_brace, digit_zero, letter_p, capital_p}
+use Rattle.general_category.specs.Names.{value_named}
 use Rattle.i_regexp.specs.declared.class.Item.{Item}
 use Rattle.i_regexp.specs.declared.letter.Letter.{Letter}
-use Rattle.i_regexp.specs.declared.letter.Letter.TheVariants.{Plain, Literal}
+use Rattle.i_regexp.specs.declared.letter.Letter.TheVariants.{Plain, Literal, Named}
+use Rattle.i_regexp.specs.declared.letter.Set.{Set}
+use Rattle.i_regexp.specs.declared.letter.Set.TheVariants as set
 use Rattle.i_regexp.specs.declared.mark.Mark.TheVariants as code
 use Rattle.i_regexp.specs.declared.mark.Mark.{Mark as CodeMark}
 use Rattle.i_regexp.specs.Fronts.{token_of, token_front}
 use Rattle.i_regexp.specs.Grammar.{Token, characters, opened, closed, bar, quantifier, one}
 use Rattle.i_regexp.specs.Patterns.{dollar_sign, colon, letter_c, letter_x, letter_u, letter_items, named_letter, hex_digit, byte_of}
-use Rattle.i_regexp.specs.Patterns.{code_of, is_high, scalar, pair_of, control_of, begins_with_digit}
+use Rattle.i_regexp.specs.Patterns.{code_of, is_high, scalar, pair_of, control_of, begins_with_digit, others}
 use Rattle.i_regexp.specs.Patterns.{ends_class, is_dash, class_items, Mark, start, end, token, dot, is_normal, fits}
 
 -- the view of the code's mark
@@ -87,12 +91,53 @@ control_front (c ∷ cs) = literal_front cs (control_of c)
 abbrev pub null_front : List ℕ → Option (Letter × List ℕ)
 null_front cs = cond (begins_with_digit cs) None (Some (Literal 0, cs))
 
+-- the text up to a brace, and the text after the brace
+abbrev pub name_front : List ℕ → Option (List ℕ × List ℕ)
+name_front [] = None
+name_front (c ∷ cs) = cond (c == right_brace) (Some ([], cs)) (option_map (λ p. (c ∷ p.0, p.1)) (name_front cs))
+
+-- the rest of a text that begins with this one
+abbrev pub behind : List ℕ → List ℕ → Option (List ℕ)
+behind [] cs = Some cs
+behind (d ∷ ds) [] = None
+behind (d ∷ ds) (c ∷ cs) = cond (c == d) (behind ds cs) None
+
+-- the rest is empty
+abbrev pub is_whole : Option (List ℕ) → Bool
+is_whole None = false
+is_whole (Some []) = true
+is_whole (Some (c ∷ cs)) = false
+
+-- the text is this name
+abbrev pub is_name : List ℕ → List ℕ → Bool
+is_name ds cs = is_whole (behind ds cs)
+
+-- the name of a value of General_Category, without the property before it
+abbrev pub value_part : List ℕ → List ℕ
+value_part cs = option_map_or (λ v. v) (behind (codes "gc=") cs) (option_map_or (λ v. v) (behind (codes "General_Category=") cs) cs)
+
+-- the set of a property's name
+abbrev pub property_of : List ℕ → Option Set
+property_of cs =
+    cond (is_name (codes "Any") cs) (Some set.All)
+    (cond (is_name (codes "ASCII") cs) (Some set.Ascii)
+    (cond (is_name (codes "Assigned") cs) (option_map (λ k. set.NotIn k) (value_named (codes "Cn")))
+    (option_map (λ k. set.In k) (value_named (value_part cs)))))
+
+-- a property, after its letter
+abbrev pub property_front : List ℕ → Option (Set × List ℕ)
+property_front [] = None
+property_front (c ∷ cs) =
+    cond (c == left_brace) (option_and_then (λ p. option_map (λ x. (x, p.1)) (property_of p.0)) (name_front cs)) None
+
 -- the letter after a backslash
 abbrev pub escape_front : List ℕ → Option (Letter × List ℕ)
 escape_front [] = None
 escape_front (l ∷ cs) =
     cond (l == letter_x) (byte_front cs) (cond (l == letter_u) (unit_front cs) (cond (l == letter_c) (control_front cs)
-    (cond (l == digit_zero) (null_front cs) (option_map (λ x. (x, cs)) (named_letter l)))))
+    (cond (l == digit_zero) (null_front cs) (cond (l == letter_p) (option_map (λ p. (Named p.0, p.1)) (property_front cs))
+    (cond (l == capital_p) (option_map (λ p. (Named (others p.0), p.1)) (property_front cs))
+    (option_map (λ x. (x, cs)) (named_letter l)))))))
 
 abbrev pub letter_front : List ℕ → Option (Letter × List ℕ)
 letter_front [] = None
@@ -185,6 +230,16 @@ mark_front cs = option_and_then fitting (sign_front cs)
 abbrev pub CodeFront : Option (ℕ × List ℕ) → Option (ℕ × Bor (List ℕ)) → Type 0
 CodeFront o None = o ≡ None
 CodeFront o (Some p) = o ≡ Some (p.0, p.1.now)
+
+-- the name at the front of a text, if there is one
+abbrev pub NameFront : Option (List ℕ × List ℕ) → Option (Bor (List ℕ) × Bor (List ℕ)) → Type 0
+NameFront o None = o ≡ None
+NameFront o (Some p) = o ≡ Some (p.0.now, p.1.now)
+
+-- the rest of a text, if there is one
+abbrev pub RestOf : Option (List ℕ) → Option (Bor (List ℕ)) → Type 0
+RestOf o None = o ≡ None
+RestOf o (Some r) = o ≡ Some r.now
 
 -- the items of a class, if these letters have items
 abbrev pub ReadsItems : List Letter → Result (Vec Item Global) IRegexpErrorKind → Type 0

@@ -1,12 +1,14 @@
 -- The grammar of the patterns of JSON Schema (Core 2020-12, 6.4, with the escapes of ECMA-262,
 -- 22.2.1): which text is which pattern.
 use Rattle.std.specs.Prelude.{◌≡◌, ℕ, ◌+◌, ◌-◌, ◌*◌, Bool, true, false, not, ◌&&◌, ◌||◌, ◌==◌, nat_le, cond, List, [], ◌∷◌, ◌++◌, ◌⊎◌}
-use Rattle.std.specs.Prelude.{Option, Some, None, option_map, option_and_then, map, ◌≤◌}
+use Rattle.std.specs.Prelude.{Option, Some, None, option_map, option_and_then, map, ◌≤◌, codes}
+use Rattle.general_category.specs.Names.{value_named}
+use Rattle.general_category.specs.declared.Category.{Category}
 use Rattle.i_regexp.specs.Characters.{left_parenthesis, right_parenthesis, vertical_bar, asterisk, plus_sign, question_mark, left_brace}
 use Rattle.i_regexp.specs.Characters.{right_brace, full_stop, left_bracket, circumflex, hyphen, right_bracket, reverse_solidus, line_feed}
-use Rattle.i_regexp.specs.Characters.{carriage_return, letter_n, letter_r, letter_t, horizontal_tab, digit_zero}
+use Rattle.i_regexp.specs.Characters.{carriage_return, letter_n, letter_r, letter_t, letter_p, capital_p, horizontal_tab, digit_zero}
 use Rattle.i_regexp.specs.declared.class.Item.{Item}
-use Rattle.i_regexp.specs.declared.class.Item.TheVariants.{Range}
+use Rattle.i_regexp.specs.declared.class.Item.TheVariants.{Range, In, NotIn}
 use Rattle.i_regexp.specs.declared.letter.Letter.{Letter}
 use Rattle.i_regexp.specs.declared.letter.Letter.TheVariants.{Plain, Literal, Named}
 use Rattle.i_regexp.specs.declared.letter.Set.{Set}
@@ -37,8 +39,8 @@ letter_x = 120
 abbrev pub letter_u : ℕ
 letter_u = 117
 
--- the characters of a named set: digits, word characters, white space with the ends of lines, or
--- all others
+-- the characters of a named set: digits, word characters, white space with the ends of lines, all
+-- characters, those of ASCII, those of a category, or all others
 abbrev pub set_items : Set → List Item
 set_items set.Digits = Range 48 57 ∷ []
 set_items set.NoDigits = Range 0 47 ∷ Range 58 1114111 ∷ []
@@ -50,6 +52,27 @@ set_items set.Spaces =
 set_items set.NoSpaces =
     Range 0 8 ∷ Range 14 31 ∷ Range 33 159 ∷ Range 161 5759 ∷ Range 5761 8191 ∷ Range 8203 8231 ∷ Range 8234 8238 ∷ Range 8240 8286
     ∷ Range 8288 12287 ∷ Range 12289 65278 ∷ Range 65280 1114111 ∷ []
+set_items set.All = Range 0 1114111 ∷ []
+set_items set.Nothing = []
+set_items set.Ascii = Range 0 127 ∷ []
+set_items set.NoAscii = Range 128 1114111 ∷ []
+set_items (set.In k) = In k ∷ []
+set_items (set.NotIn k) = NotIn k ∷ []
+
+-- all other characters
+abbrev pub others : Set → Set
+others set.Digits = set.NoDigits
+others set.NoDigits = set.Digits
+others set.Words = set.NoWords
+others set.NoWords = set.Words
+others set.Spaces = set.NoSpaces
+others set.NoSpaces = set.Spaces
+others set.All = set.Nothing
+others set.Nothing = set.All
+others set.Ascii = set.NoAscii
+others set.NoAscii = set.Ascii
+others (set.In k) = set.NotIn k
+others (set.NotIn k) = set.In k
 
 -- the characters of a letter of a pattern
 abbrev pub letter_items : Letter → List Item
@@ -113,6 +136,18 @@ pair_of m n = cond (is_high m && is_low n) (Some (1024 * (m - 55296) + (n - 5632
 abbrev pub control_of : ℕ → Option ℕ
 control_of c = cond (nat_le 65 c && nat_le c 90) (Some (c - 64)) (cond (nat_le 97 c && nat_le c 122) (Some (c - 96)) None)
 
+-- UnicodePropertyValueExpression: a value of General_Category, alone or after the property's name,
+-- or the name of a property that is true or false
+pub data PropertyText : List ℕ → Set → Type 0 where
+  value : (cs : List ℕ) (k : Category) → value_named cs ≡ Some k → PropertyText cs (set.In k)
+  general_category : (cs : List ℕ) (k : Category) → value_named cs ≡ Some k
+      → PropertyText (codes "General_Category=" ++ cs) (set.In k)
+  gc : (cs : List ℕ) (k : Category) → value_named cs ≡ Some k → PropertyText (codes "gc=" ++ cs) (set.In k)
+  any : PropertyText (codes "Any") set.All
+  ascii : PropertyText (codes "ASCII") set.Ascii
+  assigned : (unassigned : Category) → value_named (codes "Cn") ≡ Some unassigned
+      → PropertyText (codes "Assigned") (set.NotIn unassigned)
+
 -- the text is this letter: a plain character, or an escape
 pub data LetterText : List ℕ → Letter → Type 0 where
   plain : (c : ℕ) → (c == reverse_solidus) ≡ false → LetterText (c ∷ []) (Plain c)
@@ -126,6 +161,10 @@ pub data LetterText : List ℕ → Letter → Type 0 where
       → LetterText (reverse_solidus ∷ letter_u ∷ a ∷ b ∷ c ∷ d ∷ reverse_solidus ∷ letter_u ∷ e ∷ f ∷ g ∷ h ∷ []) (Literal n)
   braced : (d : ℕ) (ds : List ℕ) (m n : ℕ) → value_of 0 (d ∷ ds) ≡ Some m → scalar m ≡ Some n
       → LetterText (reverse_solidus ∷ letter_u ∷ left_brace ∷ d ∷ (ds ++ right_brace ∷ [])) (Literal n)
+  property : (cs : List ℕ) (x : Set) → PropertyText cs x
+      → LetterText (reverse_solidus ∷ letter_p ∷ left_brace ∷ (cs ++ right_brace ∷ [])) (Named x)
+  no_property : (cs : List ℕ) (x : Set) → PropertyText cs x
+      → LetterText (reverse_solidus ∷ capital_p ∷ left_brace ∷ (cs ++ right_brace ∷ [])) (Named (others x))
 
 abbrev pub begins_with_digit : List ℕ → Bool
 begins_with_digit [] = false

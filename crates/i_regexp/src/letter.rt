@@ -4,15 +4,18 @@ ghost use Rattle.i_regexp.specs.Fronts.{Fronts};
 ghost use Rattle.i_regexp.specs.Patterns.{set_items, letter_items, is_sign, named_letter, hex_digit};
 ghost use Rattle.i_regexp.specs.Patterns.{byte_of, code_of, ends_class, is_dash, character_of};
 ghost use Rattle.i_regexp.specs.Patterns.{scalar, is_high, is_low, pair_of, control_of};
-ghost use Rattle.i_regexp.specs.Patterns.{begins_with_digit};
+ghost use Rattle.i_regexp.specs.Patterns.{begins_with_digit, others};
 ghost use Rattle.i_regexp.specs.PatternFronts.{literal_front, byte_front, four_front, low_front};
 ghost use Rattle.i_regexp.specs.PatternFronts.{value_front, braced_front, code_front, half_front};
 ghost use Rattle.i_regexp.specs.PatternFronts.{unit_front, control_front, null_front, escape_front};
-ghost use Rattle.i_regexp.specs.PatternFronts.{letter_front, CodeFront};
+ghost use Rattle.i_regexp.specs.PatternFronts.{letter_front, CodeFront, name_front, NameFront};
+ghost use Rattle.i_regexp.specs.PatternFronts.{behind, RestOf, is_name, value_part, property_of};
+ghost use Rattle.i_regexp.specs.PatternFronts.{property_front};
 
 use crate::class::Item;
 use crate::error::IRegexpErrorKind;
 use crate::token::is_digit;
+use general_category::Category;
 use std::alloc::AllocError;
 
 /// A named set of characters (ECMA-262, 22.2.2.9).
@@ -24,6 +27,12 @@ pub(crate) enum Set {
     NoWords,
     Spaces,
     NoSpaces,
+    All,
+    Nothing,
+    Ascii,
+    NoAscii,
+    In(Category),
+    NotIn(Category),
 }
 
 impl Set {
@@ -38,6 +47,32 @@ impl Set {
             Set::NoWords => items.extend_from_slice(&NO_WORDS),
             Set::Spaces => items.extend_from_slice(&SPACES),
             Set::NoSpaces => items.extend_from_slice(&NO_SPACES),
+            Set::All => items.extend_from_slice(&ALL),
+            Set::Nothing => Ok(()),
+            Set::Ascii => items.extend_from_slice(&ASCII),
+            Set::NoAscii => items.extend_from_slice(&NO_ASCII),
+            Set::In(category) => Ok(items.push(Item::In(category))?),
+            Set::NotIn(category) => Ok(items.push(Item::NotIn(category))?),
+        }
+    }
+
+    /// All other characters.
+    fn others(self) -> Set
+        ensures { result ≡ others self }
+    {
+        match self {
+            Set::Digits => Set::NoDigits,
+            Set::NoDigits => Set::Digits,
+            Set::Words => Set::NoWords,
+            Set::NoWords => Set::Words,
+            Set::Spaces => Set::NoSpaces,
+            Set::NoSpaces => Set::Spaces,
+            Set::All => Set::Nothing,
+            Set::Nothing => Set::All,
+            Set::Ascii => Set::NoAscii,
+            Set::NoAscii => Set::Ascii,
+            Set::In(category) => Set::NotIn(category),
+            Set::NotIn(category) => Set::In(category),
         }
     }
 }
@@ -87,6 +122,12 @@ const NO_SPACES: [Item; 11] = [
     Item::Range('\u{3001}', '\u{fefe}'),
     Item::Range('\u{ff00}', '\u{10ffff}'),
 ];
+
+const ALL: [Item; 1] = [Item::Range('\0', '\u{10ffff}')];
+
+const ASCII: [Item; 1] = [Item::Range('\0', '\u{7f}')];
+
+const NO_ASCII: [Item; 1] = [Item::Range('\u{80}', '\u{10ffff}')];
 
 /// A letter: a character, an escaped character, or a set.
 #[derive(Clone, Copy)]
@@ -399,6 +440,88 @@ fn null(text: &[char]) -> Result<(Letter, &[char]), IRegexpErrorKind>
     Ok((Letter::Literal('\0'), text))
 }
 
+/// The text up to a brace, and the text after the brace.
+fn name(text: &[char]) -> Option<(&[char], &[char])>
+    ensures { NameFront (name_front text.now) result }
+{
+    match text.iter().position(|c| *c == '}') {
+        Some(end) => Some((&text[..end], &text[end + 1..])),
+        None => None,
+    }
+}
+
+/// The rest of a text that begins with this one.
+fn behind<'t>(head: &[u8], text: &'t [char]) -> Option<&'t [char]>
+    ensures { RestOf (behind head.now text.now) result }
+{
+    let mut left = head;
+    let mut rest = text;
+    while let Some((wanted, others)) = left.split_first() {
+        let (first, after) = rest.split_first()?;
+        if *first as u32 != u32::from(*wanted) {
+            return None;
+        }
+        left = others;
+        rest = after;
+    }
+    Some(rest)
+}
+
+/// Whether the text is this name.
+fn is_name(name: &[u8], text: &[char]) -> bool
+    ensures { result ≡ is_name name.now text.now }
+{
+    match behind(name, text) {
+        Some(rest) => rest.is_empty(),
+        None => false,
+    }
+}
+
+/// The name of a value of `General_Category`, without the property before it.
+fn value_part(text: &[char]) -> &[char]
+    ensures { result.now ≡ value_part text.now }
+{
+    if let Some(value) = behind(b"gc=", text) {
+        return value;
+    }
+    match behind(b"General_Category=", text) {
+        Some(value) => value,
+        None => text,
+    }
+}
+
+/// The set of a property's name.
+fn property_of(text: &[char]) -> Option<Set>
+    ensures { result ≡ property_of text.now }
+{
+    if is_name(b"Any", text) {
+        return Some(Set::All);
+    }
+    if is_name(b"ASCII", text) {
+        return Some(Set::Ascii);
+    }
+    if is_name(b"Assigned", text) {
+        return Some(Set::NotIn(Category::value_named(&['C', 'n'])?));
+    }
+    Some(Set::In(Category::value_named(value_part(text))?))
+}
+
+/// The set of the property at the front, whose name is in braces.
+fn property(text: &[char]) -> Result<(Set, &[char]), IRegexpErrorKind>
+    ensures { Fronts ⊥ (λ x. x) (property_front text.now) result }
+{
+    let ['{', rest @ ..] = text else {
+        return Err(IRegexpErrorKind::Invalid);
+    };
+    let Some((name, after)) = name(rest) else {
+        return Err(IRegexpErrorKind::Invalid);
+    };
+    match property_of(name) {
+        Some(set) => Ok((set, after)),
+        None => Err(IRegexpErrorKind::Invalid),
+    }
+}
+
 /// The letter that follows a backslash.
 pub(crate) fn escape(text: &[char]) -> Result<(Letter, &[char]), IRegexpErrorKind>
     ensures { Fronts ⊥ (λ x. x) (escape_front text.now) result }
@@ -408,6 +531,14 @@ pub(crate) fn escape(text: &[char]) -> Result<(Letter, &[char]), IRegexpErrorKin
         ['u', rest @ ..] => unit(rest),
         ['c', rest @ ..] => control(rest),
         ['0', rest @ ..] => null(rest),
+        ['p', rest @ ..] => {
+            let (set, after) = property(rest)?;
+            Ok((Letter::Named(set), after))
+        }
+        ['P', rest @ ..] => {
+            let (set, after) = property(rest)?;
+            Ok((Letter::Named(set.others()), after))
+        }
         [first, rest @ ..] => match named(*first) {
             Some(letter) => Ok((letter, rest)),
             None => Err(IRegexpErrorKind::Invalid),

@@ -57,6 +57,8 @@ fn rows(rt: HostRuntime) -> Result<(), Fail> {
     for &(group, letter, members) in ROWS {
         for c in members.chars() {
             assert!(rt; is_in_alone(group, letter, c), "{c} {group}{letter}");
+            let same = Category::value_named(&[group, letter]);
+            assert!(rt; same.is_some_and(|k| k.contains(c)), "{c} {group}{letter}");
         }
     }
     Ok(())

@@ -86,5 +86,8 @@ fn names_of_categories(rt: HostRuntime) -> Result<(), Fail> {
 
     let letter = Category::named('L', None);
     assert!(rt; letter.is_some_and(|k| k.contains('é') && !k.contains('7')));
+
+    let digit = Category::value_named(&['d', 'i', 'g', 'i', 't']);
+    assert!(rt; digit.is_some_and(|k| k.contains('7') && !k.contains('x')));
     Ok(())
 }

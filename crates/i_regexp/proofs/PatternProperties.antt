@@ -1,0 +1,230 @@
+-- The names of properties in patterns' texts.
+use Rattle.std.proofs.Common.{◌≡◌, inl, inr, ℕ, Bool, true, false, not, ◌&&◌, ◌==◌, List, [], ◌∷◌, ◌++◌, codes, Option, Some, None}
+use Rattle.std.proofs.Common.{option_map, refl, sym, ap, ◌∙◌, subst, append_assoc, append-nil, true≢false, arith, ◌≢◌, ◌+◌, ◌<◌}
+use Rattle.std.proofs.Common.{All, length, get_or, take, drop, take-append-drop}
+use Rattle.std.proofs.lemmas.Bool.{cond-false, eqb-true, ne_eqb, and_parts, and_from, not-true}
+use Rattle.std.proofs.lemmas.List.{drop_more, get_or-take, length-take-le}
+use Rattle.std.proofs.lemmas.List.Elements.{All-head, All-tail, All-from_get_or}
+use Rattle.std.specs.Prelude.{option_and_then}
+use Rattle.std.specs.Option.{option_map_or}
+use Rattle.general_category.specs.declared.Category.{Category}
+use Rattle.general_category.specs.Names as names
+use Rattle.general_category.specs.Names.{values, value_in, value_named}
+use Rattle.i_regexp.specs.declared.letter.Set.{Set}
+use Rattle.i_regexp.specs.declared.letter.Set.TheVariants as set
+use Rattle.i_regexp.specs.Patterns as is
+use Rattle.i_regexp.specs.Patterns.{PropertyText}
+use Rattle.i_regexp.specs.PatternFronts.{name_front, behind, is_whole, is_name, value_part, property_of, property_front}
+use Rattle.i_regexp.proofs.Lexing.{cond_cases, then_cases, map_cases, none_some, some_same}
+
+-- ---- names
+
+abbrev braceless : List ℕ → Bool
+braceless [] = true
+braceless (c ∷ cs) = not (c == 125) && braceless cs
+
+name_sound : (xs ns ys : List ℕ) → name_front xs ≡ Some (ns, ys) → xs ≡ ns ++ 125 ∷ ys
+name_sound [] ns ys e = none_some e
+name_sound (c ∷ cs) ns ys e =
+    elim (cond_cases (c == 125) _ _ (ns, ys) e) [
+      | inl a ↦ ap (λ d. d ∷ cs) (eqb-true c 125 a.0) ∙ ap (λ p. p.0 ++ 125 ∷ p.1) (some_same a.1)
+      | inr b ↦
+          let m = map_cases (λ p. let q : List ℕ × List ℕ = (c ∷ p.0, p.1) in q) (name_front cs) (ns, ys) b.1 in
+          ap (λ us. c ∷ us) (name_sound cs m.0.0 m.0.1 m.1) ∙ ap (λ p. p.0 ++ 125 ∷ p.1) m.2
+    ]
+
+name_complete : (ns ys : List ℕ) → braceless ns ≡ true → name_front (ns ++ 125 ∷ ys) ≡ Some (ns, ys)
+name_complete [] ys e = refl
+name_complete (c ∷ ns) ys e =
+    let both = and_parts (not (c == 125)) (braceless ns) e in
+    cond-false (c == 125) _ _ (not-true (c == 125) both.0)
+    ∙ ap (option_map (λ p. let q : List ℕ × List ℕ = (c ∷ p.0, p.1) in q)) (name_complete ns ys both.1)
+
+-- the character does not end a name
+abbrev pub IsNoBrace : ℕ → Type 0
+IsNoBrace c = c ≢ 125
+
+braceless_all : (cs : List ℕ) → All IsNoBrace cs → braceless cs ≡ true
+braceless_all [] h = refl
+braceless_all (c ∷ cs) h =
+    and_from (not (c == 125)) (braceless cs) (ap not (ne_eqb c 125 (All-head IsNoBrace c cs h)))
+    (braceless_all cs (All-tail IsNoBrace c cs h))
+
+pub no_name : (cs : List ℕ) → All IsNoBrace cs → name_front cs ≡ None
+no_name [] h = refl
+no_name (c ∷ cs) h =
+    cond-false (c == 125) _ _ (ne_eqb c 125 (All-head IsNoBrace c cs h))
+    ∙ ap (option_map (λ p. let q : List ℕ × List ℕ = (c ∷ p.0, p.1) in q)) (no_name cs (All-tail IsNoBrace c cs h))
+
+around : (cs : List ℕ) (i : ℕ) → i < length cs → get_or cs i 0 ≡ 125 → cs ≡ take i cs ++ 125 ∷ drop (i + 1) cs
+around cs i inside here =
+    sym (take-append-drop i cs)
+    ∙ ap (λ l. take i cs ++ l) (drop_more cs i 0 inside ∙ ap (λ c. c ∷ drop (i + 1) cs) here)
+
+-- a name ends at the first brace
+pub name_at : (cs : List ℕ) (i : ℕ) → i < length cs → get_or cs i 0 ≡ 125 → ((k : ℕ) → k < i → get_or cs k 0 ≢ 125)
+    → name_front cs ≡ Some (take i cs, drop (i + 1) cs)
+name_at cs i inside here before =
+    ap name_front (around cs i inside here)
+    ∙ name_complete (take i cs) (drop (i + 1) cs) (braceless_all (take i cs) (All-from_get_or IsNoBrace (take i cs) 0
+    (λ k h. let below : k < i = omega (arith, length-take-le i cs (omega arith)) in
+    subst IsNoBrace (sym (get_or-take i cs k 0 below)) (before k below))))
+
+behind_sound : (ds cs es : List ℕ) → behind ds cs ≡ Some es → cs ≡ ds ++ es
+behind_sound [] cs es e = some_same e
+behind_sound (d ∷ ds) [] es e = none_some e
+behind_sound (d ∷ ds) (c ∷ cs) es e =
+    elim (cond_cases (c == d) _ _ es e) [
+      | inl a ↦ ap (λ x. x ∷ cs) (eqb-true c d a.0) ∙ ap (λ us. d ∷ us) (behind_sound ds cs es a.1)
+      | inr b ↦ none_some b.1
+    ]
+
+name_whole : (ds cs : List ℕ) → is_name ds cs ≡ true → cs ≡ ds
+name_whole ds cs h = by (behind ds cs) refl h
+  where
+    by : (o : Option (List ℕ)) → behind ds cs ≡ o → is_whole o ≡ true → cs ≡ ds
+    by None e f = absurd (true≢false (sym f))
+    by (Some []) e f = behind_sound ds cs [] e ∙ append-nil ds
+    by (Some (x ∷ xs)) e f = absurd (true≢false (sym f))
+
+-- ---- the names of the table
+
+abbrev all_names : (List ℕ → Bool) → List (List ℕ × (ℕ × ℕ)) → Bool
+all_names p [] = true
+all_names p (v ∷ vs) = p v.0 && all_names p vs
+
+same_name : (cs ds : List ℕ) → names.is_name cs ds ≡ true → cs ≡ ds
+same_name [] [] e = refl
+same_name [] (d ∷ ds) e = absurd (true≢false (sym e))
+same_name (c ∷ cs) [] e = absurd (true≢false (sym e))
+same_name (c ∷ cs) (d ∷ ds) e =
+    let both = and_parts (c == d) (names.is_name cs ds) e in
+    ap (λ x. x ∷ cs) (eqb-true c d both.0) ∙ ap (λ us. d ∷ us) (same_name cs ds both.1)
+
+-- what all names of a table have
+in_table : (p : List ℕ → Bool) (vs : List (List ℕ × (ℕ × ℕ))) (cs : List ℕ) (k : Category) → all_names p vs ≡ true
+    → value_in vs cs ≡ Some k → p cs ≡ true
+in_table p [] cs k a e = none_some e
+in_table p (v ∷ vs) cs k a e =
+    let both = and_parts (p v.0) (all_names p vs) a in
+    elim (cond_cases (names.is_name cs v.0) _ _ k e) [
+      | inl h ↦ ap p (same_name cs v.0 h.0) ∙ both.0
+      | inr h ↦ in_table p vs cs k both.1 h.1
+    ]
+
+abbrev is_none : Option (List ℕ) → Bool
+is_none None = true
+is_none (Some ds) = false
+
+none_of : (o : Option (List ℕ)) → is_none o ≡ true → o ≡ None
+none_of None e = refl
+none_of (Some ds) e = absurd (true≢false (sym e))
+
+record IsValue (cs : List ℕ) : Type 0 where
+  brace : braceless cs ≡ true
+  any : is_name (codes "Any") cs ≡ false
+  ascii : is_name (codes "ASCII") cs ≡ false
+  assigned : is_name (codes "Assigned") cs ≡ false
+  gc : behind (codes "gc=") cs ≡ None
+  general : behind (codes "General_Category=") cs ≡ None
+
+is_value : (cs : List ℕ) (k : Category) → value_named cs ≡ Some k → IsValue cs
+unfolding values
+is_value cs k h = record {
+  brace = in_table braceless values cs k refl h;
+  any = not-true _ (in_table (λ ds. not (is_name (codes "Any") ds)) values cs k refl h);
+  ascii = not-true _ (in_table (λ ds. not (is_name (codes "ASCII") ds)) values cs k refl h);
+  assigned = not-true _ (in_table (λ ds. not (is_name (codes "Assigned") ds)) values cs k refl h);
+  gc = none_of _ (in_table (λ ds. is_none (behind (codes "gc=") ds)) values cs k refl h);
+  general = none_of _ (in_table (λ ds. is_none (behind (codes "General_Category=") ds)) values cs k refl h);
+}
+
+-- ---- the sets of names
+
+value_sound : (cs : List ℕ) (k : Category) → value_named (value_part cs) ≡ Some k → PropertyText cs (set.In k)
+value_sound cs k h = by (behind (codes "gc=") cs) (behind (codes "General_Category=") cs) refl refl h
+  where
+    by : (o p : Option (List ℕ)) → behind (codes "gc=") cs ≡ o → behind (codes "General_Category=") cs ≡ p
+        → value_named (option_map_or (λ v. v) o (option_map_or (λ v. v) p cs)) ≡ Some k → PropertyText cs (set.In k)
+    by (Some v) p f g e = subst (λ ds. PropertyText ds (set.In k)) (sym (behind_sound (codes "gc=") cs v f)) (is.gc v k e)
+    by None (Some v) f g e =
+        subst (λ ds. PropertyText ds (set.In k)) (sym (behind_sound (codes "General_Category=") cs v g)) (is.general_category v k e)
+    by None None f g e = is.value cs k e
+
+whole_sound : (ds cs : List ℕ) (s x : Set) → is_name ds cs ≡ true → ◌≡◌ {A = Option Set} (Some s) (Some x) → PropertyText ds s
+    → PropertyText cs x
+whole_sound ds cs s x h e t =
+    subst (PropertyText cs) (some_same e) (subst (λ us. PropertyText us s) (sym (name_whole ds cs h)) t)
+
+property_sound : (cs : List ℕ) (x : Set) → property_of cs ≡ Some x → PropertyText cs x
+property_sound cs x e =
+    elim (cond_cases (is_name (codes "Any") cs) _ _ x e) [
+      | inl a ↦ whole_sound (codes "Any") cs set.All x a.0 a.1 is.any
+      | inr b ↦ elim (cond_cases (is_name (codes "ASCII") cs) _ _ x b.1) [
+        | inl a ↦ whole_sound (codes "ASCII") cs set.Ascii x a.0 a.1 is.ascii
+        | inr d ↦ elim (cond_cases (is_name (codes "Assigned") cs) _ _ x d.1) [
+          | inl a ↦
+              let m = map_cases (λ k. set.NotIn k) (value_named (codes "Cn")) x a.1 in
+              whole_sound (codes "Assigned") cs (set.NotIn m.0) x a.0 (ap (λ s. Some s) m.2) (is.assigned m.0 m.1)
+          | inr f ↦
+              let m = map_cases (λ k. set.In k) (value_named (value_part cs)) x f.1 in
+              subst (PropertyText cs) m.2 (value_sound cs m.0 m.1)
+        ]
+      ]
+    ]
+
+property_complete : (cs : List ℕ) (x : Set) → PropertyText cs x → property_of cs ≡ Some x
+property_complete cs x (is.value ds k h) =
+    let v = is_value ds k h in
+    cond-false (is_name (codes "Any") ds) _ _ v.any
+    ∙ (cond-false (is_name (codes "ASCII") ds) _ _ v.ascii
+    ∙ (cond-false (is_name (codes "Assigned") ds) _ _ v.assigned
+    ∙ (ap (λ o. option_map (λ j. set.In j) (value_named (option_map_or (λ u. u) o
+    (option_map_or (λ u. u) (behind (codes "General_Category=") ds) ds)))) v.gc
+    ∙ (ap (λ o. option_map (λ j. set.In j) (value_named (option_map_or (λ u. u) o ds))) v.general
+    ∙ ap (option_map (λ j. set.In j)) h))))
+property_complete cs x (is.general_category ds k h) = ap (option_map (λ j. set.In j)) h
+property_complete cs x (is.gc ds k h) = ap (option_map (λ j. set.In j)) h
+property_complete cs x is.any = refl
+property_complete cs x is.ascii = refl
+property_complete cs x (is.assigned k h) = ap (option_map (λ j. set.NotIn j)) h
+
+braceless_of : (cs : List ℕ) (x : Set) → PropertyText cs x → braceless cs ≡ true
+braceless_of cs x (is.value ds k h) = (is_value ds k h).brace
+braceless_of cs x (is.general_category ds k h) = (is_value ds k h).brace
+braceless_of cs x (is.gc ds k h) = (is_value ds k h).brace
+braceless_of cs x is.any = refl
+braceless_of cs x is.ascii = refl
+braceless_of cs x (is.assigned k h) = refl
+
+-- ---- a property in its braces
+
+pub record PropertyFront (xs : List ℕ) (x : Set) (ys : List ℕ) : Type 0 where
+  pub cs : List ℕ
+  pub split : xs ≡ 123 ∷ ((cs ++ 125 ∷ []) ++ ys)
+  pub text : PropertyText cs x
+
+pub property_found : (xs : List ℕ) (x : Set) (ys : List ℕ) → property_front xs ≡ Some (x, ys) → PropertyFront xs x ys
+property_found [] x ys e = none_some e
+property_found (c ∷ cs) x ys e =
+    elim (cond_cases (c == 123) _ _ (x, ys) e) [
+      | inl a ↦
+          let t = then_cases (λ p. option_map (λ y. let q : Set × List ℕ = (y, p.1) in q) (property_of p.0)) (name_front cs) (x, ys) a.1 in
+          let m = map_cases (λ y. let q : Set × List ℕ = (y, t.0.1) in q) (property_of t.0.0) (x, ys) t.2 in
+          record {
+            cs = t.0.0;
+            split = ap (λ d. d ∷ cs) (eqb-true c 123 a.0)
+                ∙ (ap (λ us. 123 ∷ us) (name_sound cs t.0.0 t.0.1 t.1)
+                ∙ (ap (λ p. 123 ∷ (t.0.0 ++ 125 ∷ p.1)) m.2 ∙ ap (λ us. 123 ∷ us) (sym (append_assoc t.0.0 (125 ∷ []) ys))));
+            text = subst (PropertyText t.0.0) (ap (λ p. p.0) m.2) (property_sound t.0.0 m.0 m.1);
+          }
+      | inr b ↦ none_some b.1
+    ]
+
+pub property_read : (cs : List ℕ) (x : Set) (ys : List ℕ) → PropertyText cs x
+    → property_front (123 ∷ ((cs ++ 125 ∷ []) ++ ys)) ≡ Some (x, ys)
+property_read cs x ys t =
+    ap (λ us. property_front (123 ∷ us)) (append_assoc cs (125 ∷ []) ys)
+    ∙ (ap (option_and_then (λ p. option_map (λ y. let q : Set × List ℕ = (y, p.1) in q) (property_of p.0)))
+    (name_complete cs ys (braceless_of cs x t))
+    ∙ ap (option_map (λ y. let q : Set × List ℕ = (y, ys) in q)) (property_complete cs x t))
