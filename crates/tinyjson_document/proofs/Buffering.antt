@@ -2,28 +2,30 @@
 use Rattle.std.proofs.Common.{◌≡◌, ℕ, Bool, true, false, Option, Some, List, [], ◌∷◌, ◌++◌, length, take, refl, sym, ◌∙◌, ap, subst}
 use Rattle.std.proofs.Common.{append_assoc, arith, option_map, slice_get, Result}
 use Rattle.std.proofs.lemmas.List.{take_at}
-use Rattle.std.proofs.lemmas.Str.{encodes-IsAscii}
 use Rattle.std.specs.Bool.{MatchBool}
+use Rattle.tinyjson_number.specs.Canonical.{IsDecimal}
 use Rattle.tinyjson_number.specs.Decimal.{Decimal}
 use Rattle.tinyjson_number.specs.Number.{Canonical}
 use Rattle.tinyjson_number.specs.Text.{decimal_text}
-use Rattle.tinyjson_number.proofs.Callers.{decimal_ascii}
 use Rattle.tinyjson_grammar.specs.Tree.{Tree}
 use Rattle.tinyjson_grammar.specs.Text.{text, quoted, escapes}
 use Rattle.tinyjson_output.specs.Buffer.{Output, SentPart, Sent, SendsFrom}
 use Rattle.tinyjson_output.proofs.Callers.{enc, enc_cons, two_bytes, null_bytes, quoted_bytes}
 use Rattle.tinyjson_output.proofs.Callers.{sent_goes as goes, sent_stops as stops, sent_stops_then as stops_then}
 use Rattle.tinyjson_output.proofs.Callers.{sent_written_none as written_none, sent_written_then as written_then}
-use Rattle.tinyjson_document.specs.Cell.{Is, IsBytes}
+use Rattle.tinyjson_document.specs.Cell.{Is, IsBytes, IsKeptAt, IsNumber, IsNumberAt}
 use Rattle.tinyjson_document.specs.Order.{part}
 use Rattle.tinyjson_document.specs.Walking.{holds_others}
 use Rattle.tinyjson_document.specs.declared.store.Span.{Span}
 use Rattle.tinyjson_document.specs.declared.store.Cell.{Cell}
 use Rattle.tinyjson_document.specs.declared.store.Cell.TheVariants as node
+use Rattle.tinyjson_document.specs.declared.store.Number.{Number}
+use Rattle.tinyjson_document.specs.declared.store.Number.TheVariants as stored
 use Rattle.tinyjson_document.specs.declared.store.Store.{Store}
 use Rattle.tinyjson_document.proofs.Writing.{seen, empty_array, empty_object}
 use Rattle.tinyjson_document.proofs.Passing.{same_places}
-use Rattle.tinyjson_document.proofs.Places.{number_there}
+use Rattle.tinyjson_document.proofs.Places.{kept_there}
+use Rattle.tinyjson_document.proofs.Stored.{number_bytes}
 
 -- what was appended is taken back
 pub taken_back : (p q r s more : List ℕ) (n : ℕ) → n ≡ length p → r ≡ take n q → q ≡ s → s ≡ p ++ more → r ≡ p
@@ -75,6 +77,18 @@ false_bytes = enc_cons 102 (97 ∷ 108 ∷ 115 ∷ 101 ∷ []) (omega arith)
 same_decimal : (a b : Decimal) → Some a ≡ Some b → a ≡ b
 same_decimal a b e = cc
 
+number_canonical : (s : Store) (d : Decimal) (n : Number) → IsNumber s d n → IsDecimal d
+number_canonical s d (stored.Short p) h = h.canonical
+number_canonical s d (stored.Kept i) h = subst IsDecimal h.decimal h.here.canonical
+
+-- the text of a number is its bytes
+pub stored_bytes : (s : Store) (d : Decimal) (n : Number) → IsNumber s d n → enc (decimal_text d) ≡ decimal_text d
+stored_bytes s d n h = number_bytes d (number_canonical s d n h)
+
+-- a kept number is the one that is meant
+pub kept_is : (s : Store) (d : Decimal) (i : ℕ) (x : Canonical) → Some x ≡ slice_get s.kept.items i → IsKeptAt s d i → x.decimal ≡ d
+kept_is s d i x g h = same_decimal x.decimal d (ap (option_map (λ c. c.decimal)) g ∙ kept_there s d i h)
+
 module _ (w : Option (List ℕ)) (k : ℕ) (s : Store) (t : Tree) (n : Cell) where
   pub null_is : n ≡ node.Null → Is s t n → enc (text w k t) ≡ 110 ∷ 117 ∷ 108 ∷ 108 ∷ []
   null_is e h = ap (λ z. enc (text w k z)) (seen s t node.Null (subst (Is s t) e h)) ∙ null_bytes
@@ -87,13 +101,11 @@ module _ (w : Option (List ℕ)) (k : ℕ) (s : Store) (t : Tree) (n : Cell) whe
   false_is b e f h =
       ap (λ z. enc (text w k z)) (seen s t (node.Boolean false) (subst (Is s t) (e ∙ ap node.Boolean f) h)) ∙ false_bytes
 
-  pub number_is : (i : ℕ) (x : Canonical) → n ≡ node.Number i → Some x ≡ slice_get s.numbers.items i → Is s t n
-      → enc (text w k t) ≡ decimal_text x.decimal
-  number_is i x e g h =
+  pub number_is : (i : ℕ) → n ≡ node.Number i → Is s t n
+      → (d : Decimal) × IsNumberAt s d i × (enc (text w k t) ≡ decimal_text d)
+  number_is i e h =
       let v = seen s t (node.Number i) (subst (Is s t) e h) in
-      let d = same_decimal x.decimal v.0 (ap (option_map (λ c. c.decimal)) g ∙ number_there s v.0 i v.2) in
-      ap (λ z. enc (text w k z)) v.1 ∙ ap (λ z. enc (decimal_text z)) (sym d)
-      ∙ encodes-IsAscii (decimal_text x.decimal) (decimal_ascii x.decimal x.canonical)
+      (v.0, v.2, ap (λ z. enc (text w k z)) v.1 ∙ stored_bytes s v.0 v.2.here v.2.number)
 
   pub string_is : (p : Span) (b : List ℕ) → n ≡ node.String p → b ≡ part s.texts.items p → Is s t n
       → enc (text w k t) ≡ 34 ∷ [] ++ (escapes b ++ 34 ∷ [])

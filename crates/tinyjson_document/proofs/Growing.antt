@@ -1,12 +1,15 @@
 -- A node stands for the same tree while the store grows.
-use Rattle.std.proofs.Common.{ℕ, List, [], ◌∷◌, ◌++◌, sym, ◌∙◌, ap, append_assoc, append-nil}
+use Rattle.std.proofs.Common.{◌≡◌, ℕ, List, [], ◌∷◌, ◌++◌, sym, ◌∙◌, ap, subst, append_assoc, append-nil}
 use Rattle.tinyjson_number.specs.Decimal.{Decimal}
+use Rattle.tinyjson_number.specs.Text.{decimal_text}
 use Rattle.tinyjson_grammar.specs.Tree.{Tree, null, boolean, number, string, array, object}
 use Rattle.tinyjson_grammar.specs.Tree.{Items, no_items, item, Members, no_members, member}
-use Rattle.tinyjson_document.specs.Cell.{IsRun, IsText, IsNumberAt, Is, Are, AreMembers, Extends, Grows}
+use Rattle.tinyjson_document.specs.Cell.{IsRun, IsText, IsNumber, IsNumberAt, Is, Are, AreMembers, Extends, Grows}
 use Rattle.tinyjson_document.specs.declared.store.Span.{Span}
 use Rattle.tinyjson_document.specs.declared.store.Cell.{Cell}
 use Rattle.tinyjson_document.specs.declared.store.Member.{Member}
+use Rattle.tinyjson_document.specs.declared.store.Number.{Number}
+use Rattle.tinyjson_document.specs.declared.store.Number.TheVariants as stored
 use Rattle.tinyjson_document.specs.declared.store.Store.{Store}
 
 pub run_stays : {A : Type 0} (xs ys zs : List A) (p : Span) → Extends xs ys → IsRun xs p zs → IsRun ys p zs
@@ -28,6 +31,17 @@ text_stays s r cs p g h = record {
       h.characters;
 }
 
+pub stored_stays : (s r : Store) (d : Decimal) (n : Number) → Grows s r → IsNumber s d n → IsNumber r d n
+stored_stays s r d (stored.Short p) g h = record { run = run_stays _ _ (decimal_text d) p g.texts h.run; few = h.few; canonical = h.canonical }
+stored_stays s r d (stored.Kept i) g h = record {
+  front = h.front;
+  here = h.here;
+  back = h.back ++ g.kept.0;
+  whole = g.kept.1 ∙ ap (λ w. w ++ g.kept.0) h.whole ∙ append_assoc h.front (h.here ∷ h.back) g.kept.0;
+  place = h.place;
+  decimal = h.decimal;
+}
+
 number_stays : (s r : Store) (d : Decimal) (n : ℕ) → Grows s r → IsNumberAt s d n → IsNumberAt r d n
 number_stays s r d n g h = record {
   front = h.front;
@@ -35,7 +49,7 @@ number_stays s r d n g h = record {
   back = h.back ++ g.numbers.0;
   whole = g.numbers.1 ∙ ap (λ w. w ++ g.numbers.0) h.whole ∙ append_assoc h.front (h.here ∷ h.back) g.numbers.0;
   place = h.place;
-  decimal = h.decimal;
+  number = stored_stays s r d h.here g h.number;
 }
 
 mutual
@@ -71,6 +85,24 @@ pub grows_none : (s : Store) → Grows s s
 grows_none s = record {
   texts = extends_none s.texts.items;
   numbers = extends_none s.numbers.items;
+  kept = extends_none s.kept.items;
   items = extends_none s.items.items;
   members = extends_none s.members.items;
+}
+
+-- a number stays in a store with the same texts and the same numbers that are kept
+pub stored_again : (s r : Store) (d : Decimal) (n : Number) → r.texts.items ≡ s.texts.items → r.kept.items ≡ s.kept.items → IsNumber s d n
+    → IsNumber r d n
+stored_again s r d (stored.Short p) e f h = record {
+  run = subst (λ xs. IsRun xs p (decimal_text d)) (sym e) h.run;
+  few = h.few;
+  canonical = h.canonical;
+}
+stored_again s r d (stored.Kept i) e f h = record {
+  front = h.front;
+  here = h.here;
+  back = h.back;
+  whole = f ∙ h.whole;
+  place = h.place;
+  decimal = h.decimal;
 }

@@ -1,5 +1,5 @@
 -- What a cell stands for is had where it is there at all: it can be computed.
-use Rattle.std.proofs.Common.{◌≡◌, ℕ, ◌+◌, ◌≤◌, ◌<◌, Bool, List, [], ◌∷◌, ◌++◌, length, take, drop, refl, sym, ◌∙◌, ap, subst, arith}
+use Rattle.std.proofs.Common.{◌≡◌, ℕ, ◌+◌, ◌≤◌, List, [], ◌∷◌, ◌++◌, length, take, drop, refl, sym, ◌∙◌, ap, subst, arith}
 use Rattle.std.proofs.Common.{◌-◌, length-drop, length-append}
 use mathlib.Core.Logic.{∥∥₁_elim, ∥∥₁_map}
 use mathlib.Core.HLevel.{×_prop, ⊥_prop, hedberg}
@@ -10,8 +10,8 @@ use native.Mathlib.Bridge.{le_prop}
 use Rattle.std.proofs.lemmas.List.{drop_at, length-take-le, take-append-drop}
 use Rattle.std.proofs.lemmas.Str.{IsUtf8-had}
 use Rattle.std.specs.Str.{IsUtf8, chars}
-use Rattle.tinyjson_number.specs.Canonical.{IsDecimalAt}
 use Rattle.tinyjson_number.specs.Decimal.{Decimal}
+use Rattle.tinyjson_number.specs.Text.{decimal_text}
 use Rattle.tinyjson_grammar.specs.Kind.{kind_of}
 use Rattle.tinyjson_grammar.specs.Tree.{Tree, null, boolean, number, string, array, object}
 use Rattle.tinyjson_grammar.specs.Tree.{Items, no_items, item, Members, no_members, member}
@@ -19,9 +19,11 @@ use Rattle.tinyjson_document.specs.declared.store.Span.{Span}
 use Rattle.tinyjson_document.specs.declared.store.Cell.{Cell}
 use Rattle.tinyjson_document.specs.declared.store.Cell.TheVariants as node
 use Rattle.tinyjson_document.specs.declared.store.Member.{Member}
+use Rattle.tinyjson_document.specs.declared.store.Number.{Number}
+use Rattle.tinyjson_document.specs.declared.store.Number.TheVariants as stored
 use Rattle.tinyjson_document.specs.declared.store.Store.{Store}
-use Rattle.tinyjson_document.specs.Cell.{IsRun, IsText, IsNumberAt, Is, Are, AreMembers}
-use Rattle.tinyjson_document.specs.Known.{Known, kind_in, kind_is, run_one, text_one, number_one, Decimal_set}
+use Rattle.tinyjson_document.specs.Cell.{IsRun, IsText, IsKeptAt, IsShort, IsNumber, IsNumberAt, Is, Are, AreMembers}
+use Rattle.tinyjson_document.specs.Known.{kind_in, kind_is, run_one, Decimal_set}
 
 pub Codes_set : IsSet (List ℕ)
 Codes_set = is_set (hedberg ℕ_discrete)
@@ -74,6 +76,42 @@ text_had s cs p h =
       characters = ∥∥₁_elim h (Codes_set _ _) (λ g. g.characters ∙ ap chars (run_one _ p _ _ g.run run.1));
     }
 
+kept_had : (s : Store) (d : Decimal) (i : ℕ) → ∥ IsKeptAt s d i ∥₁ → IsKeptAt s d i
+kept_had s d i h = by (drop i s.kept.items) refl
+  where
+    here : (g : IsKeptAt s d i) → drop i s.kept.items ≡ g.here ∷ g.back
+    here g = ap (drop i) g.whole ∙ drop_at g.front (g.here ∷ g.back) i (sym g.place)
+
+    by : (rest : _) → drop i s.kept.items ≡ rest → IsKeptAt s d i
+    by [] e = absurd (∥∥₁_elim h ⊥_prop (λ g. let f = sym e ∙ here g in absurd cc))
+    by (c ∷ cs) e = record {
+      front = take i s.kept.items;
+      here = c;
+      back = cs;
+      whole = sym (take-append-drop i s.kept.items) ∙ ap (λ z. take i s.kept.items ++ z) e;
+      place = sym (length-take-le i s.kept.items (∥∥₁_elim h le_prop (λ g. omega (
+        arith,
+        g.place,
+        ap length g.whole
+            ∙ length-append g.front (g.here ∷ g.back),
+      ))));
+      decimal = ∥∥₁_elim h (Decimal_set _ _) (λ g. let f = sym e ∙ here g in ap (λ z. z.decimal) (head_same _ _ _ _ f) ∙ g.decimal);
+    }
+
+short_had : (s : Store) (d : Decimal) (p : Span) → ∥ IsShort s d p ∥₁ → IsShort s d p
+short_had s d p h =
+    let run = run_had s.texts.items p (∥∥₁_map h (λ g. (decimal_text d, g.run))) in
+    let same : run.0 ≡ decimal_text d = ∥∥₁_elim h (Codes_set _ _) (λ g. run_one s.texts.items p run.0 (decimal_text d) run.1 g.run) in
+    record {
+      run = subst (IsRun s.texts.items p) same run.1;
+      few = ∥∥₁_elim h le_prop (λ g. g.few);
+      canonical = ∥∥₁_elim h (Bool-set _ _) (λ g. g.canonical);
+    }
+
+stored_had : (s : Store) (d : Decimal) (n : Number) → ∥ IsNumber s d n ∥₁ → IsNumber s d n
+stored_had s d (stored.Short p) h = short_had s d p h
+stored_had s d (stored.Kept i) h = kept_had s d i h
+
 number_had : (s : Store) (d : Decimal) (i : ℕ) → ∥ IsNumberAt s d i ∥₁ → IsNumberAt s d i
 number_had s d i h = by (drop i s.numbers.items) refl
   where
@@ -93,7 +131,7 @@ number_had s d i h = by (drop i s.numbers.items) refl
         ap length g.whole
             ∙ length-append g.front (g.here ∷ g.back),
       ))));
-      decimal = ∥∥₁_elim h (Decimal_set _ _) (λ g. let f = sym e ∙ here g in ap (λ z. z.decimal) (head_same _ _ _ _ f) ∙ g.decimal);
+      number = stored_had s d c (∥∥₁_map h (λ g. let f = sym e ∙ here g in subst (IsNumber s d) (sym (head_same _ _ _ _ f)) g.number));
     }
 
 mutual

@@ -6,6 +6,8 @@ pub mod Waiting
 pub mod Slices
 -- The order of members.
 pub mod Order
+-- Short numbers.
+pub mod Stored
 -- What a sorted object keeps.
 pub mod Gathered
 -- Members whose keys rise.

@@ -1,25 +1,21 @@
 -- What is known of a place in a document, by its cell.
-use Rattle.std.proofs.Common.{◌≡◌, ℕ, zero, suc, Bool, true, false, bytes_eq, cond, List, [], ◌∷◌, Option, Some, None, option_map, slice_get}
+use Rattle.std.proofs.Common.{◌≡◌, ℕ, zero, suc, Bool, List, [], ◌∷◌, Option, Some, None, option_map, slice_get}
 use Rattle.std.proofs.Common.{◌++◌, length, refl, sym, ◌∙◌, ap, subst}
 use mathlib.Core.Logic.{∥∥₁_map}
-use Rattle.std.proofs.lemmas.List.{drop_at}
-use Rattle.std.proofs.lemmas.Slice.Eq.{bytes_eq-Decides}
-use Rattle.std.proofs.lemmas.Str.{encodes-chars}
-use Rattle.std.specs.Str.{chars, encode_utf8_all}
-use Rattle.tinyjson.specs.Access.{is_array, is_boolean, is_null, is_number, is_object, is_string}
-use Rattle.tinyjson.specs.Index.{item_count, nth, tree_at, tree_at_key}
+use Rattle.std.specs.Str.{chars}
+use Rattle.tinyjson.specs.Index.{item_count, nth, tree_at}
 use Rattle.tinyjson_number.specs.Decimal.{Decimal}
-use Rattle.tinyjson_number.specs.Numeral.{power_width}
 use Rattle.tinyjson_grammar.specs.Kind.{kind_of}
-use Rattle.tinyjson_grammar.specs.Soundness.{IsTree, IsTreeAt, AreItemsAt, AreMembersAt, IsSorted}
-use Rattle.tinyjson_grammar.specs.Tree.{Tree, null, boolean, number, string, array, object, find}
+use Rattle.tinyjson_grammar.specs.Soundness.{IsTree}
+use Rattle.tinyjson_grammar.specs.Tree.{Tree, null, boolean, number, string, array, object}
 use Rattle.tinyjson_grammar.specs.Tree.{Items, no_items, item, Members, no_members, member}
 use Rattle.tinyjson_document.specs.declared.store.Span.{Span}
 use Rattle.tinyjson_document.specs.declared.store.Cell.{Cell}
 use Rattle.tinyjson_document.specs.declared.store.Cell.TheVariants as node
 use Rattle.tinyjson_document.specs.declared.store.Member.{Member}
+use Rattle.tinyjson_document.specs.declared.store.Number.{Number}
 use Rattle.tinyjson_document.specs.declared.store.Store.{Store}
-use Rattle.tinyjson_document.specs.Cell.{IsText, IsNumberAt, IsBytes, Is, Are, AreMembers}
+use Rattle.tinyjson_document.specs.Cell.{IsText, IsKeptAt, IsNumber, IsNumberAt, IsBytes, Is, Are, AreMembers}
 use Rattle.tinyjson_document.specs.Known.{Known, KnownItems, KnownMembers, kind_in, kind_is, known_are, known_members}
 use Rattle.tinyjson_document.specs.Known.{known_one, items_one, members_same}
 use Rattle.tinyjson_document.specs.Order.{part}
@@ -32,10 +28,6 @@ use Rattle.tinyjson_document.proofs.Slices.{run_part, text_part}
 abbrev pub boolean_at : Cell → Option Bool
 boolean_at (node.Boolean b) = Some b
 boolean_at _ = None
-
-abbrev pub number_at : Store → Cell → Option Decimal
-number_at s (node.Number i) = option_map (λ c. c.decimal) (slice_get s.numbers.items i)
-number_at s _ = None
 
 abbrev pub string_at : Store → Cell → Option (List ℕ)
 string_at s (node.String p) = Some (chars (part s.texts.items p))
@@ -63,22 +55,25 @@ module _ (s : Store) where
   boolean_is (array ts) n h = ap boolean_at h.1
   boolean_is (object ms) n h = ap boolean_at h.1
 
-  pub number_there : (d : Decimal) (i : ℕ) → IsNumberAt s d i → option_map (λ c. c.decimal) (slice_get s.numbers.items i) ≡ Some d
-  number_there d i h =
-      ap (λ j. option_map (λ c. c.decimal) (slice_get s.numbers.items j)) h.place
+  pub number_there : (d : Decimal) (i : ℕ) → IsNumberAt s d i → (x : Number) × (slice_get s.numbers.items i ≡ Some x) × IsNumber s d x
+  number_there d i h = (
+    h.here,
+    ap (slice_get s.numbers.items) h.place ∙ ap (λ z. slice_get z (length h.front)) h.whole ∙ at h.front,
+    h.number,
+  )
+    where
+      at : (xs : List _) → slice_get (xs ++ h.here ∷ h.back) (length xs) ≡ Some h.here
+      at [] = refl
+      at (x ∷ xs) = at xs
+
+  pub kept_there : (d : Decimal) (i : ℕ) → IsKeptAt s d i → option_map (λ c. c.decimal) (slice_get s.kept.items i) ≡ Some d
+  kept_there d i h =
+      ap (λ j. option_map (λ c. c.decimal) (slice_get s.kept.items j)) h.place
       ∙ ap (λ z. option_map (λ c. c.decimal) (slice_get z (length h.front))) h.whole ∙ at h.front ∙ ap Some h.decimal
     where
       at : (xs : List _) → option_map (λ c. c.decimal) (slice_get (xs ++ h.here ∷ h.back) (length xs)) ≡ Some h.here.decimal
       at [] = refl
       at (x ∷ xs) = at xs
-
-  number_is : (t : Tree) (n : Cell) → Is s t n → number_at s n ≡ number_in t
-  number_is null n h = ap (number_at s) h
-  number_is (boolean b) n h = ap (number_at s) h
-  number_is (number d) n h = ap (number_at s) h.1 ∙ number_there d h.0 h.2
-  number_is (string cs) n h = ap (number_at s) h.1
-  number_is (array ts) n h = ap (number_at s) h.1
-  number_is (object ms) n h = ap (number_at s) h.1
 
   string_is : (t : Tree) (n : Cell) → Is s t n → string_at s n ≡ string_in t
   string_is null n h = ap (string_at s) h
@@ -136,8 +131,21 @@ module _ (s : Store) where
   pub boolean_known : (n : Cell) (k : Known s n) → boolean_at n ≡ boolean_in k.tree
   boolean_known n k = boolean_is k.tree n (known_had n k)
 
-  pub number_known : (n : Cell) (k : Known s n) → number_at s n ≡ number_in k.tree
-  number_known n k = number_is k.tree n (known_had n k)
+  number_of : (t : Tree) (n : Cell) (i : ℕ) (o : Option Decimal) → Is s t n → n ≡ node.Number i
+      → ((d : Decimal) → IsNumberAt s d i → o ≡ Some d) → o ≡ number_in t
+  number_of (number d) n i o h e f = f d (subst (IsNumberAt s d) (same_index h.0 i (sym h.1 ∙ e)) h.2)
+    where
+      same_index : (i j : ℕ) → node.Number i ≡ node.Number j → i ≡ j
+      same_index i j e = cc
+  number_of null n i o h e f = let k = sym h ∙ e in absurd cc
+  number_of (boolean b) n i o h e f = let k = sym h ∙ e in absurd cc
+  number_of (string cs) n i o h e f = let k = sym h.1 ∙ e in absurd cc
+  number_of (array ts) n i o h e f = let k = sym h.1 ∙ e in absurd cc
+  number_of (object ms) n i o h e f = let k = sym h.1 ∙ e in absurd cc
+
+  pub number_known : (n : Cell) (k : Known s n) (i : ℕ) (o : Option Decimal) → n ≡ node.Number i
+      → ((d : Decimal) → IsNumberAt s d i → o ≡ Some d) → o ≡ number_in k.tree
+  number_known n k i o e f = number_of k.tree n i o (known_had n k) e f
 
   pub string_known : (n : Cell) (k : Known s n) → string_at s n ≡ string_in k.tree
   string_known n k = string_is k.tree n (known_had n k)
@@ -280,9 +288,16 @@ module _ (s : Store) where
 
   -- ---- other kinds
 
-  pub number_not : (n : Cell) → ((i : ℕ) → n ≡ node.Number i → ⊥) → number_at s n ≡ None
-  number_not (node.Number i) h = absurd (h i refl)
-  number_not _ h = refl
+  no_number : (t : Tree) (n : Cell) → Is s t n → ((i : ℕ) → n ≡ node.Number i → ⊥) → None ≡ number_in t
+  no_number (number d) n h k = absurd (k h.0 h.1)
+  no_number null n h k = refl
+  no_number (boolean b) n h k = refl
+  no_number (string cs) n h k = refl
+  no_number (array ts) n h k = refl
+  no_number (object ms) n h k = refl
+
+  pub number_not : (n : Cell) (k : Known s n) → ((i : ℕ) → n ≡ node.Number i → ⊥) → None ≡ number_in k.tree
+  number_not n k h = no_number k.tree n (known_had n k) h
 
   pub string_not : (n : Cell) → ((p : Span) → n ≡ node.String p → ⊥) → string_at s n ≡ None
   string_not (node.String p) h = absurd (h p refl)

@@ -1,14 +1,18 @@
 -- Which tree a cell stands for, by recursion on the tree. For private contracts.
-use Rattle.std.specs.Prelude.{◌≡◌, ℕ, ◌+◌, List, [], ◌∷◌, ◌++◌, length, ⊤}
+use Rattle.std.specs.Prelude.{◌≡◌, ◌≤◌, ℕ, ◌+◌, List, [], ◌∷◌, ◌++◌, length, ⊤}
 use Rattle.std.specs.Str.{IsUtf8, chars}
+use Rattle.tinyjson_number.specs.Canonical.{IsDecimal}
 use Rattle.tinyjson_number.specs.Decimal.{Decimal}
 use Rattle.tinyjson_number.specs.Number.{Canonical}
+use Rattle.tinyjson_number.specs.Text.{decimal_text}
 use Rattle.tinyjson_grammar.specs.Tree.{Tree, null, boolean, number, string, array, object}
 use Rattle.tinyjson_grammar.specs.Tree.{Items, no_items, item, Members, no_members, member}
 use Rattle.tinyjson_document.specs.declared.store.Span.{Span}
 use Rattle.tinyjson_document.specs.declared.store.Cell.{Cell}
 use Rattle.tinyjson_document.specs.declared.store.Cell.TheVariants as node
 use Rattle.tinyjson_document.specs.declared.store.Member.{Member}
+use Rattle.tinyjson_document.specs.declared.store.Number.{Number}
+use Rattle.tinyjson_document.specs.declared.store.Number.TheVariants as stored
 use Rattle.tinyjson_document.specs.declared.store.Store.{Store}
 
 -- the elements in the range
@@ -30,14 +34,33 @@ pub record IsText (s : Store) (cs : List ℕ) (p : Span) : Type 0 where
   pub utf8 : IsUtf8 bytes
   pub characters : cs ≡ chars bytes
 
--- the number at the index
-pub record IsNumberAt (s : Store) (d : Decimal) (n : ℕ) : Type 0 where
+-- the number that is kept at the index
+pub record IsKeptAt (s : Store) (d : Decimal) (n : ℕ) : Type 0 where
   pub front : List Canonical
   pub here : Canonical
   pub back : List Canonical
-  pub whole : s.numbers.items ≡ front ++ (here ∷ back)
+  pub whole : s.kept.items ≡ front ++ (here ∷ back)
   pub place : n ≡ length front
   pub decimal : here.decimal ≡ d
+
+-- the range has the text of the number, which is short
+pub record IsShort (s : Store) (d : Decimal) (p : Span) : Type 0 where
+  pub run : IsRun s.texts.items p (decimal_text d)
+  pub few : length (decimal_text d) ≤ 24
+  pub canonical : IsDecimal d
+
+abbrev pub IsNumber : Store → Decimal → Number → Type 0
+IsNumber s d (stored.Short p) = IsShort s d p
+IsNumber s d (stored.Kept i) = IsKeptAt s d i
+
+-- the number at the index
+pub record IsNumberAt (s : Store) (d : Decimal) (n : ℕ) : Type 0 where
+  pub front : List Number
+  pub here : Number
+  pub back : List Number
+  pub whole : s.numbers.items ≡ front ++ (here ∷ back)
+  pub place : n ≡ length front
+  pub number : IsNumber s d here
 
 abbrev mutual
   pub Is : Store → Tree → Cell → Type 0
@@ -67,5 +90,6 @@ Extends {A} xs ys = (more : List A) × (ys ≡ xs ++ more)
 pub record Grows (old new : Store) : Type 0 where
   pub texts : Extends old.texts.items new.texts.items
   pub numbers : Extends old.numbers.items new.numbers.items
+  pub kept : Extends old.kept.items new.kept.items
   pub items : Extends old.items.items new.items.items
   pub members : Extends old.members.items new.members.items

@@ -2,13 +2,16 @@
 use Rattle.std.specs.Prelude.{◌≡◌, ℕ, ◌+◌, List, [], ◌∷◌, ◌++◌, length, take, drop}
 use Rattle.std.proofs.Common.{Bool, true, false, true≢false, refl, sym, ◌∙◌, ap, subst, arith}
 use Rattle.std.proofs.lemmas.List.{take_at, drop_at}
-use Rattle.std.proofs.Props.{props}
 use mathlib.Core.HLevel.{Discrete, hedberg, is_prop→PathP}
 use Rattle.tinyjson.specs.Equality.{tree_eq, tree_eq_Decides, items_eq, items_eq_Decides, members_eq, members_eq_Decides}
 use Rattle.std.proofs.Math.Logic.{∥∥₁_elim}
 use Rattle.std.specs.Str.{chars}
 use Rattle.tinyjson_number.specs.Decimal.{Decimal}
+use Rattle.tinyjson_number.proofs.Callers.{one_decimal, text_is_number}
 use Rattle.tinyjson_number.specs.Number.{decimal_eq, decimal_eq_Decides}
+use Rattle.tinyjson_number.specs.NumberText.{IsNumberTextAt}
+use Rattle.tinyjson_number.specs.Numeral.{power_width}
+use Rattle.tinyjson_number.specs.Text.{decimal_text}
 use Rattle.tinyjson_grammar.specs.Kind.{kind_of}
 use Rattle.tinyjson_grammar.specs.declared.kind.JsonKind.{JsonKind}
 use Rattle.tinyjson_grammar.specs.declared.kind.JsonKind.TheVariants as kind
@@ -19,8 +22,10 @@ use Rattle.tinyjson_document.specs.declared.store.Span.{Span}
 use Rattle.tinyjson_document.specs.declared.store.Cell.{Cell}
 use Rattle.tinyjson_document.specs.declared.store.Cell.TheVariants as node
 use Rattle.tinyjson_document.specs.declared.store.Member.{Member}
+use Rattle.tinyjson_document.specs.declared.store.Number.{Number}
+use Rattle.tinyjson_document.specs.declared.store.Number.TheVariants as stored
 use Rattle.tinyjson_document.specs.declared.store.Store.{Store}
-use Rattle.tinyjson_document.specs.Cell.{IsRun, IsText, IsNumberAt, Is, Are, AreMembers}
+use Rattle.tinyjson_document.specs.Cell.{IsRun, IsText, IsKeptAt, IsShort, IsNumber, IsNumberAt, Is, Are, AreMembers}
 
 -- the cell stands for a tree that a value may have
 pub record Known (s : Store) (n : Cell) : Type 0 where
@@ -58,12 +63,29 @@ run_one xs p ys zs h k =
 pub text_one : (s : Store) (a b : List ℕ) (p : Span) → IsText s a p → IsText s b p → a ≡ b
 text_one s a b p h k = h.characters ∙ ap chars (run_one _ p _ _ h.run k.run) ∙ sym k.characters
 
+kept_one : (s : Store) (a b : Decimal) (i : ℕ) → IsKeptAt s a i → IsKeptAt s b i → a ≡ b
+kept_one s a b i h k =
+    let rest = sym (drop_at h.front (h.here ∷ h.back) (length h.front) refl) ∙ ap (drop (length h.front)) (sym h.whole ∙ k.whole)
+    ∙ drop_at k.front (k.here ∷ k.back) (length h.front) (sym k.place ∙ h.place) in
+    let here : h.here ≡ k.here = cc in
+    sym h.decimal ∙ ap (λ c. c.decimal) here ∙ k.decimal
+
+short_one : (s : Store) (a b : Decimal) (p : Span) → IsShort s a p → IsShort s b p → a ≡ b
+short_one s a b p h k =
+    let same = run_one s.texts.items p (decimal_text a) (decimal_text b) h.run k.run in
+    one_decimal power_width power_width (decimal_text b) a b
+    (subst (λ t. IsNumberTextAt power_width t a) same (text_is_number power_width a h.canonical)) (text_is_number power_width b k.canonical)
+
+stored_one : (s : Store) (a b : Decimal) (n : Number) → IsNumber s a n → IsNumber s b n → a ≡ b
+stored_one s a b (stored.Short p) h k = short_one s a b p h k
+stored_one s a b (stored.Kept i) h k = kept_one s a b i h k
+
 pub number_one : (s : Store) (a b : Decimal) (i : ℕ) → IsNumberAt s a i → IsNumberAt s b i → a ≡ b
 number_one s a b i h k =
     let rest = sym (drop_at h.front (h.here ∷ h.back) (length h.front) refl) ∙ ap (drop (length h.front)) (sym h.whole ∙ k.whole)
     ∙ drop_at k.front (k.here ∷ k.back) (length h.front) (sym k.place ∙ h.place) in
     let here : h.here ≡ k.here = cc in
-    sym h.decimal ∙ ap (λ c. c.decimal) here ∙ k.decimal
+    stored_one s a b k.here (subst (IsNumber s a) here h.number) k.number
 
 pub kind_is : (s : Store) (t : Tree) (n : Cell) → Is s t n → kind_in n ≡ kind_of t
 kind_is s null n h = ap kind_in h

@@ -1,6 +1,7 @@
 -- What public contracts say of documents, and the parts of a tree.
 pub mod Document
 pub mod Equality
+pub mod Numbers
 pub mod Parts
 -- Which tree a cell stands for, and that there is at most one.
 pub mod Cell

@@ -36,8 +36,8 @@ impl Document {
     /// Parses a text as `JsonValue::from_str` does: into the tree of the same value, or with the same error. Only
     /// memory may run out for one of the two alone.
     ///
-    /// A document has up to 4,294,967,295 bytes of strings and keys, and as many numbers, items and members. A text
-    /// with more is refused as out of memory.
+    /// A document has up to 4,294,967,295 bytes of strings, keys and short numbers, and as many numbers, items and
+    /// members. A text with more is refused as out of memory.
     ///
     /// ```
     /// let result = Document::read(alloc, "01");

@@ -15,13 +15,15 @@ ghost use Rattle.tinyjson_document.specs.Comparing.{compared_weight, rest_weight
 ghost use Rattle.tinyjson_document.specs.Comparing.{weight, items_weight, members_weight};
 ghost use Rattle.tinyjson_document.specs.Document.{items_left, members_left};
 ghost use Rattle.tinyjson_document.specs.Document.{tree as node_tree};
+ghost use Rattle.tinyjson_document.specs.Numbers.{decimal_of};
 ghost use Rattle.tinyjson_document.specs.Parts.{boolean_in, items_in, members_in, number_in, size, string_in};
 
 use crate::iterators::{Items, Members};
 use crate::node::Node;
+use crate::number::NumberView;
 use crate::view::JsonView;
 use std::alloc::Global;
-use tinyjson::{JsonKind, JsonNumber, JsonValue};
+use tinyjson::{JsonKind, JsonValue};
 
 /// What a node is compared with: a [`JsonView`] whose parts need no lifetime.
 pub(crate) trait Other: Copy {
@@ -207,48 +209,35 @@ fn is_same_scalar(
     node: Node<'_>,
     kind: JsonKind,
     boolean: Option<bool>,
-    number: Option<&JsonNumber>,
+    number: Option<NumberView<'_>>,
     string: Option<&str>,
 ) -> bool
     ensures { (u : Tree) → kind ≡ kind_of u → boolean ≡ boolean_in u
-        → option_map (λ n. n.now.decimal) number.entry ≡ number_in u
+        → option_map decimal_of number.entry ≡ number_in u
         → option_map (λ s. chars s.now) string.entry ≡ string_in u
         → result ≡ scalar_eq (node_tree node.entry) u }
 {
     match node.kind() {
         JsonKind::Null => kind == JsonKind::Null,
-        JsonKind::Boolean => is_same_boolean(node.boolean(), boolean),
+        JsonKind::Boolean => match (node.boolean(), boolean) {
+            (Some(boolean), Some(other)) => boolean == other,
+            _ => false,
+        },
         JsonKind::Number => is_same_number(node.number(), number),
-        JsonKind::String => is_same_string(node.string(), string),
+        JsonKind::String => match (node.string(), string) {
+            (Some(string), Some(other)) => is_same_text(string, other),
+            _ => false,
+        },
         _ => false,
     }
 }
 
-fn is_same_boolean(boolean: Option<bool>, other: Option<bool>) -> bool
-    ensures { result ≡ both beq boolean other }
-{
-    match (boolean, other) {
-        (Some(boolean), Some(other)) => boolean == other,
-        _ => false,
-    }
-}
-
-fn is_same_number(number: Option<&JsonNumber>, other: Option<&JsonNumber>) -> bool
-    ensures { result ≡ both decimal_eq (option_map (λ n. n.now.decimal) number.entry)
-        (option_map (λ n. n.now.decimal) other.entry) }
+fn is_same_number(number: Option<NumberView<'_>>, other: Option<NumberView<'_>>) -> bool
+    ensures { result ≡ both decimal_eq (option_map decimal_of number.entry)
+        (option_map decimal_of other.entry) }
 {
     match (number, other) {
-        (Some(number), Some(other)) => *number == *other,
-        _ => false,
-    }
-}
-
-fn is_same_string(string: Option<&str>, other: Option<&str>) -> bool
-    ensures { result ≡ both bytes_eq (option_map (λ s. chars s.now) string.entry)
-        (option_map (λ s. chars s.now) other.entry) }
-{
-    match (string, other) {
-        (Some(string), Some(other)) => is_same_text(string, other),
+        (Some(number), Some(other)) => *number.as_number() == *other.as_number(),
         _ => false,
     }
 }

@@ -11,6 +11,7 @@ mod equality;
 pub mod iterators;
 mod layout;
 pub mod node;
+pub mod number;
 mod quick;
 #[doc(hidden)]
 pub mod ranking;
@@ -25,4 +26,5 @@ mod walk;
 pub use document::Document;
 pub use iterators::{Items, Members};
 pub use node::Node;
+pub use number::NumberView;
 pub use view::JsonView;

@@ -4,9 +4,10 @@ ghost use Rattle.tinyjson_document.specs.Known.{Known, Known_prop};
 use crate::document::Document;
 use crate::equality::equals;
 use crate::iterators::{Items, Members};
+use crate::number::NumberView;
 use crate::sorting::find;
 use crate::store::{Cell, Span, part, text_at};
-use tinyjson::{JsonKind, JsonNumber, JsonValue};
+use tinyjson::{JsonKind, JsonValue};
 
 /// A value in a document. It is a reference and an index, so it is copied freely.
 ///
@@ -35,6 +36,7 @@ impl<'d> Node<'d> {
     ghost use Rattle.tinyjson.specs.View.{view};
     ghost use Rattle.tinyjson_grammar.specs.Kind.{kind_of};
     ghost use Rattle.tinyjson_document.specs.Document.{tree, items_left, members_left};
+    ghost use Rattle.tinyjson_document.specs.Numbers.{decimal_of};
     ghost use Rattle.tinyjson_document.specs.Parts.{boolean_in, number_in, string_in, size};
     ghost use Rattle.tinyjson_document.specs.Parts.{items_in, members_in};
 
@@ -117,11 +119,11 @@ impl<'d> Node<'d> {
     /// ```
     /// node.number() // of 1.50: the number 1.5; of "1.5": None
     /// ```
-    pub fn number(&self) -> Option<&'d JsonNumber>
-        ensures { option_map (λ n. n.now.decimal) result ≡ number_in (tree self.now) }
+    pub fn number(&self) -> Option<NumberView<'d>>
+        ensures { option_map decimal_of result ≡ number_in (tree self.now) }
     {
         match self.cell {
-            Cell::Number(index) => self.document.store.numbers.get(index as usize),
+            Cell::Number(index) => self.document.store.number_at(index),
             _ => None,
         }
     }

@@ -2,11 +2,14 @@
 ghost use Rattle.std.specs.Prelude.{◌≡◌, ◌≤◌, ◌^◌, ◌⊎◌, ℕ, [], List, IfOk, OnOk, MatchResult, Some};
 ghost use Rattle.std.specs.Prelude.{drop, option_map, take};
 ghost use Rattle.std.specs.Str.{chars};
-ghost use Rattle.tinyjson_document.specs.Cell.{IsBytes, IsRun, IsText, IsNumberAt, Grows};
+ghost use Rattle.tinyjson_document.specs.Cell.{IsBytes, IsNumber, IsNumberAt, IsRun, IsShort, IsText, Grows};
+ghost use Rattle.tinyjson_number.specs.Decimal.{Decimal};
+ghost use Rattle.tinyjson_document.specs.Numbers.{decimal_of};
 ghost use Rattle.tinyjson_document.specs.declared.store.Member.{Member};
 ghost use Rattle.tinyjson_document.specs.Order.{IsOrdered, lasts, part};
 
-use crate::append::append;
+use crate::append::{append, append_number};
+use crate::number::NumberView;
 use crate::ranking::keep_ordered;
 use crate::sorting::rise;
 use std::alloc::{AllocError, Global};
@@ -74,6 +77,16 @@ pub enum Cell {
     Object(Span),
 }
 
+/// A number: the range of its normal text, which is short, or its index among those that are kept whole.
+#[derive(Clone, Copy)]
+pub enum Number {
+    Short(Span),
+    Kept(u32),
+}
+
+/// How many bytes the text of a short number has at most: a number is then made of it without memory.
+const SHORT: usize = 24;
+
 /// A member of an object. Its key is a range of the texts.
 #[derive(Clone, Copy)]
 pub struct Member {
@@ -84,11 +97,14 @@ pub struct Member {
 /// The vectors that hold the parts of all values. A cell keeps its meaning while they grow.
 #[derive(Drop)]
 pub struct Store {
-    /// The characters of strings and keys, in UTF-8.
+    /// The characters of strings, keys and short numbers, in UTF-8.
     pub texts: Vec<u8>,
-    pub numbers: Vec<JsonNumber>,
+    pub numbers: Vec<Number>,
+    /// The numbers whose texts are not short.
+    pub kept: Vec<JsonNumber>,
     pub items: Vec<Cell>,
     pub members: Vec<Member>,
+    pub alloc: Global,
 }
 
 impl Store {
@@ -96,8 +112,10 @@ impl Store {
         Store {
             texts: Vec::new(alloc),
             numbers: Vec::new(alloc),
+            kept: Vec::new(alloc),
             items: Vec::new(alloc),
             members: Vec::new(alloc),
+            alloc,
         }
     }
 
@@ -117,8 +135,46 @@ impl Store {
         ensures grows { OnOk result (Grows self.old self.new) }
     {
         let index = place(self.numbers.len())?;
+        let number = self.stored(number)?;
         self.numbers.push(number)?;
         Ok(index)
+    }
+
+    /// Appends the text of a short number, and keeps another one.
+    fn stored(&mut self, number: JsonNumber) -> Result<Number, AllocError>
+        ensures number { IfOk result (IsNumber self.new number.decimal) }
+        ensures grows { OnOk result (Grows self.old self.new) }
+        ensures same { OnOk result (self.new.numbers.items ≡ self.old.numbers.items) }
+    {
+        let from = self.texts.len();
+        if append_number(&mut self.texts, &number)? && self.texts.len() - from <= SHORT {
+            return Ok(Number::Short(Span::new(from, self.texts.len())?));
+        }
+        let index = place(self.kept.len())?;
+        self.kept.push(number)?;
+        Ok(Number::Kept(index))
+    }
+
+    /// The number at the index.
+    pub fn number_at(&self, index: u32) -> Option<NumberView<'_>>
+        ensures { (d : Decimal) → IsNumberAt self.now d index →
+            option_map decimal_of result ≡ Some d }
+    {
+        match *self.numbers.get(index as usize)? {
+            Number::Short(span) => Some(NumberView::Made(self.made(span)?)),
+            Number::Kept(index) => Some(NumberView::Kept(self.kept.get(index as usize)?)),
+        }
+    }
+
+    /// The number whose text is in the range.
+    fn made(&self, span: Span) -> Option<JsonNumber>
+        ensures { (d : Decimal) → IsShort self.now d span →
+            option_map (λ n. n.decimal) result ≡ Some d }
+    {
+        let Ok(text) = str::from_utf8(part(&self.texts, span)) else {
+            return None;
+        };
+        JsonNumber::from_text(self.alloc, text).ok()
     }
 
     /// Appends the items of an array.

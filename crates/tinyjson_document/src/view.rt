@@ -4,10 +4,12 @@ ghost use Rattle.std.specs.Str.{chars};
 ghost use Rattle.tinyjson.specs.Index.{tree_at, tree_at_key};
 ghost use Rattle.tinyjson_grammar.specs.Kind.{kind_of};
 ghost use Rattle.tinyjson_grammar.specs.Tree.{Tree};
+ghost use Rattle.tinyjson_document.specs.Numbers.{decimal_of};
 ghost use Rattle.tinyjson_document.specs.Parts.{boolean_in, number_in, string_in, size};
 
 use crate::node::Node;
-use tinyjson::{JsonKind, JsonNumber, JsonValue};
+use crate::number::NumberView;
+use tinyjson::{JsonKind, JsonValue};
 
 /// A tree to be read: a value in a document, or a `&JsonValue`. A search or a check that is written for this trait
 /// works on both, and is proved once.
@@ -34,8 +36,8 @@ pub trait JsonView<'t>: Copy {
         ensures { result ≡ boolean_in (tree self.now) };
 
     /// The number, exact, or `None` if the value is of another kind.
-    fn number(&self) -> Option<&'t JsonNumber>
-        ensures { option_map (λ n. n.now.decimal) result ≡ number_in (tree self.now) };
+    fn number(&self) -> Option<NumberView<'t>>
+        ensures { option_map decimal_of result ≡ number_in (tree self.now) };
 
     /// The characters of the string, or `None` if the value is of another kind.
     fn string(&self) -> Option<&'t str>
@@ -67,7 +69,7 @@ impl<'d> JsonView<'d> for Node<'d> {
         Node::boolean(self)
     }
 
-    fn number(&self) -> Option<&'d JsonNumber> {
+    fn number(&self) -> Option<NumberView<'d>> {
         Node::number(self)
     }
 
@@ -104,9 +106,9 @@ impl<'v> JsonView<'v> for &'v JsonValue {
         }
     }
 
-    fn number(&self) -> Option<&'v JsonNumber> {
+    fn number(&self) -> Option<NumberView<'v>> {
         match self {
-            JsonValue::Number(number) => Some(number),
+            JsonValue::Number(number) => Some(NumberView::Kept(number)),
             _ => None,
         }
     }

@@ -7,7 +7,9 @@ ghost use Rattle.tinyjson.specs.Indent.{indent_of};
 ghost use Rattle.tinyjson_grammar.specs.Text.{text, before, quoted, newline, after_colon};
 ghost use Rattle.tinyjson_grammar.specs.Characters.{name_separator};
 ghost use Rattle.tinyjson_document.specs.declared.walk.Rest.TheVariants.{Items, Members};
-ghost use Rattle.tinyjson_document.specs.Cell.{Is, IsBytes};
+ghost use Rattle.tinyjson_number.specs.Decimal.{Decimal};
+ghost use Rattle.tinyjson_number.specs.Text.{decimal_text};
+ghost use Rattle.tinyjson_document.specs.Cell.{Is, IsBytes, IsNumberAt};
 ghost use Rattle.tinyjson_document.specs.Order.{part};
 ghost use Rattle.tinyjson_document.specs.declared.store.Store.{Store as Nodes};
 ghost use Rattle.tinyjson_document.specs.Walking.{head, holds_others, IsRest, AreLeft, Advances, Passes, cost};
@@ -17,7 +19,7 @@ ghost use Rattle.tinyjson_output.specs.Written.{WritesPrefix};
 
 use crate::layout::separate;
 use crate::quick::{Line, quick_item, quick_key, quick_member};
-use crate::store::{Cell, Member, Span, Store, part};
+use crate::store::{Cell, Member, Number, Span, Store, part};
 use std::alloc::{AllocError, Global};
 use std::io::{self, ErrorKind, Write};
 use tinyjson_output::{Buffer, flush, quick_text, quote, write_bytes, write_colon, write_number};
@@ -429,13 +431,31 @@ fn write_head<W: Write>(
         Cell::Null => write_bytes(out, buffer, b"null"),
         Cell::Boolean(true) => write_bytes(out, buffer, b"true"),
         Cell::Boolean(false) => write_bytes(out, buffer, b"false"),
-        Cell::Number(index) => match store.numbers.get(index as usize) {
-            Some(number) => write_number(out, buffer, number),
-            None => Err(io::Error::from(ErrorKind::InvalidData)),
-        },
+        Cell::Number(index) => write_stored(out, buffer, store, index),
         Cell::String(span) => write_text(out, buffer, part(&store.texts, span)),
         Cell::Array(_) => write_bytes(out, buffer, b"["),
         Cell::Object(_) => write_bytes(out, buffer, b"{"),
+    }
+}
+
+/// Writes the text of a number.
+#[inline(always)]
+fn write_stored<W: Write>(
+    out: &mut W,
+    buffer: &mut Buffer,
+    store: &Store,
+    index: u32,
+) -> io::Result<()>
+    ensures { (d : Decimal) → IsNumberAt store.now d index
+        → SendsText W.contents out.old out.new buffer.old buffer.new (decimal_text d) result }
+{
+    match store.numbers.get(index as usize) {
+        Some(Number::Short(span)) => write_bytes(out, buffer, part(&store.texts, *span)),
+        Some(Number::Kept(index)) => match store.kept.get(*index as usize) {
+            Some(number) => write_number(out, buffer, number),
+            None => Err(io::Error::from(ErrorKind::InvalidData)),
+        },
+        None => Err(io::Error::from(ErrorKind::InvalidData)),
     }
 }
 

@@ -1,6 +1,7 @@
 //! What filters compare (RFC 9535, 2.3.5.2.2), and the functions of values.
 ghost use Rattle.std.specs.Prelude.{◌≡◌, Some, IfOk, IfErr, length, option_map};
 ghost use Rattle.std.specs.Str.{chars};
+ghost use Rattle.tinyjson_document.specs.Numbers.{decimal_of};
 ghost use Rattle.tinyjson_path.specs.Comparing.{compares, is_same, is_below, is_tree_less, literal_tree};
 ghost use Rattle.tinyjson_path.specs.Comparing.{one_at, one_tree, origin_tree};
 ghost use Rattle.tinyjson_path.specs.Comparing.{length_of, count_of, value_of, size_of, whole};
@@ -15,7 +16,7 @@ use crate::value::NodeValue;
 use std::alloc::{AllocError, Global};
 use tinyjson::{JsonKind, JsonNumber, JsonValue};
 use tinyjson_compare::is_less;
-use tinyjson_document::JsonView;
+use tinyjson_document::{JsonView, NumberView};
 use tinyjson_path_query::{ComparisonOperator, Literal, Origin, SingularQuery, SingularSegment};
 
 /// A value that is compared: a part of the input, or a value of the filter's own.
@@ -107,12 +108,12 @@ fn is_value_less(left: NodeValue, right: NodeValue) -> bool
     }
 }
 
-fn is_number_less(left: Option<&JsonNumber>, right: Option<&JsonNumber>) -> bool
-    ensures { result ≡ numbers_less (option_map (λ n. n.now.decimal) left.entry)
-        (option_map (λ n. n.now.decimal) right.entry) }
+fn is_number_less(left: Option<NumberView<'_>>, right: Option<NumberView<'_>>) -> bool
+    ensures { result ≡ numbers_less (option_map decimal_of left.entry)
+        (option_map decimal_of right.entry) }
 {
     match (left, right) {
-        (Some(left), Some(right)) => is_less(left, right),
+        (Some(left), Some(right)) => is_less(left.as_number(), right.as_number()),
         _ => false,
     }
 }

@@ -8,8 +8,8 @@ ghost use Rattle.tinyjson_path.specs.Nodes.{tree_of};
 
 use std::alloc::Global;
 use std::io::{self, Write};
-use tinyjson::{JsonGenerateResult, JsonKind, JsonNumber, JsonValue};
-use tinyjson_document::JsonView;
+use tinyjson::{JsonGenerateResult, JsonKind, JsonValue};
+use tinyjson_document::{JsonView, NumberView};
 
 /// The value of a node: in a document, or in a `JsonValue`. It is copied freely.
 ///
@@ -97,7 +97,7 @@ impl<'v> JsonView<'v> for NodeValue<'v> {
         }
     }
 
-    fn number(&self) -> Option<&'v JsonNumber> {
+    fn number(&self) -> Option<NumberView<'v>> {
         match self {
             NodeValue::InDocument(node) => node.number(),
             NodeValue::InValue(value) => JsonView::number(value),

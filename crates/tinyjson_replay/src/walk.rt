@@ -10,7 +10,7 @@ ghost use Rattle.tinyjson_replay.specs.Replaying.{Encloses, Waits, left_weight};
 use std::alloc::{AllocError, Global};
 use tinyjson::{Events, JsonKind};
 use tinyjson_document::arena::Arena;
-use tinyjson_document::{Document, Items, Members, Node};
+use tinyjson_document::{Document, Items, Members, Node, NumberView};
 
 /// What is left of an open container.
 #[derive(Drop)]
@@ -95,7 +95,8 @@ fn put_scalar<E: Events>(alloc: Global, node: Node<'_>, events: &mut E) -> Resul
     match node.kind() {
         JsonKind::Null | JsonKind::Boolean => events.literal(node.boolean()),
         JsonKind::Number => match node.number() {
-            Some(number) => {
+            Some(NumberView::Made(number)) => events.number(number),
+            Some(NumberView::Kept(number)) => {
                 let number = number.try_clone(alloc)?;
                 events.number(number)
             }

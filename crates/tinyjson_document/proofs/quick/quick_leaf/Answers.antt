@@ -1,6 +1,4 @@
-use Rattle.std.proofs.Common.{◌≡◌, ◌∙◌, Some, true, false, sym, ap, option_map, slice_get, arith, rules, refl}
-use Rattle.std.proofs.lemmas.Grind.{common_steps}
-use Rattle.std.proofs.lemmas.Option.{slice_get_cases}
+use Rattle.std.proofs.Common.{◌≡◌, ◌∙◌, true, false, ap, rules}
 use Rattle.tinyjson_document.specs.Order.{part}
 use Rattle.tinyjson_document.proofs.Buffering.{same_bytes, null_is, true_is, false_is, number_is, string_is, array_is, object_is}
 use Rattle.tinyjson_document.proofs.quick.quick_leaf.Goals as goal
@@ -21,19 +19,14 @@ returns-in-Boolean-false c = λ w k t e h.
     same_bytes c.quick_word-in-Boolean-false.result _ _ _ _ (false_is w k c.args.store.now t c.args.node _ c.in-Boolean-false.is b h)
     c.quick_word-in-Boolean-false.ensures
 
-pub returns-in-Some : goal.returns-in-Some
-returns-in-Some c = λ w k t e h.
-    let s = c.args.store.now in
-    let i = c.in-Number.index in
-    let got : option_map (λ x. x.now) c.get.result ≡ slice_get s.numbers.items i
-    = grind (arith, common_steps, slice_get_cases s.numbers.items i) in
-    let here : Some c.in-Some.number.now ≡ slice_get s.numbers.items i = ap (option_map (λ x. x.now)) (sym c.in-Some.is) ∙ got in
-    same_bytes c.quick_number.result _ _ _ _ (number_is w k s t c.args.node i c.in-Some.number.now c.in-Number.is here h)
-    c.quick_number.ensures
+pub returns-in-Number : goal.returns-in-Number
+returns-in-Number c = λ w k t e h.
+    let v = number_is w k c.args.store.now t c.args.node c.in-Number.index c.in-Number.is h in
+    same_bytes c.quick_stored.result _ _ _ _ v.2 (c.quick_stored.ensures v.0 v.1)
 
 pub returns-in-String : goal.returns-in-String
 returns-in-String c = λ w k t e h.
-    let is = c.part.ensures ∙ ap (λ z. part z c.in-String.span) c.deref-in-String.ensures.value in
+    let is = c.part.ensures ∙ ap (λ z. part z c.in-String.span) c.deref.ensures.value in
     same_bytes c.quick_text.result _ _ _ _ (string_is w k c.args.store.now t c.args.node _ _ c.in-String.is is h) c.quick_text.ensures
 
 pub returns-in-Array : goal.returns-in-Array

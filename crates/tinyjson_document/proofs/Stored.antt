@@ -1,0 +1,62 @@
+-- The text of a short number in the texts.
+use Rattle.std.proofs.Common.{◌≡◌, ℕ, ◌≤◌, ◌+◌, Bool, true, false, List, [], ◌++◌, length, Some, option_map, refl, sym, ◌∙◌, ap, subst}
+use Rattle.std.proofs.Common.{append-nil, length-append, encode_utf8_all, Result, Ok, Err}
+use Rattle.std.proofs.lemmas.Str.{encodes-IsAscii, IsUtf8-from_ascii}
+use Rattle.std.proofs.Common.{true≢false}
+use Rattle.std.specs.Bool.{MatchBool}
+use Rattle.std.specs.Result.{result_ok}
+use Rattle.std.specs.Str.{IsUtf8}
+use Rattle.tinyjson_number.proofs.Callers.{decimal_ascii, one_decimal, text_is_number}
+use Rattle.tinyjson_number.specs.Canonical.{IsDecimal}
+use Rattle.tinyjson_number.specs.Decimal.{Decimal}
+use Rattle.tinyjson_number.specs.Number.{Canonical}
+use Rattle.tinyjson_number.proofs.Scans.{one_numeral}
+use Rattle.tinyjson_number.specs.NumberText.{IsNumberText}
+use Rattle.tinyjson_number.specs.Numeral.{in_range, power_width, value}
+use Rattle.tinyjson_number.specs.Reading.{Reads}
+use Rattle.tinyjson_number.specs.Text.{decimal_text}
+use Rattle.tinyjson_number.specs.declared.error.JsonNumberError.{JsonNumberError}
+use Rattle.tinyjson_number.specs.declared.error.JsonNumberError.TheVariants.{NotANumber, OutOfRange, OutOfMemory}
+use Rattle.tinyjson_document.specs.Cell.{IsRun}
+use Rattle.tinyjson_document.specs.declared.store.Span.{Span}
+
+pub true_case : (X Y : Type 0) (b : Bool) → b ≡ true → MatchBool b X Y → X
+true_case X Y true e h = h
+true_case X Y false e h = cc
+
+pub number_bytes : (d : Decimal) → IsDecimal d → encode_utf8_all (decimal_text d) ≡ decimal_text d
+number_bytes d h = encodes-IsAscii (decimal_text d) (decimal_ascii d h)
+
+pub number_utf8 : (d : Decimal) → IsDecimal d → IsUtf8 (decimal_text d)
+number_utf8 d h = IsUtf8-from_ascii (decimal_text d) (decimal_ascii d h)
+
+-- what is appended is the run at the end
+pub run_appended : (old new xs : List ℕ) (p : Span) → new ≡ old ++ xs → p.from ≡ length old → p.to ≡ length new → IsRun new p xs
+run_appended old new xs p e f t = record {
+  front = old;
+  back = [];
+  whole = e ∙ ap (λ z. old ++ z) (sym (append-nil xs));
+  from = f;
+  to = t ∙ ap length e ∙ length-append old xs;
+}
+
+pub length_appended : (old new xs : List ℕ) → new ≡ old ++ xs → length new ≡ length old + length xs
+length_appended old new xs e = ap length e ∙ length-append old xs
+
+-- what a short text is read as
+pub read_back : (d : Decimal) (text : List ℕ) (r : Result Canonical JsonNumberError) → IsDecimal d → text ≡ decimal_text d
+    → Reads text r → (length text ≤ 24 → ¬ (r ≡ Err OutOfMemory)) → length (decimal_text d) ≤ 24
+    → option_map (λ x. x.decimal) (result_ok r) ≡ Some d
+read_back d text r c e h few l =
+    by r (subst (λ t. IsNumberText t d) (sym e) (text_is_number power_width d c)) h (few (subst (λ t. length t ≤ 24) (sym e) l))
+  where
+    by : (r : Result Canonical JsonNumberError) → IsNumberText text d → Reads text r → ¬ (r ≡ Err OutOfMemory)
+        → option_map (λ x. x.decimal) (result_ok r) ≡ Some d
+    by (Ok x) t h n = ap Some (one_decimal power_width power_width text x.decimal d h t)
+    by (Err NotANumber) t h n = absurd (h t.0 t.1)
+    by (Err OutOfRange) t h n =
+        absurd (true≢false (sym t.3 ∙ ap in_range (sym t.2 ∙ ap value (one_numeral text t.0 h.0 t.1 h.1)) ∙ h.2))
+    by (Err OutOfMemory) t h n = absurd (n refl)
+
+pub some_same : {A : Type 0} (x y : A) → Some x ≡ Some y → x ≡ y
+some_same x y e = cc
