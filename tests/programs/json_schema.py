@@ -1531,8 +1531,43 @@ DOCUMENTS = [
     ({"schema": '{"$schema":"http://json-schema.org/draft-04/schema#","$ref":"b"}', "a": '{"id":"b","maximum":1,"exclusiveMaximum":true}'}, ["-r", "a"], ["0"], [("1", "", "/$ref/exclusiveMaximum")]),
 ]
 
+
+class Link(str):
+    """What a symbolic link leads to."""
+
+
+# Folders by `-r`, in the same form. RFC 3986, 5.2: a relative reference between two files of a folder.
+MAIN, ITEMS = '{"$ref":"a/b.json"}', '{"items":{"$ref":"../c.json#/$defs/x"}}'
+BELOW = {"s/main.json": MAIN, "s/a/b.json": ITEMS, "s/c.json": X}
+BESIDE = {"s/app/main.json": '{"$ref":"../lib/a.json"}', "s/lib/a.json": '{"items":{"$ref":"b.json#/$defs/x"}}', "s/lib/b.json": X}
+AT_B = '{"$ref":"http://a/b/c/d.json#/$defs/x"}'
+FOLDERS = [
+    *(({"schema.json": '{"$ref":"common.json#/$defs/x"}', "common.json": X}, ["-r", words], ["1"], [('"a"', "", "/$ref/type")]) for words in (".", "./")),
+    *((BELOW, ["-r", words], ["[1]"], [('["a"]', "/0", "/$ref/items/$ref/type")]) for words in ("s", "s/", "./s", ".")),
+    *((BESIDE, ["-r", words], ["[1]"], [('["a"]', "/0", "/$ref/items/$ref/type")]) for words in ("s", "s/lib", "./s/lib", ".")),
+    ({**BESIDE, "s/app/main.json": '{"$id":"http://a/b/app/c","$ref":"../lib/a.json"}'}, ["-r", "s"], ["[1]"], [('["a"]', "/0", "/$ref/items/$ref/type")]),
+    ({"d/schema": '{"$ref":"../../a/b.json"}', "a/b.json": '{"type":"null"}'}, ["-r", "a"], ["null"], [("1", "", "/$ref/type")]),
+    ({"a/é/schema": '{"$ref":"../e/b.json"}', "a/e/b.json": '{"type":"null"}', "a/ê/c.json": "{}"}, ["-r", "a"], ["null"], [("1", "", "/$ref/type")]),
+    # A name from the root on, which no folder shares.
+    ({"d/schema": '{"$ref":"%s"}' % SCHEMA}, ["-r", SCHEMA], ['{"id":1}'], [("1", "", "/$ref/type")]),
+    # Core, 9.1.1 and 8.2.1: by the folder's URI; by its own `$id`.
+    *(({"schema": AT_B, "f/c/d.json": X}, ["-r", f"http://a/b{end}=f"], ["1"], [('"a"', "", "/$ref/type")]) for end in ("", "/")),
+    ({"schema": AT_B, "f/g.json": '{"$id":"http://a/b/c/d.json",' + X[1:]}, ["-r", "f"], ["1"], [('"a"', "", "/$ref/type")]),
+    # The schema's file itself, also by a link, and names that are not `*.json` of a shell.
+    ({"f/a.json": '{"$id":"http://a/b","$ref":"c.json"}', "f/b.json": Link("a.json"), "f/c.json": '{"items":{"$ref":"b"}}'}, ["-r", "f"], ["[[]]"], []),
+    ({"schema": '{"$ref":"f/x.json/a.json#/$defs/x"}', "f/x.json/a.json": X, "f/.b.json": "[", "f/.c/d.json": "[", "f/json": "[", "f/e.json5": "["}, ["-r", "f"], ["1"], [('"a"', "", "/$ref/type")]),
+    # Links to files; a link to a folder, also to one around it, is left out.
+    ({"schema": '{"$ref":"f/a.json#/$defs/x"}', "f/a.json": Link("../x"), "x": X, "f/b": Link(".."), "f/c.json": Link(".."), "f/d": Link("../g"), "g/e.json": "["}, ["-r", "f"], ["1"], [('"a"', "", "/$ref/type")]),
+    ({"schema": '{"$ref":"g/a.json"}', "f/a.json": '{"type":"null"}', "g": Link("f")}, ["-r", "g"], ["null"], [("1", "", "/$ref/type")]),
+]
+
 # What is told where a document can't be had, or where the schema then can't be applied.
 REFUSED_DOCUMENTS = [
+    ({"schema": "{}", "f/b.json": "[", "f/a/z.json": "[", "f/c/a.json": "["}, ["-r", "f"], "f/a/z.json:1:1: Unexpected EOF"),
+    ({"schema": "{}", "f/a.json": "5"}, ["-r", "f"], NOT_APPLIED % "/$defs/f~1a.json"),
+    ({"schema": "{}", "f/a.json": Link("none")}, ["-r", "f"], "f/a.json: No such file or directory (os error 2)"),
+    ({"schema": "{}", "f/g/\udcff": "{}"}, ["-r", "f"], "f/g: invalid filename"),
+    ({"schema": "{}", "f/a.json": "{}"}, ["-r", "f", "-r", "f/a.json"], 'two documents have the URI "f/a.json"'),
     ({**COMMON, "other.json": X}, ["-r", "other.json"], NOT_APPLIED % "/$ref"),
     ({**COMMON, "d/common.json": X}, ["-r", "d/common.json"], NOT_APPLIED % "/$ref"),
     ({**COMMON, "common.json": '{"$id":"b",' + X[1:]}, ["-r", "common.json"], NOT_APPLIED % "/$ref"),
@@ -1560,6 +1595,9 @@ def with_files(folder, files, words, given):
         for name, text in files.items():
             path = os.path.join(inner, name)
             os.makedirs(os.path.dirname(path), exist_ok=True)
+            if isinstance(text, Link):
+                os.symlink(text, path)
+                continue
             with open(path, "wb") as file:
                 file.write(text.encode() if isinstance(text, str) else text)
         status, output, errors = run_small(program("json_schema"), [*words, next(iter(files))], given, cwd=inner)
@@ -1570,7 +1608,7 @@ def check_documents(checks):
     def row(files, words, value, expected, at):
         checks.row(f"json_schema: {words} {list(files)} {value[:60]}", expected, with_files, checks.folder, files, words, value.encode(), at=at)
 
-    for at in DOCUMENTS:
+    for at in DOCUMENTS + FOLDERS:
         files, words, valid, others = at
         for value, expected in [*((value, judged(None)) for value in valid), *((value, judged(places)) for value, *places in others)]:
             row(files, words, value, expected, at)

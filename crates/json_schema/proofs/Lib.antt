@@ -1,5 +1,7 @@
+mod Cutting
 pub mod Examples
 pub mod Handling
 pub mod Outcomes
 pub mod Running
+mod Sharing
 pub mod Verdicts

@@ -1,4 +1,5 @@
 pub mod Failures
+pub mod Names
 pub mod Options
 pub mod Report
 pub mod Run

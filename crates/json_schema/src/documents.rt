@@ -1,9 +1,13 @@
 //! The further documents that the references of a schema lead into.
 
 use crate::failure::{SchemaFailure, document_failure, schema_failure};
+use crate::folder::{is_folder, json_files};
+use crate::names::{joined, located, plain, reference};
 use crate::verdict::DEPTH_LIMIT;
 use crate::{draft_of, is_older, tell_unknown};
-use std::alloc::Global;
+use std::alloc::{AllocError, Global};
+use std::fs;
+use std::os::unix::fs::MetadataExt;
 use tinyjson::JsonValue;
 use tinyjson_cli::{Failure, Text, read_named};
 use tinyjson_schema_documents::{found_at, has_definition, with_document};
@@ -26,22 +30,114 @@ pub fn with_documents(
     draft: Draft,
     texts: &[Text<'_>],
 ) -> Result<Whole, Failure> {
-    let (folder, name) = split_folder(file);
-    let uri = format!(in rt.alloc(); "/{name}")?;
+    let uri = joined(rt.alloc(), "/", plain(file))?;
+    let documents = documents_of(rt, file, texts)?;
     let mut whole = Whole {
         tree: found_at(whole.tree, uri.as_str(), rt.alloc())?,
         ..whole
     };
-    for text in texts {
-        let (uri, file) = located(folder, text.value);
-        if has_definition(&whole.tree, uri) {
-            return Err(schema_failure(rt.alloc(), &SchemaFailure::Twice(uri)));
-        }
-        let document = document_tree(rt, file)?;
-        tell_unknown(rt, &document)?;
-        whole = with_tree(rt.alloc(), whole, uri, document, draft)?;
+    for document in &documents {
+        whole = with_file(rt, whole, document, draft)?;
     }
     Ok(whole)
+}
+
+/// A further document.
+#[derive(Drop)]
+struct Document {
+    /// Where it was found, by the URI of the schema.
+    uri: String,
+    /// The name of its file.
+    file: String,
+}
+
+/// The document in this file: found at this URI, or else where the schema's file leads to it.
+fn document_of(
+    alloc: Global,
+    schema: &str,
+    uri: Option<&str>,
+    file: &str,
+) -> Result<Document, AllocError> {
+    let uri = match uri {
+        Some(uri) => String::from_str(alloc, uri)?,
+        None => reference(alloc, plain(schema), plain(file))?,
+    };
+    let file = String::from_str(alloc, file)?;
+    Ok(Document { uri, file })
+}
+
+/// The documents that the texts of `-r` name.
+fn documents_of(
+    rt: &HostRuntime,
+    schema: &str,
+    texts: &[Text<'_>],
+) -> Result<Vec<Document>, Failure> {
+    let mut documents = Vec::new(rt.alloc());
+    for text in texts {
+        let (uri, name) = located(text.value);
+        if name != "-" && is_folder(rt, name) {
+            add_files(rt, &mut documents, schema, uri, name)?;
+        } else {
+            let document = document_of(rt.alloc(), schema, uri, name)?;
+            add(&mut documents, document)?;
+        }
+    }
+    Ok(documents)
+}
+
+/// Adds the documents below a folder but the schema. Where the folder has a URI, theirs begin with it.
+fn add_files(
+    rt: &HostRuntime,
+    documents: &mut Vec<Document>,
+    schema: &str,
+    uri: Option<&str>,
+    folder: &str,
+) -> Result<(), Failure> {
+    let alloc = rt.alloc();
+    for name in &json_files(rt, folder)? {
+        let file = joined(alloc, folder, name.as_str())?;
+        if is_same(rt, schema, file.as_str()) {
+            continue;
+        }
+        let document = match uri {
+            Some(uri) => Document {
+                uri: joined(alloc, uri, name.as_str())?,
+                file,
+            },
+            None => document_of(alloc, schema, None, file.as_str())?,
+        };
+        add(documents, document)?;
+    }
+    Ok(())
+}
+
+fn add(documents: &mut Vec<Document>, document: Document) -> Result<(), AllocError> {
+    documents.push(document)?;
+    Ok(())
+}
+
+/// Whether two names are of one file.
+fn is_same(rt: &HostRuntime, one: &str, other: &str) -> bool {
+    match (fs::metadata(rt, one), fs::metadata(rt, other)) {
+        (Ok(one), Ok(other)) => one.dev() == other.dev() && one.ino() == other.ino(),
+        _ => false,
+    }
+}
+
+/// The schema with the document of a file.
+fn with_file(
+    rt: &HostRuntime,
+    whole: Whole,
+    document: &Document,
+    default: Draft,
+) -> Result<Whole, Failure> {
+    let uri = document.uri.as_str();
+    if has_definition(&whole.tree, uri) {
+        return Err(schema_failure(rt.alloc(), &SchemaFailure::Twice(uri)));
+    }
+    let tree = document_tree(rt, document.file.as_str())?;
+    tell_unknown(rt, &tree)?;
+    with_tree(rt.alloc(), whole, uri, tree, default)
 }
 
 /// The schema with the document that was found at the URI.
@@ -58,23 +154,6 @@ fn with_tree(
         tree: with_document(whole.tree, uri, document, alloc)?,
         is_older,
     })
-}
-
-/// The URI and the file of a document: of `URI=FILE`, or of a file alone, whose URI is its name, from the folder on if it
-/// is there.
-fn located<'t>(folder: &str, text: &'t str) -> (&'t str, &'t str) {
-    match text.split_once('=') {
-        Some(parts) => parts,
-        None => (text.strip_prefix(folder).unwrap_or(text), text),
-    }
-}
-
-/// The name of a file's folder with the last `/`, and the name in it.
-fn split_folder(file: &str) -> (&str, &str) {
-    match file.rfind('/') {
-        Some(at) => file.split_at(at + 1),
-        None => ("", file),
-    }
 }
 
 /// Parses a document's file. Not inlined, so that a later check has all of the stack.

@@ -7,7 +7,9 @@ ghost use Rattle.json_schema.specs.Options.{asks, asked_shows, are_lines};
 
 mod documents;
 mod failure;
+mod folder;
 mod lines;
+mod names;
 mod refusal;
 mod report;
 mod unknown;
@@ -110,7 +112,8 @@ Options:
   -m, --max-line N  with -l: do not check or keep a line of more than N bytes
   -d, --draft N     read a schema that names no draft in draft N
   -r, --ref FILE    let references lead into this schema, too: by its $id or its
-                    name in the folder of SCHEMA, or by a URI: -r URI=FILE
+                    name as seen from SCHEMA, or by a URI: -r URI=FILE; or into
+                    each *.json file below a folder: -r FOLDER
   -f, --assert-format  assert \"format\" of strings: date, time, date-time,
                     duration, email, hostname, ipv4, ipv6, uri, uri-reference,
                     uuid, json-pointer, relative-json-pointer; others are told
