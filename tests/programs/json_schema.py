@@ -13,6 +13,7 @@ from pages import Page, misused
 from places import TOP
 from padded_schemas import padded_lines, padded_refused, padded_values
 from padding import padded_rows
+from parts import located
 from running import program, reported, run_of, run_small
 from values import LONG, NESTED, NOT_UTF8, normal
 
@@ -1055,6 +1056,26 @@ REASONS = [
     ([], '{"maximum":null}', "/maximum", "must be a number, is null"),
 ]
 
+# By {"properties":{"a":{"maximum":10}},"items":{"maxItems":1}}: the arguments, the input, the pointer to the part, and its line and column.
+PLACES = [
+    # White space before the value, of which a line feed alone begins a line, and a character is one column.
+    ([], b'{"a":12}', "/a", 1, 6),
+    ([], b'{\n  "a": 12\n}', "/a", 2, 8),
+    ([], b'\n\n\t{"a"\n:\r\n\t 12 }', "/a", 5, 3),
+    ([], b'\r\r{"a":\r12}', "/a", 1, 9),
+    ([], '{"é𝄞":"\u2028","a":12}'.encode(), "/a", 1, 15),
+    # Of equal keys the last one counts, however it is written; what looks like the key in a string or further inside is none.
+    ([], b'{"a":12,"a":13}', "/a", 1, 13),
+    ([], b'{"a":1,"\\u0061":12,"b":{"a":1}}', "/a", 1, 17),
+    ([], b'{"b":"\\",\\"a\\":1","a":12}', "/a", 1, 23),
+    # Items, by how many commas are before them, but not of those in strings and inner containers.
+    ([], b'[[1],[],\n[1,\n2]]', "/2", 2, 1),
+    ([], b'["],[", {"a":[1,2]}, [],[1,2]]', "/3", 1, 25),
+    # Of lines it is the number, and the column in the line.
+    (["-l"], b'{"a":1}\n\t{"a":12}\n', "/a", 2, 7),
+    (["-l"], '[]\r\n["é",[1,2]]'.encode(), "/1", 2, 6),
+]
+
 # How many containers of a schema and of a value may be open.
 LEVELS = 100
 
@@ -1064,9 +1085,9 @@ def judged(places):
     return (0, b"", b"") if places is None else (1, unit_of(*places), b"")
 
 
-def unit_of(instance, keyword, error=UNMET, **line):
-    """The line that is printed of a value that is not valid."""
-    unit = {"error": error, "instanceLocation": instance, "keywordLocation": keyword, **line, "valid": False}
+def unit_of(instance, keyword, error=UNMET, **place):
+    """The line that is printed of a value that is not valid; `located` adds the line and the column that `place` lacks."""
+    unit = {"error": error, "instanceLocation": instance, "keywordLocation": keyword, **place, "valid": False}
     return normal(unit) + b"\n"
 
 
@@ -1259,7 +1280,7 @@ ROWS = [
     ([NOT_UTF8], b"1", misused("json_schema", "an argument is not UTF-8")),
     (["-L", SCHEMA], b"1", misused("json_schema", 'unknown option "-L"')),
     *((words, b"1", misused("json_schema", "no text after -r")) for words in ([SCHEMA, "-r"], ["--ref"])),
-    *((words, b"1\n", (1, unit_of("", "/type", NO_OBJECT, line=1), b"")) for words in ([SCHEMA, "-l"], ["--lines", SCHEMA, "-"])),
+    *((words, b"1\n", (1, unit_of("", "/type", NO_OBJECT, line=1, column=1), b"")) for words in ([SCHEMA, "-l"], ["--lines", SCHEMA, "-"])),
     (["/none"], b"1", reported(2, "json_schema", "/none: No such file or directory (os error 2)")),
     (["/"], b"1", reported(2, "json_schema", "/: Is a directory (os error 21)")),
     ([SCHEMA], b"[1,]", reported(3, "json_schema", "Parse error at line:1, col:3: Invalid character: ]")),
@@ -1276,9 +1297,9 @@ STREAMS = [
 ]
 
 # The arguments, an input, what is printed of it, and the statuses and words where a read and where a write fails.
-LINES, REPORTS = b"1\n" * 5_000, b"".join(unit_of("", "/type", NO_OBJECT, line=i + 1) for i in range(5_000))
+LINES, REPORTS = b"1\n" * 5_000, b"".join(unit_of("", "/type", NO_OBJECT, line=i + 1, column=1) for i in range(5_000))
 FAILING = [
-    ([SCHEMA], b"[" + LONG + b"]", unit_of("", "/type", "must be an object, is an array"), (4, BROKEN), (4, BROKEN)),
+    ([SCHEMA], b"[" + LONG + b"]", unit_of("", "/type", "must be an object, is an array", line=1, column=1), (4, BROKEN), (4, BROKEN)),
     (["-l", SCHEMA], LINES, REPORTS, (4, BROKEN), (4, BROKEN)),
     (["-i", SCHEMA], LINES, LINES, (4, BROKEN), (4, BROKEN)),
 ]
@@ -1341,8 +1362,20 @@ def placed(*checked_by):
 def check_words(checks):
     for row in WORDS:
         schema, value, instance, keyword, words = row
-        expected = (1, unit_of(instance, keyword, words), b"")
+        expected = located(value.encode(), (1, unit_of(instance, keyword, words), b""))
         checks.row(f"json_schema: words of {schema[:60]} {value[:60]}", expected, checked, checks.folder, schema, [], value.encode(), at=row)
+
+
+def check_places(checks):
+    """Where parts begin, as it was counted by hand, and as `located` has it, which gives the other rows their places."""
+    schema, keywords = '{"properties":{"a":{"maximum":10}},"items":{"maxItems":1}}', {"/a": "/properties/a/maximum"}
+    for row in PLACES:
+        words, given, instance, line, column = row
+        unit = (instance, keywords.get(instance, "/items/maxItems"))
+        expected = (1, unit_of(*unit, line=line, column=column), b"")
+        checks.row(f"json_schema: place {words} {given[:60]}", expected, placed, checks.folder, schema, words, given, at=row)
+        unplaced = (1, unit_of(*unit, line=line) if words else unit_of(*unit), b"")
+        checks.row(f"json_schema: place by Python {words} {given[:60]}", expected, located, given, unplaced, at=row)
 
 
 def check_reasons(checks):
@@ -1355,7 +1388,7 @@ def check_reasons(checks):
 def check_rows(checks):
     for row, schema, value, expected in answers():
         name = f"json_schema: {schema[:60]} {value[:60]}"
-        checks.row(name, expected, placed, checks.folder, schema, [], value.encode(), at=row)
+        checks.row(name, located(value.encode(), expected), placed, checks.folder, schema, [], value.encode(), at=row)
     for row in ROWS:
         words, given, expected = row
         checks.row(f"json_schema: {words} {given}", expected, run_of, program("json_schema"), words, given, at=row)
@@ -1363,7 +1396,7 @@ def check_rows(checks):
 
 def check_drafts(checks):
     """The draft that is asked for is that of a schema which names none, or one that is not known."""
-    row = lambda words, schema, answer: checks.row(f"json_schema: {words} {schema[:60]}", answer, placed, checks.folder, schema, words, b"[1,2]")
+    row = lambda words, schema, answer: checks.row(f"json_schema: {words} {schema[:60]}", located(b"[1,2]", answer), placed, checks.folder, schema, words, b"[1,2]")
     listed, invalid = '{"items":[true],"additionalItems":false}', (1, unit_of("/1", "/items"), b"")
     refused = lambda place: reported(2, "json_schema", NOT_APPLIED % place)
     for words in (["-d", "7"], ["-d6"], ["--draft", "7"], ["--draft=6"], ["-d", "2020", "-d", "7"]):
@@ -1392,20 +1425,20 @@ def check_lines(checks):
     for row in BY_LINES:
         schema, given, reports, lines, status = row
         output = b"".join(unit_of(instance, keyword, line=line) for line, instance, keyword in reports)
-        name, expected = f"json_schema: -l {schema[:60]} {given[:60]}", (status, output, told(lines))
+        name, expected = f"json_schema: -l {schema[:60]} {given[:60]}", located(given, (status, output, told(lines)))
         checks.row(name, expected, placed, checks.folder, schema, ["-l"], given, at=row)
 
 
 def limited(lines):
     """The answer for lines by a schema that no value meets; some are longer than a limit."""
-    output = b"".join(unit_of("", "", "is not allowed", line=at) for at, line in enumerate(lines, 1) if not isinstance(line, int))
+    output = b"".join(unit_of("", "", "is not allowed", line=at, column=1) for at, line in enumerate(lines, 1) if not isinstance(line, int))
     errors = told([f"line {at}: longer than {line} bytes" for at, line in enumerate(lines, 1) if isinstance(line, int)])
     return 1, output, errors
 
 
 def check_formats(checks):
     """Formats are asserted with `-f` alone."""
-    row = lambda words, schema, given, answer: checks.row(f"json_schema: {words} {schema[:60]} {given[:60]}", answer, placed, checks.folder, schema, words, given)
+    row = lambda words, schema, given, answer: checks.row(f"json_schema: {words} {schema[:60]} {given[:60]}", located(given, answer), placed, checks.folder, schema, words, given)
     for name, valid, others in FORMATS:
         schema = json.dumps({"format": name})
         given = b"".join(json.dumps(text).encode() + b"\n" for text in valid + others)
@@ -1420,7 +1453,7 @@ def check_formats(checks):
         row(["-f"], schema, b"1", (int("enum" in schema), unit_of("", "/enum") if "enum" in schema else b"", told(f'the schema: "{name}" is an unknown format' for name in names)))
     row([], UNKNOWN_FORMATS[0][0], b"1", judged(None))
     for name, words in (("date-time", 'must be a date-time, is "x"'), ("ipv4", 'must be an ipv4, is "x"'), ("email", 'must be an email, is "x"')):
-        schema, expected = json.dumps({"format": name}), (1, unit_of("", "/format", words), b"")
+        schema, expected = json.dumps({"format": name}), located(b'"x"', (1, unit_of("", "/format", words), b""))
         checks.row(f"json_schema: words of {schema}", expected, checked, checks.folder, schema, ["-f"], b'"x"')
 
 
@@ -1430,7 +1463,7 @@ def check_long_lines(checks):
     with open(schema, "wb") as file:
         file.write(b"false")
     LongLines("json_schema", ["-l", schema], limited, is_going=True).check(checks)
-    checks.row("json_schema: --max-line without -l", (1, unit_of("", "", "is not allowed"), b""), run_of, program("json_schema"), ["-m2", schema], b"[1,2]")
+    checks.row("json_schema: --max-line without -l", (1, unit_of("", "", "is not allowed", line=1, column=1), b""), run_of, program("json_schema"), ["-m2", schema], b"[1,2]")
 
 
 def check_files(checks):
@@ -1441,13 +1474,13 @@ def check_files(checks):
         with open(os.path.join(checks.folder, name), "wb") as file:
             file.write(text)
     run = lambda words, given=b"": run_small(program("json_schema"), words, given, cwd=checks.folder)
-    below = lambda line, value: unit_of("", "/minimum", f"must be at least 0, is {value}", line=line)
+    below = lambda line, value: unit_of("", "/minimum", f"must be at least 0, is {value}", line=line, column=1)
     told_of_b = b"b:1:3: Invalid character: ]\nb:3: not UTF-8\nb:4: " + too_many + b"\n"
     answer = (1, below(2, -1) + below(2, -2) + below(1, -1), told_of_b)
     checks.row("json_schema: -l, files", answer, run, ["-l", "schema", "a", "b", "-"], b"-1")
     answer = (4, below(2, -1) + below(2, -2), b"none: No such file or directory (os error 2)\n" + told_of_b)
     checks.row("json_schema: -l, no file", answer, run, ["schema", "a", "none", "b", "--lines"])
-    answer = (3, unit_of("", "/minimum", "must be at least 0, is -1"), b"deep: " + too_many + b"\n")
+    answer = (3, below(1, -1), b"deep: " + too_many + b"\n")
     checks.row("json_schema: a file, too many schemas", answer, run, ["schema", "deep", "-"], b"-1")
     answer = reported(3, "json_schema", too_many.decode())
     checks.row("json_schema: too many schemas", answer, run, ["schema"], deep)
@@ -1459,17 +1492,17 @@ TEXT_SCHEMA = b'{"properties":{"a":{"maximum":10},"b\\u001b/":false},"type":"obj
 TEXT_FILES = [("good", b'{"a":10}'), ("bad", b'{"a":12}'), ("lines", b'{"a":12}\n{}\r\n[1,]\n[]\n {"a": 1}'), ("large", b'{"a":12,"z":"' + b"x" * 90 + b'"}\n{}\n"\xff"\n')]
 TOLD_OF_LINES, TOLD_OF_LARGE = b"lines:3:3: Invalid character: ]\n", b"large:3: not UTF-8\n"
 TEXTS = [
-    # The name of a file, the place and the words; of the whole value, and of standard input, the place is empty.
+    # The name of a file, the line and the column, the pointer and the words; the pointer to the whole value is empty.
     (["-t"], ["good"], b"", 0, b"", b""),
-    (["-t"], ["bad", "good", "bad"], b"", 1, b"bad:/a must be at most 10, is 12\n" * 2, b""),
-    (["--text"], [], b'{"a":11}', 1, b"/a must be at most 10, is 11\n", b""),
-    (["-t"], ["-", "bad"], b"[]", 1, b"must be an object, is an array\nbad:/a must be at most 10, is 12\n", b""),
-    (["-t"], ["-"], b'{"b\\u001b/":1}', 1, b"/bU+001B~1 is not allowed\n", b""),
-    (["-t"], ["none", "bad"], b"", 4, b"bad:/a must be at most 10, is 12\n", b"none: No such file or directory (os error 2)\n"),
+    (["-t"], ["bad", "good", "bad"], b"", 1, b"bad:1:6: /a must be at most 10, is 12\n" * 2, b""),
+    (["--text"], [], b'{"a":11}', 1, b"line 1, col 6: /a must be at most 10, is 11\n", b""),
+    (["-t"], ["-", "bad"], b"\n []", 1, b"line 2, col 2: must be an object, is an array\nbad:1:6: /a must be at most 10, is 12\n", b""),
+    (["-t"], ["-"], b'{"b\\u001b/":1}', 1, b"line 1, col 13: /bU+001B~1 is not allowed\n", b""),
+    (["-t"], ["none", "bad"], b"", 4, b"bad:1:6: /a must be at most 10, is 12\n", b"none: No such file or directory (os error 2)\n"),
     # Of lines with the number.
-    (["-lt"], ["lines"], b"", 1, b"lines:1:/a must be at most 10, is 12\nlines:4: must be an object, is an array\n", TOLD_OF_LINES),
-    (["-l", "--text"], [], b'{}\n{"a":99}', 1, b"2:/a must be at most 10, is 99\n", b""),
-    (["-lt"], ["-"], b"[]", 1, b"1: must be an object, is an array\n", b""),
+    (["-lt"], ["lines"], b"", 1, b"lines:1:6: /a must be at most 10, is 12\nlines:4:1: must be an object, is an array\n", TOLD_OF_LINES),
+    (["-l", "--text"], [], b'{}\n {"a":99}', 1, b"line 2, col 7: /a must be at most 10, is 99\n", b""),
+    (["-lt"], ["-"], b"[]", 1, b"line 1, col 1: must be an object, is an array\n", b""),
     # The lines that are valid, or the others; each ends with a line feed.
     (["-v"], ["lines", "good"], b"", 1, b'{}\r\n {"a": 1}\n{"a":10}\n', TOLD_OF_LINES),
     (["-l", "--valid"], [], b'{}\n\n{"a":11}\n{"a":1}', 1, b'{}\n{"a":1}\n', b"json_schema: line 2, col 0: Unexpected EOF\n"),
@@ -1606,7 +1639,7 @@ def with_files(folder, files, words, given):
 
 def check_documents(checks):
     def row(files, words, value, expected, at):
-        checks.row(f"json_schema: {words} {list(files)} {value[:60]}", expected, with_files, checks.folder, files, words, value.encode(), at=at)
+        checks.row(f"json_schema: {words} {list(files)} {value[:60]}", located(value.encode(), expected), with_files, checks.folder, files, words, value.encode(), at=at)
 
     for at in DOCUMENTS + FOLDERS:
         files, words, valid, others = at
@@ -1632,8 +1665,9 @@ def check_padded(checks):
         _, valid, others = row
         places = enumerate((places for _, *places in others), len(valid) + 1)
         output = b"".join(unit_of(*place, line=number) for number, place in places)
-        name, expected = f"json_schema: padded {row[0][:60]}", (int(others != []), output, b"")
-        checks.row(name, expected, placed, checks.folder, schema, ["-l"], b"\n".join(values), at=row)
+        given = b"\n".join(values)
+        name, expected = f"json_schema: padded {row[0][:60]}", located(given, (int(others != []), output, b""))
+        checks.row(name, expected, placed, checks.folder, schema, ["-l"], given, at=row)
     rows = [(row, row[0]) for row in REFUSED + REFUSED_REFERENCES + REFUSED_ANCHORS + REFUSED_RESOURCES]
     for row, schema in padded_rows(checks, "json_schema, refused", rows, padded_refused, UNPADDED_REFUSED):
         name, expected = f"json_schema: padded {row[0][:60]}", reported(2, "json_schema", NOT_APPLIED % row[1])
@@ -1648,7 +1682,7 @@ def check_padded_lines(checks):
     for row, (schema, given) in padded_rows(checks, "json_schema -l", rows, padded_lines, {"a large text": 2}):
         _, _, reports, lines, status = row
         output = b"".join(unit_of(instance, keyword, line=line) for line, instance, keyword in reports)
-        name, expected = f"json_schema: padded -l {row[0][:60]} {row[1][:60]}", (status, output, told(lines))
+        name, expected = f"json_schema: padded -l {row[0][:60]} {row[1][:60]}", located(given, (status, output, told(lines)))
         checks.row(name, expected, placed, checks.folder, schema, ["-l"], given, at=row)
 
 
@@ -1669,7 +1703,7 @@ def in_one_file(folder, words, given):
 
 def check_order(checks):
     """What is printed and what is told of lines in the order of these."""
-    each = (unit_of("", "/type", NO_OBJECT, line=i) + told([f"line {i + 1}, col 3: Invalid character: ]"]) for i in range(1, 3 * TURNS, 3))
+    each = (unit_of("", "/type", NO_OBJECT, line=i, column=1) + told([f"line {i + 1}, col 3: Invalid character: ]"]) for i in range(1, 3 * TURNS, 3))
     given = b'1\n[1,]\n{"id":1}\n' * TURNS
     checks.row("json_schema: -l in one file", (1, b"".join(each)), in_one_file, checks.folder, ["-l", SCHEMA], given)
 
@@ -1686,4 +1720,4 @@ def check_memory(checks):
 
 PAGE, LINES_PAGE = Page("json_schema", [SCHEMA], b"[1]"), Page("json_schema", ["-l", SCHEMA], b"[1]", is_lines=True)
 
-PARTS = (PAGE.check, LINES_PAGE.check_pipes, *shared(check_rows), check_words, check_reasons, check_drafts, check_formats, check_lines, check_long_lines, check_files, check_texts, check_documents, check_padded, check_padded_lines, check_deep, check_order, check_faults, *shared(check_memory))
+PARTS = (PAGE.check, LINES_PAGE.check_pipes, *shared(check_rows), check_words, check_places, check_reasons, check_drafts, check_formats, check_lines, check_long_lines, check_files, check_texts, check_documents, check_padded, check_padded_lines, check_deep, check_order, check_faults, *shared(check_memory))

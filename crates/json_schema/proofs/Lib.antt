@@ -2,6 +2,7 @@ mod Cutting
 pub mod Examples
 pub mod Handling
 pub mod Outcomes
+pub mod Placing
 pub mod Running
 mod Sharing
 pub mod Verdicts

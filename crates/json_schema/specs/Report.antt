@@ -1,25 +1,34 @@
--- The report of a value that is not valid, for people.
+-- The report of a value that is not valid, with the line and the column at which the part begins.
 use Rattle.std.specs.Fmt.{decimal}
-use Rattle.std.specs.Prelude.{ℕ, List, [], ◌∷◌, ◌++◌, Option, Some, None, codes, cond, length, ◌==◌}
+use Rattle.std.specs.Prelude.{ℕ, pos, List, [], ◌∷◌, ◌++◌, Option, Some, None, codes, cond, length, ◌==◌}
 use Rattle.std.specs.Str.{chars}
 use Rattle.tinyjson.specs.Characters.{line_feed}
+use Rattle.tinyjson.specs.Number.{integer_decimal}
+use Rattle.tinyjson.specs.Tree.{Tree, number, object, put}
 use Rattle.tinyjson.specs.View.{text}
 use Rattle.tinyjson_pointer.specs.Text.{pointer_text}
 use Rattle.tinyjson_pointer.specs.Tokens.{tokens_of}
 use Rattle.tinyjson_cli.specs.Shown.{shown}
-use Rattle.tinyjson_schema_report.specs.declared.found.Finding.{Finding}
+use Rattle.tinyjson_schema_report.specs.Report.{report_tree}
+use Rattle.json_schema.specs.declared.verdict.Located.{Located}
 
--- where the value is: in the file with this name, on the line with this number, and at this place
-abbrev pub text_head : Option (List ℕ) → Option ℕ → List ℕ → List ℕ
-text_head (Some f) (Some n) p = shown (chars f) ++ (codes ":" ++ (decimal n ++ (codes ":" ++ shown p)))
-text_head (Some f) None p = shown (chars f) ++ (codes ":" ++ shown p)
-text_head None (Some n) p = decimal n ++ (codes ":" ++ shown p)
-text_head None None p = shown p
+-- the report with its column as a member
+abbrev pub with_column : ℕ → Tree → Tree
+with_column n (object ms) = object (put (codes "column") (number (integer_decimal (pos n))) ms)
+with_column n t = t
+
+abbrev pub located_tree : ℕ → Located → Tree
+located_tree line l = with_column l.place.column (report_tree (Some line) l.finding)
+
+-- the text behind the place at which the part begins, in the file with this name or in standard input
+abbrev pub text_at : Option (List ℕ) → ℕ → ℕ → List ℕ → List ℕ
+text_at (Some f) n c ws = shown (chars f) ++ (codes ":" ++ (decimal n ++ (codes ":" ++ (decimal c ++ (codes ": " ++ ws)))))
+text_at None n c ws = codes "line " ++ (decimal n ++ (codes ", col " ++ (decimal c ++ (codes ": " ++ ws))))
 
 abbrev pub headed : List ℕ → List ℕ → List ℕ
 headed h words = cond (length h == 0) words (h ++ (codes " " ++ words))
 
--- `data.json:/a must be at most 10, is 12`
-abbrev pub text_line : Option (List ℕ) → Option ℕ → Finding → List ℕ
-text_line file line f =
-    headed (text_head file line (pointer_text (tokens_of f.violation.instance_location))) (shown (text f.words) ++ line_feed ∷ [])
+-- `data.json:3:7: /a must be at most 10, is 12`
+abbrev pub text_line : Option (List ℕ) → ℕ → Located → List ℕ
+text_line file line l = text_at file line l.place.column
+    (headed (shown (pointer_text (tokens_of l.finding.violation.instance_location))) (shown (text l.finding.words) ++ line_feed ∷ []))

@@ -8,9 +8,7 @@ use Rattle.tinyjson_cli.specs.declared.status.Status.{Status}
 use Rattle.tinyjson_cli.specs.declared.status.Status.TheVariants as ended
 use Rattle.tinyjson_lines.specs.Line.{line_of}
 use Rattle.tinyjson_lines.specs.Lines.{AnswersAll, StopsAmong, content}
-use Rattle.tinyjson_schema_report.specs.Report.{report_tree}
-use Rattle.tinyjson_schema_report.specs.declared.found.Finding.{Finding}
-use Rattle.json_schema.specs.Report.{text_line}
+use Rattle.json_schema.specs.Report.{located_tree, text_line}
 use Rattle.json_schema.specs.Told.{told_line}
 use Rattle.json_schema.specs.Verdicts.{judged, GivesWithin}
 use Rattle.json_schema.specs.declared.lines.Check.{Check}
@@ -20,6 +18,7 @@ use Rattle.json_schema.specs.declared.lines.Shows.{Shows}
 use Rattle.json_schema.specs.declared.lines.Shows.TheVariants.{Reports, Texts, ValidLines, OtherLines}
 use Rattle.json_schema.specs.declared.verdict.Cause.{Cause}
 use Rattle.json_schema.specs.declared.verdict.Cause.TheVariants.{TooLong}
+use Rattle.json_schema.specs.declared.verdict.Located.{Located}
 use Rattle.json_schema.specs.declared.verdict.Verdict.{Verdict}
 use Rattle.json_schema.specs.declared.verdict.Verdict.TheVariants.{Valid, Invalid, Refused}
 
@@ -59,15 +58,15 @@ is_line_shown Valid s = is_valids s
 is_line_shown (Invalid v) s = is_others s
 is_line_shown (Refused c) s = is_kept c && is_others s
 
-abbrev pub report_by : Shows → Option (List ℕ) → ℕ → Finding → List ℕ
-report_by Reports file n f = line_of (report_tree (Some n) f)
-report_by Texts file n f = text_line file (Some n) f
-report_by ValidLines file n f = []
-report_by OtherLines file n f = []
+abbrev pub report_by : Shows → Option (List ℕ) → ℕ → Located → List ℕ
+report_by Reports file n l = line_of (located_tree n l)
+report_by Texts file n l = text_line file n l
+report_by ValidLines file n l = []
+report_by OtherLines file n l = []
 
--- the report of a value that is not valid
+-- the report of a value that is not valid, with the line's number
 abbrev pub report_of : Verdict → Shows → Option (List ℕ) → ℕ → List ℕ
-report_of (Invalid f) s file n = report_by s file n f
+report_of (Invalid l) s file n = report_by s file n l
 report_of _ s file n = []
 
 -- what is written for the line with this number

@@ -9,12 +9,15 @@ use Rattle.tinyjson.specs.Tree.{Tree}
 use Rattle.tinyjson.specs.declared.parser.error.JsonParseError.{JsonParseError}
 use Rattle.tinyjson_lines.specs.Lines.{content}
 use Rattle.tinyjson_lines.specs.Within.{IsLonger, IsWithin}
+use Rattle.tinyjson_places.specs.Places.{Locates}
+use Rattle.tinyjson_pointer.specs.Tokens.{tokens_of}
 use Rattle.tinyjson_schema.specs.Reading.{root_in}
 use Rattle.tinyjson_schema.specs.Valid.{Root}
 use Rattle.tinyjson_schema_keywords.specs.declared.walk.CheckError.TheVariants as check
 use Rattle.tinyjson_schema_report.specs.Finds.{FindsIn}
 use Rattle.json_schema.specs.declared.verdict.Cause.TheVariants as cause
 use Rattle.json_schema.specs.declared.verdict.Judge.{Judge}
+use Rattle.json_schema.specs.declared.verdict.Located.{Located}
 use Rattle.json_schema.specs.declared.verdict.Verdict.{Verdict}
 use Rattle.json_schema.specs.declared.verdict.Verdict.TheVariants.{Valid, Invalid, Refused}
 
@@ -29,13 +32,17 @@ step_limit = 200
 abbrev pub judged : Judge → Root
 judged j = root_in j.schema.now j.formats
 
--- the verdict on the tree t by the schema s
-abbrev pub ValueGives : Root → Tree → Verdict → Type 0
-ValueGives s t Valid = FindsIn step_limit s t (Ok None)
-ValueGives s t (Invalid f) = FindsIn step_limit s t (Ok (Some f))
-ValueGives s t (Refused cause.TooDeep) = FindsIn step_limit s t (Err check.TooDeep)
-ValueGives s t (Refused cause.TooMuch) = FindsIn step_limit s t (Err check.TooMuch)
-ValueGives s t (Refused _) = ⊥
+-- The place is where the part begins in the text xs that is not valid.
+abbrev pub IsLocated : List ℕ → Located → Type 0
+IsLocated xs l = Locates xs (tokens_of l.finding.violation.instance_location) (Ok (Some l.place))
+
+-- the verdict on the tree t of the text xs by the schema s
+abbrev pub ValueGives : List ℕ → Root → Tree → Verdict → Type 0
+ValueGives xs s t Valid = FindsIn step_limit s t (Ok None)
+ValueGives xs s t (Invalid l) = FindsIn step_limit s t (Ok (Some l.finding)) × IsLocated xs l
+ValueGives xs s t (Refused cause.TooDeep) = FindsIn step_limit s t (Err check.TooDeep)
+ValueGives xs s t (Refused cause.TooMuch) = FindsIn step_limit s t (Err check.TooMuch)
+ValueGives xs s t (Refused _) = ⊥
 
 -- the characters are no JSON text, with this error of the parser
 abbrev pub IsNoText : List ℕ → JsonParseError → Type 0
@@ -44,7 +51,7 @@ IsNoText xs e = ParsesText depth_limit xs (Err e) × ¬ (error_kind e ≡ kind.O
 -- the characters are a JSON text with this verdict on its value, or they are no JSON text
 abbrev pub TextGives : Root → List ℕ → Verdict → Type 0
 TextGives s xs (Refused (cause.NotJson e)) = IsNoText xs e
-TextGives s xs v = (t : Tree) × IsText depth_limit xs t × ValueGives s t v
+TextGives s xs v = (t : Tree) × IsText depth_limit xs t × ValueGives xs s t v
 
 -- the same for a line without its line feed, or it is not UTF-8
 abbrev pub LineGives : Root → List ℕ → Verdict → Type 0

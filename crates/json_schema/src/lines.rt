@@ -9,12 +9,11 @@ ghost use Rattle.json_schema.specs.Run.{is_line_shown, is_others, is_kept};
 
 use crate::refusal::{Unchecked, tell_line};
 use crate::report::{write_report, write_text};
-use crate::verdict::{Cause, Judge, Verdict, check_line};
+use crate::verdict::{Cause, Judge, Located, Verdict, check_line};
 use std::alloc::Global;
 use std::io::{self, BufRead, ErrorKind, Write};
 use tinyjson_cli::Status;
 use tinyjson_lines::{LineRead, content, read_line_within, write_all};
-use tinyjson_schema_report::Finding;
 
 /// The schema that lines are checked against, and the file that they are from.
 #[derive(Clone, Copy)]
@@ -78,8 +77,8 @@ impl Outcome {
 }
 
 /// Checks the JSON text on each line of the input. For one that is not valid it writes a report with the line's
-/// number to `output`, or it writes there the lines that are valid, or the others. For one that can't be checked it
-/// writes the number and the reason to `errors`, and goes on.
+/// number and the column to `output`, or it writes there the lines that are valid, or the others. For one that can't
+/// be checked it writes the number and the reason to `errors`, and goes on.
 ///
 /// A line ends after its line feed, and the last one with the input. One that is too long is not kept in memory. The
 /// error is out of memory, or a read or a write that fails. Then a prefix was written of the output and of the
@@ -175,7 +174,7 @@ fn show<W: Write>(
         return write_content(line, output);
     }
     match verdict {
-        Verdict::Invalid(finding) => show_finding(alloc, check, number, finding, output),
+        Verdict::Invalid(located) => show_finding(alloc, check, number, located, output),
         Verdict::Valid => Ok(()),
         Verdict::Refused(_) => Ok(()),
     }
@@ -210,15 +209,15 @@ fn show_finding<W: Write>(
     alloc: Global,
     check: Check<'_, '_>,
     number: u64,
-    finding: &Finding,
+    located: &Located,
     output: &mut W,
 ) -> io::Result<()>
     ensures { WritesPrefix (W.contents output.old) (W.contents output.new)
-        (report_by check.entry.shows (file_of check.entry) number finding.now) result }
+        (report_by check.entry.shows (file_of check.entry) number located.now) result }
 {
     match check.shows {
-        Shows::Reports => write_report(alloc, Some(number), finding, output),
-        Shows::Texts => write_text(alloc, check.file, Some(number), finding, output),
+        Shows::Reports => write_report(alloc, number, located, output),
+        Shows::Texts => write_text(alloc, check.file, number, located, output),
         Shows::ValidLines => Ok(()),
         Shows::OtherLines => Ok(()),
     }

@@ -96,7 +96,7 @@ Usage: json_schema [-lf] [-t | -v | -i] [-m N] [-d N] [-r FILE].. SCHEMA [FILE..
 Checks JSON texts against a JSON Schema of draft 4, 6, 7, 2019-09 or 2020-12.
 SCHEMA is the name of the schema's file. Of a value that is not valid one line
 of JSON is printed: what was wanted and what the value is, the place in the
-schema, and the place in the value.
+schema, and the place in the value, with its line and column.
 
 The texts are those of the files, or standard input where none is named; '-' is
 standard input, too. Options may come anywhere; after '--' all are operands.
@@ -106,7 +106,7 @@ that of --draft: 4, 6, 7, 2019 for 2019-09, or 2020 for 2020-12, the default.
 
 Options:
   -l, --lines       check each line; reports and messages have its number
-  -t, --text        print reports for people: a.json:/b must be a string, is null
+  -t, --text        print reports for people: a.json:1:6: /b is not allowed
   -v, --valid       check each line, and print those that are valid
   -i, --invalid     check each line, and print the others
   -m, --max-line N  with -l: do not check or keep a line of more than N bytes
@@ -133,7 +133,7 @@ Examples:
   $ printf '[1]\\n[\"a\"]\\n' | json_schema -l schema.json | grep -c '\"line\":2'
   1
   $ echo '[1, \"a\"]' | json_schema --text schema.json
-  /1 must be an integer, is a string
+  line 1, col 5: /1 must be an integer, is a string
   $ printf '[1]\\n[\"a\"]\\n' | json_schema --valid schema.json
   [1]
 ",
@@ -404,14 +404,15 @@ impl Answer for AskedText<'_, '_, '_> {
         output: &mut W,
     ) -> Result<Status, Failure> {
         self.is_read.set(true);
-        let finding = match check_text(alloc, self.judge, text)? {
+        let located = match check_text(alloc, self.judge, text)? {
             Verdict::Valid => return Ok(Status::Done),
             Verdict::Refused(cause) => return Err(text_failure(alloc, cause)),
-            Verdict::Invalid(finding) => finding,
+            Verdict::Invalid(located) => located,
         };
+        let line = located.place.line as u64;
         let written = match self.shows {
-            Shows::Texts => write_text(alloc, self.file, None, &finding, output),
-            _ => write_report(alloc, None, &finding, output),
+            Shows::Texts => write_text(alloc, self.file, line, &located, output),
+            _ => write_report(alloc, line, &located, output),
         };
         match written {
             Ok(()) => Ok(Status::No),

@@ -2,68 +2,95 @@
 ghost use Rattle.std.specs.Prelude.{◌≡◌, ◌++◌, ◌∷◌, [], IfOk, option_map, string_bytes};
 ghost use Rattle.std.specs.Str.{chars};
 ghost use Rattle.tinyjson.specs.Characters.{line_feed};
+ghost use Rattle.tinyjson.specs.View.{view};
 ghost use Rattle.tinyjson.specs.Written.{WritesPrefix};
 ghost use Rattle.tinyjson_lines.specs.Line.{line_of};
 ghost use Rattle.tinyjson_cli.specs.Shown.{shown};
-ghost use Rattle.json_schema.specs.Report.{text_line, text_head, headed};
-ghost use Rattle.tinyjson_schema_report.specs.Report.{report_tree};
+ghost use Rattle.json_schema.specs.Report.{located_tree, with_column};
+ghost use Rattle.json_schema.specs.Report.{text_line, text_at, headed};
 
+use crate::verdict::Located;
 use std::alloc::{AllocError, Global};
 use std::io::{self, Write};
+use tinyjson::{JsonNumber, JsonValue};
 use tinyjson_cli::Shown;
 use tinyjson_lines::{write_all, write_line};
-use tinyjson_schema_report::{Finding, output_unit};
+use tinyjson_pointer::put_member;
+use tinyjson_schema_report::output_unit;
 
-/// Writes an output unit (Core, 12.4.2) as one line of normal text, with the number of the value's line if it has
-/// one.
+/// Writes an output unit (Core, 12.4.2) as one line of normal text, with a line and the column at which the part
+/// begins.
 ///
 /// It stops at the first error, and then a prefix of the line was written. It does not flush.
 pub fn write_report<W: Write>(
     alloc: Global,
-    line: Option<u64>,
-    finding: &Finding,
+    line: u64,
+    located: &Located,
     w: &mut W,
 ) -> io::Result<()>
     ensures { WritesPrefix (W.contents w.old) (W.contents w.new)
-        (line_of (report_tree line finding.now)) result }
+        (line_of (located_tree line located.now)) result }
 {
-    let unit = output_unit(alloc, line, finding)?;
+    let unit = located_unit(alloc, line, located)?;
     write_line(alloc, &unit, w)
 }
 
-/// Writes a report for people as one line, as `data.json:/a must be at most 10, is 12`: the name of the file and the
-/// number of the value's line if it has them, the place in the value, and the words.
+fn located_unit(alloc: Global, line: u64, located: &Located) -> Result<JsonValue, AllocError>
+    ensures { IfOk result (λ unit. view unit ≡ located_tree line located.now) }
+{
+    let unit = output_unit(alloc, Some(line), &located.finding)?;
+    with_column(alloc, unit, located.place.column)
+}
+
+/// The report with its column as a member.
+fn with_column(alloc: Global, unit: JsonValue, column: usize) -> Result<JsonValue, AllocError>
+    ensures { IfOk result (λ located. view located ≡ with_column column (view unit)) }
+{
+    match unit {
+        JsonValue::Object(mut members) => {
+            let number = JsonNumber::from_u64(alloc, column as u64)?;
+            put_member(&mut members, "column", JsonValue::Number(number), alloc)?;
+            Ok(JsonValue::Object(members))
+        }
+        other => Ok(other),
+    }
+}
+
+/// Writes a report for people as one line, as `data.json:3:7: /a must be at most 10, is 12`: the name of the file if it
+/// has one, a line and the column at which the part begins, the place in the value, and the words.
 ///
 /// It stops at the first error, and then a prefix of the line was written. It does not flush.
 pub fn write_text<W: Write>(
     alloc: Global,
     file: Option<&str>,
-    line: Option<u64>,
-    finding: &Finding,
+    line: u64,
+    located: &Located,
     w: &mut W,
 ) -> io::Result<()>
     ensures { WritesPrefix (W.contents w.old) (W.contents w.new)
-        (text_line (option_map (λ f. f.now) file.entry) line finding.now) result }
+        (text_line (option_map (λ f. f.now) file.entry) line located.now) result }
 {
-    let text = report_text(alloc, file, line, finding)?;
+    let text = report_text(alloc, file, line, located)?;
     write_all(w, text.as_bytes())
 }
 
 fn report_text(
     alloc: Global,
     file: Option<&str>,
-    line: Option<u64>,
-    finding: &Finding,
+    line: u64,
+    located: &Located,
 ) -> Result<String, AllocError>
     ensures { IfOk result (λ s. string_bytes s
-        ≡ text_line (option_map (λ f. f.now) file.entry) line finding.now) }
+        ≡ text_line (option_map (λ f. f.now) file.entry) line located.now) }
 {
-    let place = finding.violation.instance_location.to_string(alloc)?;
-    let head = text_head(alloc, file, line, place.as_str())?;
-    headed(alloc, head.as_str(), finding.words.as_str())
+    let finding = &located.finding;
+    let pointer = finding.violation.instance_location.to_string(alloc)?;
+    let head = format!(in alloc; "{}", Shown(pointer.as_str()))?;
+    let text = headed(alloc, head.as_str(), finding.words.as_str())?;
+    text_at(alloc, file, line, located.place.column, text.as_str())
 }
 
-/// The words behind the place, where there is one.
+/// The words behind the pointer to the part, which is empty where that is the whole value.
 fn headed(alloc: Global, head: &str, words: &str) -> Result<String, AllocError>
     ensures { IfOk result (λ s. string_bytes s
         ≡ headed head.now (shown (chars words.now) ++ line_feed ∷ [])) }
@@ -75,21 +102,19 @@ fn headed(alloc: Global, head: &str, words: &str) -> Result<String, AllocError>
     format!(in alloc; "{head} {words}\n")
 }
 
-/// Where the value is.
-fn text_head(
+/// The text behind the place at which the part begins.
+fn text_at(
     alloc: Global,
     file: Option<&str>,
-    line: Option<u64>,
-    place: &str,
+    line: u64,
+    column: usize,
+    text: &str,
 ) -> Result<String, AllocError>
     ensures { IfOk result (λ s. string_bytes s
-        ≡ text_head (option_map (λ f. f.now) file.entry) line (chars place.now)) }
+        ≡ text_at (option_map (λ f. f.now) file.entry) line column text.now) }
 {
-    let place = Shown(place);
-    match (file, line) {
-        (Some(file), Some(line)) => format!(in alloc; "{}:{line}:{place}", Shown(file)),
-        (Some(file), None) => format!(in alloc; "{}:{place}", Shown(file)),
-        (None, Some(line)) => format!(in alloc; "{line}:{place}"),
-        (None, None) => format!(in alloc; "{place}"),
+    match file {
+        Some(file) => format!(in alloc; "{}:{line}:{column}: {text}", Shown(file)),
+        None => format!(in alloc; "line {line}, col {column}: {text}"),
     }
 }

@@ -1,14 +1,21 @@
 //! The verdict on a text.
-ghost use Rattle.std.specs.Prelude.{◌≡◌, IfOk};
+ghost use Rattle.std.specs.Prelude.{◌≡◌, IfOk, IsSome, Ok, Some};
 ghost use Rattle.std.specs.Str.{chars};
+ghost use Rattle.tinyjson.specs.Grammar.{IsText};
+ghost use Rattle.tinyjson.specs.Tree.{Tree};
 ghost use Rattle.tinyjson.specs.View.{view};
-ghost use Rattle.json_schema.specs.Verdicts.{judged, ValueGives, TextGives, LineGives};
+ghost use Rattle.tinyjson_pointer.specs.Tokens.{tokens_of};
+ghost use Rattle.tinyjson_pointer.specs.Walk.{part_at};
+ghost use Rattle.tinyjson_places.specs.Places.{Locates};
+ghost use Rattle.json_schema.specs.Verdicts.{judged, ValueGives, TextGives, LineGives, depth_limit};
 
 use std::alloc::{AllocError, Global};
 use std::str;
 use tinyjson::{JsonParseError, JsonValue};
 use tinyjson_lines::content;
-use tinyjson_schema::{CheckError, Checks, Limits, Schema};
+use tinyjson_places::{Place, place_of};
+use tinyjson_pointer::Pointer;
+use tinyjson_schema::{CheckError, Checks, Schema};
 use tinyjson_schema_report::{Finding, find_by, limits_of};
 
 /// How many containers may be nested in a schema or a value: the check takes stack with the nesting.
@@ -22,13 +29,22 @@ pub struct Judge<'a, 's> {
     pub formats: bool,
 }
 
+/// What a value violates of the schema, and where in its text.
+#[derive(Drop)]
+pub struct Located {
+    /// What it violates, with the words.
+    pub finding: Finding,
+    /// Where the part begins that is not valid.
+    pub place: Place,
+}
+
 /// The verdict on a text.
 #[derive(Drop)]
 pub enum Verdict {
     /// The text is JSON, and its value is valid.
     Valid,
     /// The text is JSON, and its value violates the schema there.
-    Invalid(Finding),
+    Invalid(Located),
     /// The text is no JSON, or its value can't be checked.
     Refused(Cause),
 }
@@ -54,7 +70,7 @@ pub fn check_text(alloc: Global, judge: Judge<'_, '_>, text: &str) -> Result<Ver
 {
     match JsonValue::from_str_with_depth_limit(alloc, text, DEPTH_LIMIT) {
         Ok(value) => {
-            let verdict = check_value(alloc, judge, &value, limits_of(text.len()));
+            let verdict = check_value(alloc, judge, &value, text);
             value.dismantle();
             verdict
         }
@@ -67,25 +83,45 @@ pub fn check_text(alloc: Global, judge: Judge<'_, '_>, text: &str) -> Result<Ver
     }
 }
 
+/// Checks the value of a text.
 fn check_value(
     alloc: Global,
     judge: Judge<'_, '_>,
     value: &JsonValue,
-    limits: Limits,
+    text: &str,
 ) -> Result<Verdict, AllocError>
-    requires { limits.nested ≡ 200 }
-    ensures { IfOk result (ValueGives (judged judge.entry) (view value.now)) }
+    requires { IsText depth_limit (chars text.now) (view value.now) }
+    ensures { IfOk result (ValueGives (chars text.now) (judged judge.entry) (view value.now)) }
 {
     let checks = Checks {
-        limits,
+        limits: limits_of(text.len()),
         formats: judge.formats,
     };
     match find_by(judge.schema, value, checks, alloc) {
         Ok(None) => Ok(Verdict::Valid),
-        Ok(Some(finding)) => Ok(Verdict::Invalid(finding)),
+        Ok(Some(finding)) => {
+            let place = begin_of(alloc, text, &finding.violation.instance_location)?;
+            Ok(Verdict::Invalid(Located { finding, place }))
+        }
         Err(CheckError::TooDeep) => Ok(Verdict::Refused(Cause::TooDeep)),
         Err(CheckError::TooMuch) => Ok(Verdict::Refused(Cause::TooMuch)),
         Err(CheckError::OutOfMemory) => Err(AllocError),
+    }
+}
+
+/// Where the part of the text's value begins to which the pointer leads. Not inlined, so that the check before it has
+/// all of the stack.
+#[inline(never)]
+fn begin_of(alloc: Global, text: &str, pointer: &Pointer) -> Result<Place, AllocError>
+    requires { (t : Tree) × IsText depth_limit (chars text.now) t
+        × IsSome (part_at t (tokens_of pointer.now)) }
+    ensures { IfOk result (λ place.
+        Locates (chars text.now) (tokens_of pointer.now) (Ok (Some place))) }
+{
+    match place_of(alloc, text, pointer) {
+        Ok(Some(place)) => Ok(place),
+        Ok(None) => unreachable!(),
+        Err(_) => Err(AllocError),
     }
 }
 

@@ -2,14 +2,17 @@ use Rattle.std.proofs.Common.{◌≡◌, ◌∷◌, [], ◌++◌, ◌∙◌, IfO
 use Rattle.std.specs.Str.{chars}
 use Rattle.tinyjson.specs.Characters.{line_feed}
 use Rattle.tinyjson_cli.specs.Shown.{shown}
-use Rattle.json_schema.specs.Report.{text_head, headed}
+use Rattle.json_schema.specs.Report.{headed, text_at}
 use Rattle.tinyjson_pointer.proofs.Callers.{place_text}
 use Rattle.json_schema.proofs.report.report_text.Goals as goal
 
 pub returns : goal.returns
 returns c =
-    let p = c.args.finding.now.violation.instance_location in
-    let place = ap chars c.as_str.ensures.value ∙ place_text p c.in_ok-place.place c.in_ok-place.ensures.ok in
-    let head = c.as_str-2.ensures.value ∙ (c.in_ok-head.ensures ∙ ap (text_head (option_map (λ f. f.now) c.args.file) c.args.line) place) in
+    let l = c.args.located.now in
+    let p = l.finding.violation.instance_location in
+    let pointer = ap chars c.as_str.ensures.value ∙ place_text p c.in_ok-pointer.pointer c.in_ok-pointer.ensures.ok in
+    let head = c.as_str-2.ensures.value ∙ (c.in_ok-head.ensures.ok ∙ ap shown pointer) in
     let words = ap (λ bs. shown (chars bs) ++ line_feed ∷ []) c.as_str-3.ensures.value in
-    subst (λ x. IfOk c.headed.result (λ s. string_bytes s ≡ x)) (ap₂ headed head words) c.headed.ensures
+    let behind = c.as_str-4.ensures.value ∙ (c.in_ok-text.ensures ∙ ap₂ headed head words) in
+    let file = option_map (λ f. f.now) c.args.file in
+    subst (λ x. IfOk c.text_at.result (λ s. string_bytes s ≡ x)) (ap (text_at file c.args.line l.place.column) behind) c.text_at.ensures
