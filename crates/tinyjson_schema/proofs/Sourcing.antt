@@ -72,11 +72,11 @@ within_at n (y ∷ xs) (suc i) x h k e = within_at n xs i x h.1 (omega arith) e
 
 -- a schema, one step further in, and those that it applies
 pub schema_added : (w inner : Walk) (x : Source) (t : Tree) (xs ys zs : List Source) → IsDeeper w inner → x.asks ≡ false → x.walk ≡ inner
-    → ys ≡ xs ++ x ∷ [] → Adds inner (λ a c. inner_evaluate (view inner.whole.now.root.now) a (view x.applied.schema.now) t c) ys zs
+    → ys ≡ xs ++ x ∷ [] → Adds inner (λ a c. inner_evaluate (view inner.ground.now.whole.now.root.now) a (view x.applied.schema.now) t c) ys zs
     → Adds w (λ a c. a.evaluates (view x.applied.schema.now) t c) xs zs
 schema_added w inner x t xs ys zs d answers_for same put k g c =
     let s = view x.applied.schema.now in
-    let root = view inner.whole.now.root.now in
+    let root = view inner.ground.now.whole.now.root.now in
     let old = sources_evaluate g xs c in
     let rest = is_some (schema_at s (rest_keyword c)) in
     let own = applies_to (says inner g) s c in
@@ -91,12 +91,12 @@ schema_added w inner x t xs ys zs d answers_for same put k g c =
 
 -- the schema that asks, and those that it applies
 pub asking_added : (w : Walk) (x : Source) (t : Tree) (ys zs : List Source) → x.asks ≡ true → x.walk ≡ w → ys ≡ x ∷ []
-    → Adds w (λ a c. inner_evaluate (view w.whole.now.root.now) a (view x.applied.schema.now) t c) ys zs → (g : Answers) (c : Child)
-    → sources_evaluate g zs c ≡ others_evaluate (view w.whole.now.root.now) (answers_in w g) (view x.applied.schema.now) t c
+    → Adds w (λ a c. inner_evaluate (view w.ground.now.whole.now.root.now) a (view x.applied.schema.now) t c) ys zs → (g : Answers) (c : Child)
+    → sources_evaluate g zs c ≡ others_evaluate (view w.ground.now.whole.now.root.now) (answers_in w g) (view x.applied.schema.now) t c
 asking_added w x t ys zs asked same put k g c =
     let s = view x.applied.schema.now in
     let rest = is_some (schema_at s (rest_keyword c)) in
-    let more = inner_evaluate (view w.whole.now.root.now) (answers_in w g) s t c in
+    let more = inner_evaluate (view w.ground.now.whole.now.root.now) (answers_in w g) s t c in
     let one : source_evaluates g x c ≡ applies_to (says w g) s c
     = (λ i. (not (asked i) && rest) || applies_to (says (same i) g) s c) in
     k g c ∙ (ap (λ l. sources_evaluate g l c || more) put ∙ (ap (λ b. b || more) (or_false (source_evaluates g x c))
@@ -108,10 +108,10 @@ pub inner_added : (w : Walk) (s t : Tree) (us vs ws : Items) (l m n o p q r : Li
     → Adds w (λ a c. accepting_evaluate a vs t c) m n → Adds w (λ a c. accepting_evaluate a ws t c) n o
     → Adds w (λ a c. branch_evaluates a s t c) o p
     → Adds w (λ a c. dependents_evaluate a (schema_map_at s kw.DependentSchemas) t c) p q
-    → Adds w (λ a c. reference_evaluates (view w.whole.now.root.now) a s t c) q r
-    → Adds w (λ a c. inner_evaluate (view w.whole.now.root.now) a s t c) l r
+    → Adds w (λ a c. reference_evaluates (view w.ground.now.whole.now.root.now) a s t c) q r
+    → Adds w (λ a c. inner_evaluate (view w.ground.now.whole.now.root.now) a s t c) l r
 inner_added w s t us vs ws l m n o p q r all any one x1 x2 x3 x4 x5 x6 =
-    let root = view w.whole.now.root.now in
+    let root = view w.ground.now.whole.now.root.now in
     let referred : Answers → Child → Bool = λ a c. reference_evaluates root a s t c in
     let depending : Answers → Child → Bool = λ a c. dependents_evaluate a (schema_map_at s kw.DependentSchemas) t c in
     let chosen : Answers → Child → Bool = λ a c. branch_evaluates a s t c in
@@ -244,7 +244,7 @@ no_rest root a s v other_object other_array = by (view v) (no_object v other_obj
 
 -- such a place is one of the schema that asks
 rest_place : (w : Walk) (s t r : Tree) (xs : List Source) (a : Keyword) (v : Violation)
-    → ((g : Answers) (c : Child) → sources_evaluate g xs c ≡ others_evaluate (view w.whole.now.root.now) (answers_in w g) s t c)
+    → ((g : Answers) (c : Child) → sources_evaluate g xs c ≡ others_evaluate (view w.ground.now.whole.now.root.now) (answers_in w g) s t c)
     → Some r ≡ schema_at s a → InRest w a xs r t v → FindsRest w s t (Ok (Some v))
 rest_place w s t r xs a v sources e h =
     reported (root_of w) (suc w.steps) s t v _ _
@@ -252,24 +252,24 @@ rest_place w s t r xs a v sources e h =
     (in_rest h.child (ap (schema_at s) h.keyword ∙ sym e) h.named (λ g. sym (sources g h.child) ∙ h.left g) h.invalid)
 
 pub members_found : (w : Walk) (s r : Tree) (ms : Members) (xs : List Source) (x : Result (Option Violation) CheckError)
-    → ((g : Answers) (c : Child) → sources_evaluate g xs c ≡ others_evaluate (view w.whole.now.root.now) (answers_in w g) s (object ms) c)
+    → ((g : Answers) (c : Child) → sources_evaluate g xs c ≡ others_evaluate (view w.ground.now.whole.now.root.now) (answers_in w g) s (object ms) c)
     → Some r ≡ schema_at s kw.UnevaluatedProperties → FindsLeft w kw.UnevaluatedProperties xs r (object ms) x → FindsRest w s (object ms) x
 members_found w s r ms xs (Ok None) sources e h = λ g.
-    members_same (rest_accepts (view w.whole.now.root.now) (answers_in w g) s (object ms))
+    members_same (rest_accepts (view w.ground.now.whole.now.root.now) (answers_in w g) s (object ms))
     (λ c. sources_evaluate g xs c || says w g r (value_of c))
-    (λ k u. ap (λ o. option_map_or (λ q. others_evaluate (view w.whole.now.root.now) (answers_in w g) s (object ms) (member_at k u)
+    (λ k u. ap (λ o. option_map_or (λ q. others_evaluate (view w.ground.now.whole.now.root.now) (answers_in w g) s (object ms) (member_at k u)
     || says w g q u) o
     true) (sym e) ∙ ap (λ b. b || says w g r u) (sym (sources g (member_at k u)))) ms ∙ h g
 members_found w s r ms xs (Ok (Some v)) sources e h = rest_place w s (object ms) r xs kw.UnevaluatedProperties v sources e h
 members_found w s r ms xs (Err x) sources e h = tt
 
 pub items_found : (w : Walk) (s r : Tree) (us : Items) (xs : List Source) (x : Result (Option Violation) CheckError)
-    → ((g : Answers) (c : Child) → sources_evaluate g xs c ≡ others_evaluate (view w.whole.now.root.now) (answers_in w g) s (array us) c)
+    → ((g : Answers) (c : Child) → sources_evaluate g xs c ≡ others_evaluate (view w.ground.now.whole.now.root.now) (answers_in w g) s (array us) c)
     → Some r ≡ schema_at s kw.UnevaluatedItems → FindsLeft w kw.UnevaluatedItems xs r (array us) x → FindsRest w s (array us) x
 items_found w s r us xs (Ok None) sources e h = λ g.
-    items_same (rest_accepts (view w.whole.now.root.now) (answers_in w g) s (array us))
+    items_same (rest_accepts (view w.ground.now.whole.now.root.now) (answers_in w g) s (array us))
     (λ c. sources_evaluate g xs c || says w g r (value_of c))
-    (λ i u. ap (λ o. option_map_or (λ q. others_evaluate (view w.whole.now.root.now) (answers_in w g) s (array us) (item_at i u)
+    (λ i u. ap (λ o. option_map_or (λ q. others_evaluate (view w.ground.now.whole.now.root.now) (answers_in w g) s (array us) (item_at i u)
     || says w g q u) o
     true) (sym e) ∙ ap (λ b. b || says w g r u) (sym (sources g (item_at i u)))) 0 us ∙ h g
 items_found w s r us xs (Ok (Some v)) sources e h = rest_place w s (array us) r xs kw.UnevaluatedItems v sources e h

@@ -423,11 +423,11 @@ last_tested w s t (Err e) a h = tt
 
 -- the last step of the check
 pub last_found : (w : Walk) (s t : Tree) (x : Result (Option Violation) CheckError)
-    → refuses_all s ≡ false → meets_all (assertions w.formats) s t ≡ true → ((g : Answers) → apply_all (says w g) tests s t ≡ true)
+    → refuses_all s ≡ false → meets_all (assertions w.ground.now.formats) s t ≡ true → ((g : Answers) → apply_all (says w g) tests s t ≡ true)
     → ((g : Answers) → applies (says w g) kw.AllOf s t ≡ true) → ((g : Answers) → applies (says w g) kw.If s t ≡ true)
     → ((g : Answers) → applies (says w g) kw.DependentSchemas s t ≡ true)
     → ((g : Answers) → applies (says w g) kw.PatternProperties s t ≡ true)
-    → ((g : Answers) → reference_accepts (view w.whole.now.root.now) (says w g) s t ≡ true)
+    → ((g : Answers) → reference_accepts (view w.ground.now.whole.now.root.now) (says w g) s t ≡ true)
     → ((g : Answers) → parts_accepted (says w g) s t ≡ true)
     → FindsRest w s t x → Decides (root_of w) (suc w.steps) s t x
 last_found w s t (Ok None) a b c d e k p r l h = λ g. valid_from (root_of w) (answers_in w g) s t (record {
@@ -443,7 +443,7 @@ last_found w s t (Ok (Some v)) a b c d e k p r l h = h
 last_found w s t (Err x) a b c d e k p r l h = tt
 
 pub same_root : (w inner : Walk) → IsDeeper w inner → root_of inner ≡ root_of w
-same_root w inner d = λ i. record { tree = view (d.0 i).now.root.now; formats = d.2 i }
+same_root w inner d = λ i. record { tree = view (d.0 i).now.whole.now.root.now; formats = (d.0 i).now.formats }
 
 -- what is known of a schema in the walk, one step before
 pub before : (w inner : Walk) → IsDeeper w inner → (s t : Tree) (x : Result (Option Violation) CheckError)
@@ -486,9 +486,9 @@ no_reference root f s t k e = ap (λ o. option_map_or (λ q. f q t) o true) (sym
 
 -- the second of the references is met, or not
 pub both_met : (w : Walk) (s t : Tree) (x : Result (Option Violation) CheckError)
-    → ((g : Answers) → target_accepts (view w.whole.now.root.now) kw.Ref (says w g) s t ≡ true)
-    → Finds w (λ f. target_accepts (view w.whole.now.root.now) kw.DynamicRef f s t) s t x
-    → Finds w (λ f. reference_accepts (view w.whole.now.root.now) f s t) s t x
+    → ((g : Answers) → target_accepts (view w.ground.now.whole.now.root.now) kw.Ref (says w g) s t ≡ true)
+    → Finds w (λ f. target_accepts (view w.ground.now.whole.now.root.now) kw.DynamicRef f s t) s t x
+    → Finds w (λ f. reference_accepts (view w.ground.now.whole.now.root.now) f s t) s t x
 both_met w s t (Ok None) a h = λ g i. a g i && h g i
 both_met w s t (Ok (Some v)) a h = h
 both_met w s t (Err e) a h = tt

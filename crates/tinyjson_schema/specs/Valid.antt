@@ -134,7 +134,7 @@ Agrees s = AgreesIn (plain s)
 
 -- the root schema of a walk
 abbrev pub root_of : Walk → Root
-root_of w = record { tree = view w.whole.now.root.now; formats = w.formats }
+root_of w = record { tree = view w.ground.now.whole.now.root.now; formats = w.ground.now.formats }
 
 -- the results of schemas in a walk; g has those beyond its steps
 abbrev pub answers_in : Walk → Answers → Answers
@@ -165,7 +165,7 @@ Finds w q s t (Err e) = Unit {0}
 
 -- No violation, and what the other keywords of s leave is accepted; or a violation.
 abbrev pub FindsRest : Walk → Tree → Tree → Result (Option Violation) CheckError → Type 0
-FindsRest w s t (Ok None) = (g : Answers) → rest_accepted (view w.whole.now.root.now) (answers_in w g) s t ≡ true
+FindsRest w s t (Ok None) = (g : Answers) → rest_accepted (view w.ground.now.whole.now.root.now) (answers_in w g) s t ≡ true
 FindsRest w s t (Ok (Some v)) = IsInvalidAt (root_of w) (suc w.steps) s t (tokens_of v.keyword_location)
     (tokens_of v.instance_location)
 FindsRest w s t (Err e) = Unit {0}

@@ -4,4 +4,4 @@ use Rattle.tinyjson_schema.specs.declared.walk.Walk.{Walk}
 
 -- One step less is left.
 abbrev pub IsDeeper : Walk → Walk → Type 0
-IsDeeper w inner = (inner.whole ≡ w.whole) × (w.steps ≡ suc inner.steps) × (inner.formats ≡ w.formats)
+IsDeeper w inner = (inner.ground ≡ w.ground) × (w.steps ≡ suc inner.steps)

@@ -76,7 +76,7 @@ impl<'s> Applied<'s> {
         walk: Walk<'_, 'w>,
     ) -> Result<Option<&'w JsonValue>, AllocError>
         ensures { IfOk result (λ r. option_map (λ x. view x.now) r
-            ≡ referenced (view walk.entry.whole.now.root.now) keyword
+            ≡ referenced (view walk.entry.ground.now.whole.now.root.now) keyword
             (view self.entry.schema.now)) }
     {
         if !self.may_have(keyword) {

@@ -27,7 +27,7 @@ pub fn member_part<'s>(
 ) -> Result<Option<Part<'s>>, CheckError>
     ensures { IfOk result (λ part. IsMemberPart (view here.entry.schema.now) (chars key.now) part) }
 {
-    walk.whole.budget.spend(1)?;
+    walk.ground.whole.budget.spend(1)?;
     if let Some(part) = property(here, key) {
         return Ok(Some(Part {
             applicator: Keyword::Properties,

@@ -7,7 +7,7 @@ ghost use Rattle.tinyjson_schema.specs.declared.schema.SchemaError.{SchemaError}
 use crate::refused::{Reason, refused_place};
 use crate::validate::find_violation;
 use crate::violation::Violation;
-use crate::walk::Walk;
+use crate::walk::{Ground, Walk};
 use std::alloc::{AllocError, Global};
 use tinyjson::JsonValue;
 use tinyjson_pointer::Pointer;
@@ -173,11 +173,14 @@ impl<'s> Schema<'s> {
             (λ found. AgreesIn (root_in self.now checks.formats) (view value.now) found) }
     {
         self.whole.budget.renew(checks.limits.steps);
-        let walk = Walk {
+        let ground = Ground {
             whole: &self.whole,
+            formats: checks.formats,
+        };
+        let walk = Walk {
+            ground: &ground,
             steps: checks.limits.nested,
             alloc,
-            formats: checks.formats,
         };
         find_violation(value, walk)
     }

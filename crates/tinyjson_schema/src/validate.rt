@@ -42,7 +42,7 @@ pub fn find_violation(
     ensures judged { ValidatesIn walk.entry.steps (root_of walk.entry) (view value.now) result }
     ensures only { IfOk result (λ found. AgreesIn (root_of walk.entry) (view value.now) found) }
 {
-    violation_in(value, walk.whole.root, walk)
+    violation_in(value, walk.ground.whole.root, walk)
 }
 
 /// `find_violation` for a subschema of the whole schema.
@@ -62,7 +62,7 @@ fn violation_in(
         schema,
         marks: marks_of(schema),
     };
-    if let Some(keyword) = unmet(assertions(walk.formats), here, value, walk)? {
+    if let Some(keyword) = unmet(assertions(walk.ground.formats), here, value, walk)? {
         return Ok(Some(Violation::of_keyword(walk.alloc, keyword)?));
     }
     if let Some(keyword) = unmet_test(value, here, inner)? {
@@ -172,7 +172,7 @@ fn in_dependents(
 {
     let listed = here.schema_map_at(Keyword::DependentSchemas, walk.alloc)?;
     let dependents = listed.as_slice();
-    walk.whole.budget.charge(dependents.len());
+    walk.ground.whole.budget.charge(dependents.len());
     for &(key, part) in dependents {
         if has_key(value, key.as_str()) {
             if let Some(mut found) = violation_in(value, part, walk)? {
@@ -198,7 +198,7 @@ fn in_patterned(
 {
     let listed = here.schema_map_at(Keyword::PatternProperties, walk.alloc)?;
     let patterns = listed.as_slice();
-    walk.whole.budget.charge(patterns.len());
+    walk.ground.whole.budget.charge(patterns.len());
     for &(pattern, part) in patterns {
         if let Some(mut found) = in_found(value, pattern.as_str(), part, walk)? {
             found.enter_keyed(walk.alloc, Keyword::PatternProperties, pattern.as_str())?;
@@ -242,7 +242,7 @@ fn in_reference(
     walk: Walk<'_, '_>,
 ) -> Result<Option<Violation>, CheckError>
     ensures { Finds walk.entry
-        (λ f. reference_accepts (view walk.entry.whole.now.root.now) f (view here.entry.schema.now)
+        (λ f. reference_accepts (view walk.entry.ground.now.whole.now.root.now) f (view here.entry.schema.now)
         (view value.now))
         (view here.entry.schema.now) (view value.now) result }
 {
@@ -262,7 +262,7 @@ fn in_target(
     walk: Walk<'_, '_>,
 ) -> Result<Option<Violation>, CheckError>
     requires { is_reference keyword ≡ true }
-    ensures { Finds walk.entry (λ f. target_accepts (view walk.entry.whole.now.root.now) keyword f
+    ensures { Finds walk.entry (λ f. target_accepts (view walk.entry.ground.now.whole.now.root.now) keyword f
         (view here.entry.schema.now) (view value.now))
         (view here.entry.schema.now) (view value.now) result }
 {

@@ -8,23 +8,30 @@ use std::alloc::Global;
 use tinyjson_schema_keywords as keywords;
 use tinyjson_schema_keywords::{CheckError, Whole};
 
-/// The whole schema, in which references lead; how many more nested schemas may be applied; the allocator; and whether
-/// `format` is an assertion.
+/// What is the same at each schema of a check: the whole schema, in which references lead, and whether `format` is an
+/// assertion.
+#[derive(Clone, Copy)]
+pub struct Ground<'d, 's> {
+    pub whole: &'d Whole<'s>,
+    pub formats: bool,
+}
+
+/// The ground of a check; how many more nested schemas may be applied; and the allocator. It is as small as may be, for
+/// the stack that nested schemas take.
 #[derive(Clone, Copy)]
 pub struct Walk<'d, 's> {
-    pub whole: &'d Whole<'s>,
+    pub ground: &'d Ground<'d, 's>,
     pub steps: usize,
     pub alloc: Global,
-    pub formats: bool,
 }
 
 impl<'d, 's> Walk<'d, 's> {
     /// The walk in which references are followed.
     pub fn following(self) -> keywords::Walk<'d, 's>
-        ensures { result.whole ≡ self.entry.whole }
+        ensures { result.whole ≡ self.entry.ground.now.whole }
     {
         keywords::Walk {
-            whole: self.whole,
+            whole: self.ground.whole,
             steps: self.steps,
             alloc: self.alloc,
         }
@@ -36,10 +43,9 @@ impl<'d, 's> Walk<'d, 's> {
     {
         match self.steps.checked_sub(1) {
             Some(steps) => Ok(Walk {
-                whole: self.whole,
+                ground: self.ground,
                 steps,
                 alloc: self.alloc,
-                formats: self.formats,
             }),
             None => Err(CheckError::TooDeep),
         }
@@ -49,7 +55,7 @@ impl<'d, 's> Walk<'d, 's> {
     pub fn entered(self) -> Result<Walk<'d, 's>, CheckError>
         ensures { IfOk result (IsDeeper self.entry) }
     {
-        self.whole.budget.spend(1)?;
+        self.ground.whole.budget.spend(1)?;
         self.deeper()
     }
 

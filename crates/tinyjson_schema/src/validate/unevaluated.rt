@@ -216,7 +216,7 @@ fn sources_of<'d, 's>(
 ) -> Result<Vec<Source<'d, 's>>, CheckError>
     ensures evaluated { IfOk result (λ sources. (g : Answers) (c : Child) →
         sources_evaluate g sources.items c
-        ≡ others_evaluate (view walk.entry.whole.now.root.now) (answers_in walk.entry g)
+        ≡ others_evaluate (view walk.entry.ground.now.whole.now.root.now) (answers_in walk.entry g)
         (view here.entry.schema.now) (view value.now) c) }
     ensures within { IfOk result (λ sources. AreWithin walk.entry.steps sources.items) }
 {
@@ -268,7 +268,7 @@ fn add_inner<'d, 's>(
     sources: &mut Vec<Source<'d, 's>>,
 ) -> Result<(), CheckError>
     ensures evaluated { OnOk result (Adds walk.entry
-        (λ a c. inner_evaluate (view walk.entry.whole.now.root.now) a (view here.entry.schema.now)
+        (λ a c. inner_evaluate (view walk.entry.ground.now.whole.now.root.now) a (view here.entry.schema.now)
         (view value.now) c)
         sources.old.items sources.new.items) }
     ensures within { OnOk result (StaysWithin walk.entry sources.old.items sources.new.items) }
@@ -434,7 +434,7 @@ fn add_reference<'d, 's>(
     sources: &mut Vec<Source<'d, 's>>,
 ) -> Result<(), CheckError>
     ensures evaluated { OnOk result (Adds walk.entry
-        (λ a c. reference_evaluates (view walk.entry.whole.now.root.now) a
+        (λ a c. reference_evaluates (view walk.entry.ground.now.whole.now.root.now) a
         (view here.entry.schema.now) (view value.now) c)
         sources.old.items sources.new.items) }
     ensures within { OnOk result (StaysWithin walk.entry sources.old.items sources.new.items) }
@@ -455,7 +455,7 @@ fn add_target<'d, 's>(
     sources: &mut Vec<Source<'d, 's>>,
 ) -> Result<(), CheckError>
     ensures evaluated { OnOk result (Adds walk.entry
-        (λ a c. target_evaluates (view walk.entry.whole.now.root.now) keyword a
+        (λ a c. target_evaluates (view walk.entry.ground.now.whole.now.root.now) keyword a
         (view here.entry.schema.now) (view value.now) c)
         sources.old.items sources.new.items) }
     ensures within { OnOk result (StaysWithin walk.entry sources.old.items sources.new.items) }

@@ -116,8 +116,8 @@ violation_in-returns-in-Some t c =
     let v = view c.args.value.now in
     before c.args.walk inner c.in_ok-inner.ensures s v (Ok (Some c.in_ok-of_keyword.field-0))
     (reported (root_of inner) (suc inner.steps) s v c.in_ok-of_keyword.field-0 _ _ c.in_ok-of_keyword.ensures
-    (unmet c.in-Some.keyword (subst (λ f. IsUnmet f s v (Some c.in-Some.keyword)) (sym c.in_ok-inner.ensures.2)
-    (subst (λ o. IsUnmet c.args.walk.formats s v o) c.in-Some.is
+    (unmet c.in-Some.keyword (subst (λ f. IsUnmet f s v (Some c.in-Some.keyword)) (sym (ap (λ g. g.now.formats) c.in_ok-inner.ensures.0))
+    (subst (λ o. IsUnmet c.args.walk.ground.now.formats s v o) c.in-Some.is
     (subst (λ ks. IsUnmetAmong ks s v c.in_ok-keyword.field-0) c.assertions.ensures c.in_ok-keyword.ensures)))))
 
 pub violation_in-returns-in-Some-2 : goal.violation_in-returns-in-Some-2
@@ -167,7 +167,7 @@ violation_in-returns-in-Some-7 t c =
     let s = view c.args.schema.now in
     let v = view c.args.value.now in
     before c.args.walk inner c.in_ok-inner.ensures s v (Ok (Some c.in-Some-7.found))
-    (subst (λ o. Finds inner (λ f. reference_accepts (view inner.whole.now.root.now) f s v) s v (Ok o)) c.in-Some-7.is
+    (subst (λ o. Finds inner (λ f. reference_accepts (view inner.ground.now.whole.now.root.now) f s v) s v (Ok o)) c.in-Some-7.is
     c.in_ok-found-5.ensures)
 
 pub violation_in-returns-in-Some-8 : goal.violation_in-returns-in-Some-8
@@ -185,14 +185,14 @@ violation_in-returns t c =
     let v = view c.args.value.now in
     before c.args.walk inner c.in_ok-inner.ensures s v c.in_rest.result
     (last_found inner s v c.in_rest.result (sym c.refuses_all.ensures ∙ c.if-refuses_all.false)
-    (subst (λ f. IsUnmet f s v None) (sym c.in_ok-inner.ensures.2) (subst (λ o. IsUnmet c.args.walk.formats s v o) c.in_default.is
+    (subst (λ f. IsUnmet f s v None) (sym (ap (λ g. g.now.formats) c.in_ok-inner.ensures.0)) (subst (λ o. IsUnmet c.args.walk.ground.now.formats s v o) c.in_default.is
     (subst (λ ks. IsUnmetAmong ks s v c.in_ok-keyword.field-0) c.assertions.ensures c.in_ok-keyword.ensures)))
     (subst (λ o. IsUnapplied inner tests s v o) c.in_default-2.is c.in_ok-keyword-2.ensures)
     (subst (λ o. Finds inner (λ f. applies f kw.AllOf s v) s v (Ok o)) c.in_default-3.is c.in_ok-found.ensures)
     (subst (λ o. Finds inner (λ f. applies f kw.If s v) s v (Ok o)) c.in_default-4.is c.in_ok-found-2.ensures)
     (subst (λ o. Finds inner (λ f. applies f kw.DependentSchemas s v) s v (Ok o)) c.in_default-5.is c.in_ok-found-3.ensures)
     (subst (λ o. Finds inner (λ f. applies f kw.PatternProperties s v) s v (Ok o)) c.in_default-6.is c.in_ok-found-4.ensures)
-    (subst (λ o. Finds inner (λ f. reference_accepts (view inner.whole.now.root.now) f s v) s v (Ok o)) c.in_default-7.is
+    (subst (λ o. Finds inner (λ f. reference_accepts (view inner.ground.now.whole.now.root.now) f s v) s v (Ok o)) c.in_default-7.is
     c.in_ok-found-5.ensures)
     (subst (λ o. Finds inner (λ f. parts_accepted f s v) s v (Ok o)) c.in_default-8.is c.in_ok-found-6.ensures)
     c.in_rest.ensures)
@@ -620,13 +620,13 @@ in_reference-returns t c =
     let s = view c.args.here.schema.now in
     let v = view c.args.value.now in
     both_met w s v c.in_target-2.result
-    (subst (λ o. Finds w (λ f. target_accepts (view w.whole.now.root.now) kw.Ref f s v) s v (Ok o)) c.in_default.is c.in_ok-found.ensures)
+    (subst (λ o. Finds w (λ f. target_accepts (view w.ground.now.whole.now.root.now) kw.Ref f s v) s v (Ok o)) c.in_default.is c.in_ok-found.ensures)
     c.in_target-2.ensures
 
 pub in_target-returns-in_default : goal.in_target-returns-in_default
 in_target-returns-in_default t c g =
     let w = c.args.walk in
-    no_reference (view w.whole.now.root.now) (says w g) (view c.args.here.schema.now) (view c.args.value.now) c.args.keyword
+    no_reference (view w.ground.now.whole.now.root.now) (says w g) (view c.args.here.schema.now) (view c.args.value.now) c.args.keyword
     (ap (option_map (λ x. view x.now)) (sym c.in_default.is) ∙ c.in_ok-part.ensures)
 
 pub in_target-returns-in_default-2 : goal.in_target-returns-in_default-2
@@ -634,7 +634,7 @@ in_target-returns-in_default-2 t c g =
     let w = c.args.walk in
     let v = view c.args.value.now in
     let r = view c.in-Some.part.now in
-    reference_met (view w.whole.now.root.now) (says w g) (view c.args.here.schema.now) v r c.args.keyword
+    reference_met (view w.ground.now.whole.now.root.now) (says w g) (view c.args.here.schema.now) v r c.args.keyword
     (ap (option_map (λ x. view x.now)) (sym c.in-Some.is) ∙ c.in_ok-part.ensures)
     (subst (λ o. Judges w r v (Ok o)) c.in_default-2.is c.in_ok-found.ensures g)
 
@@ -645,7 +645,7 @@ in_target-returns t c =
     let v = view c.args.value.now in
     let r = view c.in-Some.part.now in
     let inner = subst (λ o. Judges w r v (Ok o)) c.in-Some-2.is c.in_ok-found.ensures in
-    placed w (λ f. target_accepts (view w.whole.now.root.now) c.args.keyword f s v) s v c.enter_keyword.new.self _ _
+    placed w (λ f. target_accepts (view w.ground.now.whole.now.root.now) c.args.keyword f s v) s v c.enter_keyword.new.self _ _
     c.in_ok-enter_keyword.ensures
     (in_reference c.args.keyword c.requires (sym (ap (option_map (λ x. view x.now)) (sym c.in-Some.is) ∙ c.in_ok-part.ensures)) inner)
 
@@ -950,8 +950,8 @@ unevaluated::in_rest-returns-in_default-schema_at t c g =
     let s = view c.args.here.schema.now in
     let same : object (members_view c.in-Object.members.entries) ≡ view c.args.value.now
     = sym (ap view c.in-Object.is ∙ view_Object c.in-Object.members) in
-    subst (λ x. rest_accepted (view w.whole.now.root.now) (answers_in w g) s x ≡ true) same
-    (no_member_rest (view w.whole.now.root.now) (answers_in w g) s (members_view c.in-Object.members.entries)
+    subst (λ x. rest_accepted (view w.ground.now.whole.now.root.now) (answers_in w g) s x ≡ true) same
+    (no_member_rest (view w.ground.now.whole.now.root.now) (answers_in w g) s (members_view c.in-Object.members.entries)
     c.in_default-schema_at.ensures)
 
 pub unevaluated::in_rest-returns-in_default-schema_at-2 : goal.unevaluated::in_rest-returns-in_default-schema_at-2
@@ -960,8 +960,8 @@ unevaluated::in_rest-returns-in_default-schema_at-2 t c g =
     let s = view c.args.here.schema.now in
     let same : array (items_view c.in-Array.items.items) ≡ view c.args.value.now
     = sym (ap view c.in-Array.is ∙ view_Array c.in-Array.items) in
-    subst (λ x. rest_accepted (view w.whole.now.root.now) (answers_in w g) s x ≡ true) same
-    (no_item_rest (view w.whole.now.root.now) (answers_in w g) s (items_view c.in-Array.items.items) c.in_default-schema_at-2.ensures)
+    subst (λ x. rest_accepted (view w.ground.now.whole.now.root.now) (answers_in w g) s x ≡ true) same
+    (no_item_rest (view w.ground.now.whole.now.root.now) (answers_in w g) s (items_view c.in-Array.items.items) c.in_default-schema_at-2.ensures)
 
 pub unevaluated::in_rest-returns-in_ok-sorted-in-Object : goal.unevaluated::in_rest-returns-in_ok-sorted-in-Object
 unevaluated::in_rest-returns-in_ok-sorted-in-Object t c =
@@ -972,11 +972,11 @@ unevaluated::in_rest-returns-in_ok-sorted-in-Object t c =
     let ms = members_listed c.as_slice.result.now in
     let same : object ms ≡ v = ap object (ap members_listed c.as_slice.ensures.value ∙ c.in_ok-sorted-in-Object.ensures)
     ∙ sym (ap view c.in-Object.is ∙ view_Object c.in-Object.members) in
-    let told : (g : Answers) (k : Child) → sources_evaluate g xs k ≡ others_evaluate (view w.whole.now.root.now) (answers_in w g) s v k
+    let told : (g : Answers) (k : Child) → sources_evaluate g xs k ≡ others_evaluate (view w.ground.now.whole.now.root.now) (answers_in w g) s v k
     = λ g k. ap (λ l. sources_evaluate g l k) c.as_slice-in-Object.ensures.value ∙ c.in_ok-sources-in-Object.ensures.evaluated g k in
     subst (λ x. FindsRest w s x c.in_members_left.result) same
     (members_found w s (view c.in-Some.rest.now) ms xs c.in_members_left.result
-    (subst (λ x. (g : Answers) (k : Child) → sources_evaluate g xs k ≡ others_evaluate (view w.whole.now.root.now) (answers_in w g) s x k)
+    (subst (λ x. (g : Answers) (k : Child) → sources_evaluate g xs k ≡ others_evaluate (view w.ground.now.whole.now.root.now) (answers_in w g) s x k)
     (sym same)
     told) c.in-Some.ensures c.in_members_left.ensures)
 
@@ -989,11 +989,11 @@ unevaluated::in_rest-returns-in_ok-sources-in-Array t c =
     let us = items_view c.as_slice-in-Array.result.now in
     let same : array us ≡ v = ap (λ ys. array (items_view ys)) c.as_slice-in-Array.ensures.value
     ∙ sym (ap view c.in-Array.is ∙ view_Array c.in-Array.items) in
-    let told : (g : Answers) (k : Child) → sources_evaluate g xs k ≡ others_evaluate (view w.whole.now.root.now) (answers_in w g) s v k
+    let told : (g : Answers) (k : Child) → sources_evaluate g xs k ≡ others_evaluate (view w.ground.now.whole.now.root.now) (answers_in w g) s v k
     = λ g k. ap (λ l. sources_evaluate g l k) c.as_slice-in-Array-2.ensures.value ∙ c.in_ok-sources-in-Array.ensures.evaluated g k in
     subst (λ x. FindsRest w s x c.in_items_left.result) same
     (items_found w s (view c.in-Some-schema_at.rest.now) us xs c.in_items_left.result
-    (subst (λ x. (g : Answers) (k : Child) → sources_evaluate g xs k ≡ others_evaluate (view w.whole.now.root.now) (answers_in w g) s x k)
+    (subst (λ x. (g : Answers) (k : Child) → sources_evaluate g xs k ≡ others_evaluate (view w.ground.now.whole.now.root.now) (answers_in w g) s x k)
     (sym same)
     told) c.in-Some-schema_at.ensures c.in_items_left.ensures)
 
@@ -1171,7 +1171,7 @@ unevaluated::add_dependent-returns-clause-evaluated t c =
 
 pub unevaluated::add_reference-returns-clause-evaluated : goal.unevaluated::add_reference-returns-clause-evaluated
 unevaluated::add_reference-returns-clause-evaluated t c =
-    let root = view c.args.walk.whole.now.root.now in
+    let root = view c.args.walk.ground.now.whole.now.root.now in
     let s = view c.args.here.schema.now in
     let v = view c.args.value.now in
     adds_both c.args.walk (λ a k. target_evaluates root kw.Ref a s v k) (λ a k. target_evaluates root kw.DynamicRef a s v k)
@@ -1184,7 +1184,7 @@ unevaluated::add_reference-returns-clause-within t c n h k =
 
 pub unevaluated::add_target-returns-in_default-clause-evaluated : goal.unevaluated::add_target-returns-in_default-clause-evaluated
 unevaluated::add_target-returns-in_default-clause-evaluated t c =
-    let root = view c.args.walk.whole.now.root.now in
+    let root = view c.args.walk.ground.now.whole.now.root.now in
     let s = view c.args.here.schema.now in
     let v = view c.args.value.now in
     adds_none c.args.walk (λ a k. target_evaluates root c.args.keyword a s v k) _
@@ -1193,7 +1193,7 @@ unevaluated::add_target-returns-in_default-clause-evaluated t c =
 
 pub unevaluated::add_target-returns-clause-evaluated : goal.unevaluated::add_target-returns-clause-evaluated
 unevaluated::add_target-returns-clause-evaluated t c =
-    let root = view c.args.walk.whole.now.root.now in
+    let root = view c.args.walk.ground.now.whole.now.root.now in
     let s = view c.args.here.schema.now in
     let v = view c.args.value.now in
     let r = view c.in-Some.part.now in
