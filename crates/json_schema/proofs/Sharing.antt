@@ -1,5 +1,6 @@
 -- The folder that two files share, byte by byte.
-use Rattle.std.proofs.Common.{◌≡◌, ◌≢◌, ◌∙◌, refl, ap, sym, subst, ℕ, suc, ◌<◌, ◌≤◌, ◌+◌, ◌==◌, ◌||◌, Bool, true, false, List, [], ◌∷◌, cond, length}
+use Rattle.std.proofs.Common.{◌≡◌, ◌≢◌, ◌∙◌, refl, ap, sym, subst, ℕ, suc, ◌<◌, ◌≤◌}
+use Rattle.std.proofs.Common.{◌+◌, ◌==◌, ◌||◌, Bool, true, false, List, [], ◌∷◌, cond, length}
 use Rattle.std.proofs.Common.{drop, get_or, arith, eq-eqb, eqb-true, ◌⊎◌, inl, inr, IsCharBoundary, drop_of_length-le}
 use Rattle.std.proofs.lemmas.Bool.{ne_eqb}
 use Rattle.std.proofs.lemmas.List.{drop_more}

@@ -1,5 +1,6 @@
 -- The names of files, and the references from one to another (RFC 3986, sections 4.2 and 5.2).
-use Rattle.std.specs.Prelude.{ℕ, Bool, ◌&&◌, ◌||◌, ◌==◌, nat_eq, nat_lt, List, [], ◌∷◌, ◌++◌, Option, Some, None, unwrap_or, cond, codes, length, drop}
+use Rattle.std.specs.Prelude.{ℕ, Bool, ◌&&◌, ◌||◌, ◌==◌, nat_eq, nat_lt, List, [], ◌∷◌}
+use Rattle.std.specs.Prelude.{◌++◌, Option, Some, None, unwrap_or, cond, codes, length, drop}
 use Rattle.std.specs.List.{ends_with, position_or_len, before_first, after_first}
 use Rattle.uri_reference.specs.Letters.{is_slash, after, through_last_slash}
 use Rattle.uri_reference.specs.Resolving.{begins_with_slash, is_empty}
