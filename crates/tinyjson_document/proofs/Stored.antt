@@ -6,11 +6,10 @@ use Rattle.std.proofs.Common.{true≢false}
 use Rattle.std.specs.Bool.{MatchBool}
 use Rattle.std.specs.Result.{result_ok}
 use Rattle.std.specs.Str.{IsUtf8}
-use Rattle.tinyjson_number.proofs.Callers.{decimal_ascii, one_decimal, text_is_number}
+use Rattle.tinyjson_number.proofs.Callers.{decimal_ascii, one_decimal, one_numeral, text_is_number}
 use Rattle.tinyjson_number.specs.Canonical.{IsDecimal}
 use Rattle.tinyjson_number.specs.Decimal.{Decimal}
 use Rattle.tinyjson_number.specs.Number.{Canonical}
-use Rattle.tinyjson_number.proofs.Scans.{one_numeral}
 use Rattle.tinyjson_number.specs.NumberText.{IsNumberText}
 use Rattle.tinyjson_number.specs.Numeral.{in_range, power_width, value}
 use Rattle.tinyjson_number.specs.Reading.{Reads}

@@ -6,3 +6,4 @@ pub use Rattle.tinyjson_number.proofs.Parts.{parts_numeral, parts_read, spelling
 pub use Rattle.tinyjson_number.proofs.Integers.{magnitude_of, magnitude_whole, negative_whole}
 pub use Rattle.tinyjson_number.proofs.Laws.{one_decimal, text_is_number, wider_fits}
 pub use Rattle.tinyjson_number.proofs.Layouts.{decimal_ascii, spelling_ascii}
+pub use Rattle.tinyjson_number.proofs.Scans.{one_numeral}

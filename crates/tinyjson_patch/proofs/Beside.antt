@@ -5,8 +5,7 @@ use Rattle.std.proofs.lemmas.Slice.Eq.{bytes_eq-Decides}
 use Rattle.std.specs.Ordering.{ordering_reverse}
 use Rattle.std.specs.Prelude.{IsTrue}
 use Rattle.std.specs.Str.{all_scalars}
-use Rattle.tinyjson_grammar.proofs.Members.{key_total}
-use Rattle.tinyjson_grammar.proofs.Callers.{are_put, find_below, found_first, key_same, members_from_find, same_key, some_none, sorted_put}
+use Rattle.tinyjson_grammar.proofs.Callers.{are_put, find_below, found_first, key_same, key_total, members_from_find, same_key, some_none, sorted_put}
 use Rattle.tinyjson_grammar.specs.Soundness.{IsTree, IsTreeAt, AreMembersAt, IsBelow, IsSorted}
 use Rattle.tinyjson_grammar.specs.Tree.{Tree, null, boolean, number, string, array, object, key_cmp}
 use Rattle.tinyjson_grammar.specs.Tree.{Members, no_members, member, find, put, put_at, remove}

@@ -7,7 +7,7 @@ use Rattle.tinyjson_grammar.specs.declared.kind.JsonKind.TheVariants as kind
 use Rattle.tinyjson_grammar.specs.Soundness.{IsTree, IsBelow, IsSorted}
 use Rattle.tinyjson_grammar.specs.Tree.{Tree, null, boolean, number, string, array, object, literal_tree}
 use Rattle.tinyjson_grammar.specs.Tree.{items_of, Items, no_items, item, Members, no_members, member, put}
-use Rattle.tinyjson_grammar.proofs.JoinedMembers.{join, IsAbove, put_above, join_join, above_join}
+use Rattle.tinyjson_grammar.proofs.Callers.{join, IsAbove, put_above, join_join, above_join}
 use Rattle.tinyjson.specs.Events.{Open, in_array, at_key, at_value, Puts}
 use Rattle.tinyjson_document.specs.Comparing.{weight, items_weight, members_weight}
 use Rattle.tinyjson_document.specs.Document.{items_left, members_left}

@@ -2,6 +2,8 @@
 
 -- ---- names as bytes and as characters
 pub use Rattle.tinyjson_schema_keywords.proofs.Lookups.{at_literal, at_name, name_ascii, name_chars, text_bytes}
+-- ---- a word gathered character by character
+pub use Rattle.tinyjson_schema_keywords.proofs.Words.{word_gathered}
 -- ---- the anchors of a document
 pub use Rattle.tinyjson_schema_keywords.proofs.Naming.{anchors_had, no_plain_name, plain_name}
 -- ---- the members of a map in the order of their keys, and how deep they and items are

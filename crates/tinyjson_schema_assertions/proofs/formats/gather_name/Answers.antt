@@ -1,7 +1,7 @@
 use Rattle.std.proofs.Common.{◌≡◌, false, [], ◌∷◌, cond, is_some, sym, ap, ◌∙◌, subst}
 use Rattle.text_formats.specs.Format.{format_named}
 use Rattle.tinyjson_schema_keywords.specs.Unknown.{Gathers}
-use Rattle.tinyjson_schema_keywords.proofs.Words.{word_gathered}
+use Rattle.tinyjson_schema_keywords.proofs.Callers.{word_gathered}
 use Rattle.tinyjson_schema_assertions.specs.Formats.{unknown_name}
 use Rattle.tinyjson_schema_assertions.proofs.formats.gather_name.Goals as goal
 
