@@ -1,5 +1,6 @@
 //! The form of a text.
-ghost use Rattle.std.specs.Prelude.{◌≡◌, ◌≢◌, ◌∷◌, ◌++◌, [], IfErr, IfOk, IfSome, MatchOption, Some, encode_utf8_all};
+ghost use Rattle.std.specs.Prelude.{◌≡◌, ◌≢◌, ◌∷◌, ◌++◌, [], IfErr};
+ghost use Rattle.std.specs.Prelude.{IfOk, IfSome, MatchOption, Some, encode_utf8_all};
 ghost use Rattle.std.specs.Str.{chars};
 ghost use Rattle.tinyjson.specs.Characters.{line_feed};
 ghost use Rattle.tinyjson.specs.Text.{text};

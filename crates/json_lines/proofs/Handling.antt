@@ -40,10 +40,12 @@ module _ (options : Options) (n : ℕ) (line : List ℕ) (held holds told : Opti
   pub line_written : (o : Option Cause) → o ≡ None → WritesGiven options.limit options.max_line line held holds (Ok o)
       → Handles options n line held holds told told (Ok AllWritten)
   line_written o is h =
-      let w : WritesGiven options.limit options.max_line line held holds (Ok None) = subst (λ q. WritesGiven options.limit options.max_line line held holds (Ok q)) is h in
+      let w : WritesGiven options.limit options.max_line line held holds (Ok None) =
+          subst (λ q. WritesGiven options.limit options.max_line line held holds (Ok q)) is h in
       (Ok w.0, w.1, refl, w.2, Appends-nil told)
 
-  pub write_failed : (e : Error) → WritesGiven options.limit options.max_line line held holds (Err e) → Handles options n line held holds told told (Err e)
+  pub write_failed : (e : Error) → WritesGiven options.limit options.max_line line held holds (Err e)
+      → Handles options n line held holds told told (Err e)
   write_failed e h = ⊎_elim (λ k. inl (k, Keeps-refl told)) (λ w. inr (Ok w.0, w.1, w.2, stop begins)) h
 
 -- a line is refused, the output is flushed, and the refusal is told
@@ -61,7 +63,8 @@ module _ (options : Options) (n : ℕ) (line : List ℕ) (held mid holds told te
     Appends_written told tells (telling_of options n (Err c)) t,
   )
 
-  pub tell_failed : (e : Error) → WrittenPart told tells (telling_of options n (Err c)) → Handles options n line held holds told tells (Err e)
+  pub tell_failed : (e : Error) → WrittenPart told tells (telling_of options n (Err c))
+      → Handles options n line held holds told tells (Err e)
   tell_failed e t = inr (Err c, not_written.0, stop (written_same (written_same begins not_written.1) flushed), t)
 
 -- the exit of a `?`

@@ -184,7 +184,8 @@ module _ (options : Options) (unread left held holds told tells : Option (List �
     }
 
     -- writing it or telling of it failed
-    cut : (f : Fate) → HasFate options.limit options.max_line line f → WrittenPart holds new (output_of f) → WrittenPart tells news (telling_of options n f)
+    cut : (f : Fate) → HasFate options.limit options.max_line line f → WrittenPart holds new (output_of f)
+        → WrittenPart tells news (telling_of options n f)
         → StopsAmongLines options unread held new told news
     cut f h w t = record {
       read = p.read ++ line ∷ [];

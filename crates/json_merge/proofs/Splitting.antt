@@ -22,4 +22,5 @@ module _ {X : Type 0} (n : ℕ) (xs : List X) (f : X → List ℕ) (h : n ≤ le
       ∙ (ap (λ b. option_map (λ o. ((b, i), o)) (split_operands n (map f xs))) el
       ∙ (ap (λ b. option_map (λ o. ((texts_given a, b), o)) (split_operands n (map f xs))) ei
       ∙ (ap (λ k. option_map (λ o. ((texts_given a, is_given 105 a), o)) (split_operands k (map f xs))) en
-      ∙ ap (λ ws. option_map (λ o. ((texts_given a, is_given 105 a), o)) (split_operands (unwrap_or (last_number 112 None a.numbers) 1) ws)) ex)))
+      ∙ ap (λ ws. option_map (λ o. ((texts_given a, is_given 105 a), o))
+      (split_operands (unwrap_or (last_number 112 None a.numbers) 1) ws)) ex)))

@@ -26,7 +26,8 @@ pub struct Asked<'a> {
 /// asked.answer_text(alloc, r#"{"a":1,"b":2}"#, &mut output)?; // by {"a":null}: writes {"b":2} and a line feed
 /// ```
 impl TextAnswer for Asked<'_> {
-    ghost gives = { λ a text f. GivesMerged a.is_indented (map document_tree a.patches.now) text f };
+    ghost gives = { λ a text f. GivesMerged
+        a.is_indented (map document_tree a.patches.now) text f };
 
     fn answer_text<W: Write>(
         &self,

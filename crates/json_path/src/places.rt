@@ -1,5 +1,6 @@
 //! Places in a value, by the texts of their normalized paths.
-ghost use Rattle.std.specs.Prelude.{◌≡◌, ◌≤◌, ℕ, List, nat_lt, cond, true, IfOk, OnOk, string_bytes};
+ghost use Rattle.std.specs.Prelude.{◌≡◌, ◌≤◌, ℕ, List, nat_lt};
+ghost use Rattle.std.specs.Prelude.{cond, true, IfOk, OnOk, string_bytes};
 ghost use Rattle.std.specs.HashSet.{contains_text};
 ghost use Rattle.std.specs.Str.{bytes_eq};
 ghost use Rattle.tinyjson.specs.View.{text};

@@ -3,7 +3,8 @@
 #![tactic(auto)]
 
 ghost use Rattle.std.specs.Char.{IsScalar};
-ghost use Rattle.std.specs.Prelude.{◌≡◌, ◌≢◌, ◌<◌, ◌⊎◌, ◌↔◌, ℕ, [], IsTrue, List, None, Option, Some};
+ghost use Rattle.std.specs.Prelude.{◌≡◌, ◌≢◌, ◌<◌, ◌⊎◌, ◌↔◌, ℕ};
+ghost use Rattle.std.specs.Prelude.{[], IsTrue, List, None, Option, Some};
 ghost use Rattle.std.specs.Prelude.{codes, false, true};
 ghost use Rattle.std.specs.Prelude.{Ok, encode_utf8_all, length};
 ghost use Rattle.std.specs.Str.{IsUtf8, chars};

@@ -1,5 +1,6 @@
 -- One line that was answered, or has no answer, or is cut off.
-use Rattle.std.proofs.Common.{◌≡◌, ℕ, Bool, true, false, ◌&&◌, List, [], Option, None, Some, Result, Ok, Err, ⊎_elim, inl, inr, refl, ◌∙◌, option_map, subst}
+use Rattle.std.proofs.Common.{◌≡◌, ℕ, Bool, true, false, ◌&&◌, List, [], Option, None, Some, Result}
+use Rattle.std.proofs.Common.{Ok, Err, ⊎_elim, inl, inr, refl, ◌∙◌, option_map, subst}
 use Rattle.std.proofs.KnownBytes.{Appends-nil, Keeps-refl}
 use Rattle.std.proofs.lemmas.Bool.{false≢true}
 use Rattle.std.specs.Io.KnownBytes.{Appends, Keeps}
@@ -38,10 +39,12 @@ module _ {A : Type 0} (gives : Gives A) (old : TextLines A) (n : ℕ) (line : Op
       → HandlesLine (handles_text gives) old new n line held holds told told (Err d)
   unwritten new e d h =
       ⊎_elim (λ k. inl (k.1, Keeps-refl told))
-      (λ w. inr (w.0, [], true, old, (Ok w.0, w.1, refl, refl, refl, and_true old.are_answered, refl, refl, refl, refl), w.2, stop begins)) h
+      (λ w. inr (w.0, [], true, old,
+          (Ok w.0, w.1, refl, refl, refl, and_true old.are_answered, refl, refl, refl, refl), w.2, stop begins)) h
 
 -- A line has no answer. The output is flushed, and that is reported.
-module _ {A : Type 0} (gives : Gives A) (old new : TextLines A) (n : ℕ) (line : Option (List ℕ)) (held mid holds told tells : Option (List ℕ))
+module _ {A : Type 0} (gives : Gives A) (old new : TextLines A) (n : ℕ) (line : Option (List ℕ))
+    (held mid holds told tells : Option (List ℕ))
     (o : Option NoAnswer) (why : NoAnswer) (is : o ≡ Some why) (none : AnswersLine gives old.asked old.max_line line held mid (Ok o))
     (flushed : Keeps mid holds)
     (are : new.are_answered ≡ false) (asked : new.asked ≡ old.asked) (program : new.program ≡ old.program) (file : new.file ≡ old.file)

@@ -7,7 +7,8 @@ use Rattle.std.proofs.Math.Seq.{drop-cons}
 use Rattle.std.specs.Option.{option_map_or}
 use Rattle.std.specs.Str.{IsUtf8, is_utf8}
 use Rattle.tinyjson_cli.specs.Arguments.{Given, Fault, Word, Takes, nothing, flag, with_text, operand, join, and_word, and_words, and_rest}
-use Rattle.tinyjson_cli.specs.Arguments.{text_or, no_text, taken_gives, value_gives, by_letter, by_name, letter_gives, letters_give, name_gives}
+use Rattle.tinyjson_cli.specs.Arguments.{text_or, no_text, taken_gives, value_gives, by_letter}
+use Rattle.tinyjson_cli.specs.Arguments.{by_name, letter_gives, letters_give, name_gives}
 use Rattle.tinyjson_cli.specs.Arguments.{dashes_give, option_gives, word_gives, words_give}
 use Rattle.tinyjson_cli.specs.declared.arguments.Known.{Known}
 use Rattle.tinyjson_cli.specs.declared.arguments.Misuse.{Misuse}

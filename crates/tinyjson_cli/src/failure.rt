@@ -105,7 +105,8 @@ pub struct Message<'a> {
 }
 
 impl fmt::Display for Message<'_> {
-    ghost output = { λ m. message_text m.program.now (option_map (λ s. s.now) m.file) m.failure.now };
+    ghost output = { λ m. message_text
+        m.program.now (option_map (λ s. s.now) m.file) m.failure.now };
 
     fn fmt<W: fmt::Write>(&self, f: &mut fmt::Formatter<W>) -> fmt::Result {
         let Message {

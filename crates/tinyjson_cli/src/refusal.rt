@@ -19,7 +19,8 @@ pub struct RefusedLine<'a> {
 }
 
 impl fmt::Display for RefusedLine<'_> {
-    ghost output = { λ r. Some (refusal_text r.program.now (option_map (λ s. s.now) r.file) r.refusal) };
+    ghost output = { λ r. Some (refusal_text
+        r.program.now (option_map (λ s. s.now) r.file) r.refusal) };
 
     fn fmt<W: fmt::Write>(&self, f: &mut fmt::Formatter<W>) -> fmt::Result {
         let RefusedLine {

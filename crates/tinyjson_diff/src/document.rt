@@ -60,7 +60,8 @@ fn named(
     name: &str,
     path: &Pointer,
 ) -> Result<HashMap<String, JsonValue>, AllocError>
-    ensures { IfOk result (λ m. members_view m.entries ≡ named (chars name.now) (tokens_of path.now)) }
+    ensures { IfOk result (λ m.
+        members_view m.entries ≡ named (chars name.now) (tokens_of path.now)) }
 {
     let mut members = HashMap::new(alloc);
     let name = String::from_str(alloc, name)?;

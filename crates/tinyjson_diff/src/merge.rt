@@ -150,7 +150,8 @@ fn member_of<'a>(
     members: Option<&'a HashMap<String, JsonValue>>,
     key: &str,
 ) -> Option<&'a JsonValue>
-    ensures { option_map (λ v. view v.now) result ≡ find (chars key.now) (members_in members.entry) }
+    ensures { option_map (λ v. view v.now) result
+        ≡ find (chars key.now) (members_in members.entry) }
 {
     match members {
         Some(members) => members.get(key),
@@ -164,8 +165,8 @@ fn removals(
     before: Option<&HashMap<String, JsonValue>>,
     after: &HashMap<String, JsonValue>,
 ) -> Result<HashMap<String, JsonValue>, AllocError>
-    ensures { IfOk result (λ m. AreRemovals (members_in before.entry) (members_view after.now.entries)
-        (members_view m.entries)) }
+    ensures { IfOk result (λ m. AreRemovals
+        (members_in before.entry) (members_view after.now.entries) (members_view m.entries)) }
 {
     let mut removals = HashMap::new(alloc);
     let Some(before) = before else {

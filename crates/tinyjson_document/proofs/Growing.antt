@@ -32,7 +32,8 @@ text_stays s r cs p g h = record {
 }
 
 pub stored_stays : (s r : Store) (d : Decimal) (n : Number) → Grows s r → IsNumber s d n → IsNumber r d n
-stored_stays s r d (stored.Short p) g h = record { run = run_stays _ _ (decimal_text d) p g.texts h.run; few = h.few; canonical = h.canonical }
+stored_stays s r d (stored.Short p) g h =
+    record { run = run_stays _ _ (decimal_text d) p g.texts h.run; few = h.few; canonical = h.canonical }
 stored_stays s r d (stored.Kept i) g h = record {
   front = h.front;
   here = h.here;

@@ -319,7 +319,8 @@ module _ (s : Store) where
   -- ---- the items and the members, seen from the tree
 
   pub items_left_known : (n : Cell) (k : Known s n) (ns : List Cell) → ns ≡ cells_at s n → (l : KnownItems s ns) → l.items ≡ items_in k.tree
-  items_left_known n k ns e l = known_are s ns l (items_in k.tree) (subst (Are s (items_in k.tree)) (sym e) (cells_are k.tree n (known_had n k)))
+  items_left_known n k ns e l =
+      known_are s ns l (items_in k.tree) (subst (Are s (items_in k.tree)) (sym e) (cells_are k.tree n (known_had n k)))
 
   pub members_left_known : (n : Cell) (k : Known s n) (es : List Member) → es ≡ members_at s n → (l : KnownMembers s es)
       → l.members ≡ members_in k.tree
@@ -351,7 +352,8 @@ module _ (s : Store) where
 
   pub first_member : (es : List Member) (e : Member) (rest : List Member) → es ≡ e ∷ rest → (k : KnownMembers s es)
       → NextMember s k.members e rest
-  first_member es e rest h k = next_member_of s k.members e rest (subst (AreMembers s k.members) h (members_had s k.members es k.are)) k.sound
+  first_member es e rest h k =
+      next_member_of s k.members e rest (subst (AreMembers s k.members) h (members_had s k.members es k.are)) k.sound
 
   -- the text of a key is there, and its characters are the tree's
   pub key_text : (es : List Member) (e : Member) (rest : List Member) (h : es ≡ e ∷ rest) (k : KnownMembers s es)

@@ -1,5 +1,6 @@
 -- The parts of a value, as a view gives them.
-use Rattle.std.proofs.Common.{◌≡◌, ℕ, Bool, true, zero, suc, List, [], ◌∷◌, Option, Some, None, option_map, slice_get, length, String, Vec, Global}
+use Rattle.std.proofs.Common.{◌≡◌, ℕ, Bool, true, zero, suc, List, [], ◌∷◌, Option, Some}
+use Rattle.std.proofs.Common.{None, option_map, slice_get, length, String, Vec, Global}
 use Rattle.std.proofs.Common.{Ordering, Less, Equal, Greater, bytes_eq, cond, false}
 use Rattle.std.specs.Ordering.{match_ordering}
 use Rattle.std.proofs.lemmas.Slice.Eq.{bytes_eq-Decides}
@@ -22,7 +23,8 @@ use Rattle.tinyjson.specs.declared.value.JsonValue.{JsonValue}
 use Rattle.tinyjson.specs.declared.value.JsonValue.TheVariants as made
 use Rattle.tinyjson_number.specs.Decimal.{Decimal}
 use Rattle.tinyjson_number.specs.declared.number.JsonNumber.{JsonNumber}
-use Rattle.tinyjson_grammar.specs.Tree.{Tree, null, boolean, number, string, array, object, put, Items, Members, no_members, member, find, key_cmp}
+use Rattle.tinyjson_grammar.specs.Tree.{Tree, null, boolean, number, string, array, object, put}
+use Rattle.tinyjson_grammar.specs.Tree.{Items, Members, no_members, member, find, key_cmp}
 use Rattle.tinyjson_document.specs.Parts.{boolean_in, number_in, string_in, member_count, size}
 
 -- ---- a tree of another variant
@@ -69,7 +71,8 @@ count_put_new k t (member l u ms) h = by (key_cmp k l) refl (bytes_eq k l) refl 
   where
     by : (o : Ordering) → key_cmp k l ≡ o → (b : Bool) → bytes_eq k l ≡ b
         → (find k ms ≡ None → member_count (put k t ms) ≡ suc (member_count ms))
-        → member_count (match_ordering o (member k t (member l u ms)) (member k t ms) (member l u (put k t ms))) ≡ suc (suc (member_count ms))
+        → member_count (match_ordering o (member k t (member l u ms)) (member k t ms) (member l u (put k t ms)))
+              ≡ suc (suc (member_count ms))
     by Less e b f more = refl
     by Equal e b f more =
         let same = (bytes_eq-Decides k l).1 (key_same k l e) in
@@ -119,7 +122,8 @@ module _ (v : JsonValue) where
 
   pub item_viewed : (l : Vec JsonValue Global) (i : ℕ) (r : Option (Bor JsonValue)) → v ≡ made.Array l
       → option_map (λ x. x.now) r ≡ slice_get l.items i → option_map (λ x. view x.now) r ≡ tree_at (view v) i
-  item_viewed l i r e g = view_ref r ∙ ap (option_map view) g ∙ sym (nth_viewed l.items i) ∙ sym (ap (λ t. tree_at t i) (ap view e ∙ view_Array l))
+  item_viewed l i r e g = view_ref r ∙ ap (option_map view) g ∙ sym (nth_viewed l.items i)
+      ∙ sym (ap (λ t. tree_at t i) (ap view e ∙ view_Array l))
 
   pub member_viewed : (m : JsonMap) (bs : List ℕ) (r : Option (Bor JsonValue)) → v ≡ made.Object m → IsUtf8 bs
       → option_map (λ x. x.now) r ≡ get_by_text m bs → option_map (λ x. view x.now) r ≡ tree_at_key (view v) (chars bs)

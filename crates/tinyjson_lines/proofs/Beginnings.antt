@@ -3,7 +3,8 @@ use Rattle.std.proofs.Common.{◌≡◌, ◌<◌, ◌≤◌, ℕ, ◌+◌, ◌==
 use Rattle.std.proofs.Common.{Err, inl, refl, sym, ap, ◌∙◌, subst, append_assoc, append-nil, length-append, arith}
 use Rattle.std.proofs.Math.Seq.{drop-append_seam, take-append_seam}
 use Rattle.std.proofs.lemmas.List.{length-drop, take-append-le, take-append-drop}
-use Rattle.std.proofs.lemmas.Str.{chars-append, IsUtf8-drop, IsUtf8-take, IsCharBoundary-from_take, IsCharBoundary-past_char, len_utf8_bounds}
+use Rattle.std.proofs.lemmas.Str.{chars-append, IsUtf8-drop, IsUtf8-take, IsCharBoundary-from_take}
+use Rattle.std.proofs.lemmas.Str.{IsCharBoundary-past_char, len_utf8_bounds}
 use Rattle.std.specs.Char.{len_utf8}
 use Rattle.std.specs.Str.{IsUtf8, IsValidUpTo, chars, encode_utf8_all}
 use Rattle.tinyjson.specs.Error.{error_kind, error_position}

@@ -1,6 +1,7 @@
 -- A line that is passed over, of which a part is read.
 use Rattle.std.proofs.Common.{◌≡◌, ◌<◌, ◌==◌, ℕ, ◌+◌, ◌-◌, Bool, true, false, cond, List, [], ◌∷◌, ◌++◌, All, length, take, drop, get_or}
-use Rattle.std.proofs.Common.{Option, None, Some, Result, Ok, Err, refl, sym, ap, ◌∙◌, subst, append_assoc, append-nil, length-append, arith}
+use Rattle.std.proofs.Common.{Option, None, Some, Result, Ok, Err, refl, sym, ap, ◌∙◌}
+use Rattle.std.proofs.Common.{subst, append_assoc, append-nil, length-append, arith}
 use Rattle.std.proofs.KnownBytes.{Consumes-nil}
 use Rattle.std.proofs.Math.Seq.{drop-append_seam, take-append-add, take-append_seam}
 use Rattle.std.proofs.lemmas.Bool.{lt-ltb}
@@ -138,7 +139,8 @@ module _ (unread left : Option (List ℕ)) (part held : List ℕ) (p : Passing u
   -- a text is cut off
   pub cut : (text tail : List ℕ) → IsCutAfter text held → tail ≡ drop (length text) held → Passing unread left part tail
   cut text tail c e =
-      let whole : held ≡ text ++ tail = c.2 ∙ ap (λ t. text ++ t) (sym (drop-append_seam text c.1) ∙ (ap (drop (length text)) (sym c.2) ∙ sym e)) in
+      let whole : held ≡ text ++ tail = c.2
+          ∙ ap (λ t. text ++ t) (sym (drop-append_seam text c.1) ∙ (ap (drop (length text)) (sym c.2) ∙ sym e)) in
       let front_text : All IsInLine text = subst (All IsInLine) (ap (take (length text)) whole ∙ take-append_seam text tail)
       (All-take IsInLine (length text) held p.piece.unended) in
       let in_tail : All IsInLine tail = subst (All IsInLine) (sym e) (All-drop IsInLine (length text) held p.piece.unended) in
@@ -182,7 +184,8 @@ module _ (unread left : Option (List ℕ)) (part held : List ℕ) (p : Passing u
   finish after new more b e read told =
       let whole : p.front ++ content new ≡ part ++ (p.rest ++ content more) =
       ap (λ l. p.front ++ l) (ap content e ∙ content_join held more p.piece.unended)
-      ∙ (sym (append_assoc p.front held (content more)) ∙ (ap (λ l. l ++ content more) p.begins ∙ append_assoc part p.rest (content more))) in (
+      ∙ (sym (append_assoc p.front held (content more))
+      ∙ (ap (λ l. l ++ content more) p.begins ∙ append_assoc part p.rest (content more))) in (
         p.front ++ new,
         p.rest ++ content more,
         joined unread p.middle after p.front new p.taken p.unended read,

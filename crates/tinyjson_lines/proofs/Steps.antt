@@ -170,7 +170,8 @@ module _ {H : Type 0} where
             (subst (λ l. LinesGiven max unread after (lines_of p.steps ++ l ∷ [])) (sym e)
             (given_next max unread left after (lines_of p.steps) line p.given read))
 
-        written_more : (s : Step H) (new : Option (List ℕ)) → Appends holds new s.written → Appends held new (written_of (p.steps ++ s ∷ []))
+        written_more : (s : Step H) (new : Option (List ℕ)) → Appends holds new s.written
+            → Appends held new (written_of (p.steps ++ s ∷ []))
         written_more s new w = subst (Appends held new) (sym (written_next p.steps s))
             (Appends-trans held holds new (written_of p.steps) s.written p.written w)
 

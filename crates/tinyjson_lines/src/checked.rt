@@ -1,5 +1,6 @@
 //! Lines that are checked while they are read.
-ghost use Rattle.std.specs.Prelude.{◌≡◌, ◌<◌, ℕ, List, MatchOption, Option, Some, IfOk, IfSome, length};
+ghost use Rattle.std.specs.Prelude.{◌≡◌, ◌<◌, ℕ, List, MatchOption};
+ghost use Rattle.std.specs.Prelude.{Option, Some, IfOk, IfSome, length};
 ghost use Rattle.std.specs.Result.{result_map_both};
 ghost use Rattle.tinyjson_lines.specs.Checked.{ReadsChecked, checked_as};
 ghost use Rattle.tinyjson_lines.specs.private.Beginnings.{IsCutAfter, IsNoUtf8, PassesOver, Rejects, usize_max};

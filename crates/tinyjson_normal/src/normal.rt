@@ -1,5 +1,6 @@
 //! A parsed text, ready to be written in normal form.
-ghost use Rattle.std.specs.Prelude.{◌≡◌, ◌↔◌, ◌++◌, ◌∷◌, [], None, Some, IfOk, IfSome, IsTrue, codes};
+ghost use Rattle.std.specs.Prelude.{◌≡◌, ◌↔◌, ◌++◌, ◌∷◌, [], None};
+ghost use Rattle.std.specs.Prelude.{Some, IfOk, IfSome, IsTrue, codes};
 ghost use Rattle.std.specs.Prelude.{encode_utf8_all, string_bytes};
 ghost use Rattle.std.specs.Str.{all_scalars, chars};
 ghost use Rattle.tinyjson.specs.Characters.{line_feed};

@@ -5,7 +5,8 @@ use Rattle.std.proofs.lemmas.Slice.Eq.{bytes_eq-Decides}
 use Rattle.std.specs.Ordering.{ordering_reverse}
 use Rattle.std.specs.Prelude.{IsTrue}
 use Rattle.std.specs.Str.{all_scalars}
-use Rattle.tinyjson_grammar.proofs.Callers.{are_put, find_below, found_first, key_same, key_total, members_from_find, same_key, some_none, sorted_put}
+use Rattle.tinyjson_grammar.proofs.Callers.{are_put, find_below, found_first, key_same, key_total}
+use Rattle.tinyjson_grammar.proofs.Callers.{members_from_find, same_key, some_none, sorted_put}
 use Rattle.tinyjson_grammar.specs.Soundness.{IsTree, IsTreeAt, AreMembersAt, IsBelow, IsSorted}
 use Rattle.tinyjson_grammar.specs.Tree.{Tree, null, boolean, number, string, array, object, key_cmp}
 use Rattle.tinyjson_grammar.specs.Tree.{Members, no_members, member, find, put, put_at, remove}
@@ -175,7 +176,8 @@ mutual
   merge_sound t (string cs) a b = b
   merge_sound t (array ts) a b = b
 
-  are_merged : (ms ps : Members) → AreMembersAt power_width ms → AreMembersAt power_width ps → AreMembersAt power_width (merge_members ms ps)
+  are_merged : (ms ps : Members) → AreMembersAt power_width ms → AreMembersAt power_width ps
+      → AreMembersAt power_width (merge_members ms ps)
   are_merged ms no_members a b = a
   are_merged ms (member k p ps) a b =
       let here = merge_sound (unwrap_or (find k ms) null) p (found_sound k ms a) b.1 in

@@ -11,7 +11,8 @@ abbrev pub changed : List ℕ → Tree → Members → Members
 changed k null ms = remove k ms
 changed k p ms = put k (merge_patch (unwrap_or (find k ms) null) p) ms
 
-pub one_change : (ms : Members) (k : List ℕ) (p : Tree) (ps : Members) → merge_members ms (member k p ps) ≡ merge_members (changed k p ms) ps
+pub one_change : (ms : Members) (k : List ℕ) (p : Tree) (ps : Members)
+    → merge_members ms (member k p ps) ≡ merge_members (changed k p ms) ps
 one_change ms k null ps = refl
 one_change ms k _ ps = refl
 

@@ -1,5 +1,6 @@
 //! Merges a patch into a document, without recursion: what is left of the open objects is on a stack.
-ghost use Rattle.std.specs.Prelude.{◌≡◌, ◌<◌, ◌+◌, ◌∷◌, true, List, IfOk, OnOk, option_map, reverse, unwrap_or};
+ghost use Rattle.std.specs.Prelude.{◌≡◌, ◌<◌, ◌+◌, ◌∷◌, true, List};
+ghost use Rattle.std.specs.Prelude.{IfOk, OnOk, option_map, reverse, unwrap_or};
 ghost use Rattle.std.specs.Str.{chars};
 ghost use Rattle.tinyjson.specs.Access.{is_object};
 ghost use Rattle.tinyjson.specs.Events.{Open, Puts, at_key};
@@ -37,7 +38,8 @@ pub fn merge_documents(
     target: Node<'_>,
     patch: Node<'_>,
 ) -> Result<Document, AllocError>
-    ensures { IfOk result (λ d. document_tree d ≡ merge_patch (tree target.entry) (tree patch.entry)) }
+    ensures { IfOk result (λ d.
+        document_tree d ≡ merge_patch (tree target.entry) (tree patch.entry)) }
 {
     let mut arena = Arena::new(alloc);
     merge_into(alloc, target, patch, &mut arena)?;

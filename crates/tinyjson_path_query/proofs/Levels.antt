@@ -12,7 +12,8 @@ use Rattle.tinyjson_path_query.specs.Forms.{Comparable, Function, Argument, IsAr
 use Rattle.tinyjson_path_query.specs.Forms.{PlainSelector, Selector, Segment, Operand, Basic, Expression, Each, IsSelector}
 use Rattle.tinyjson_path_query.specs.Forms.{Disjunction, IsExpression, IsDisjunction}
 use Rattle.tinyjson_path_query.specs.Forms as form
-use Rattle.tinyjson_path_query.specs.Grammar.{after_blanks, begins_with, right_parenthesis, length_call, count_call, value_call, pattern_call}
+use Rattle.tinyjson_path_query.specs.Grammar.{after_blanks, begins_with, right_parenthesis, length_call}
+use Rattle.tinyjson_path_query.specs.Grammar.{count_call, value_call, pattern_call}
 use Rattle.tinyjson_path_query.specs.Values.{Literal, SingularSegment}
 use Rattle.tinyjson_path_query.specs.declared.query.Comparable.{Comparable as CodeComparable}
 use Rattle.tinyjson_path_query.specs.declared.refusal.Refusal.{Refusal}

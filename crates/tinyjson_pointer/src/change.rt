@@ -1,5 +1,6 @@
 //! Inserts and removes parts of a value.
-ghost use Rattle.std.specs.Prelude.{◌≡◌, ℕ, ◌<◌, ◌≤◌, Some, IsSome, MatchOption, map, length, OnErr};
+ghost use Rattle.std.specs.Prelude.{◌≡◌, ℕ, ◌<◌, ◌≤◌, Some};
+ghost use Rattle.std.specs.Prelude.{IsSome, MatchOption, map, length, OnErr};
 ghost use Rattle.std.specs.Prelude.{OnOk};
 ghost use Rattle.std.specs.Str.{chars};
 ghost use Rattle.tinyjson.specs.Tree.{null, array, object, put};

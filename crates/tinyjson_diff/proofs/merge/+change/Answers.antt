@@ -31,7 +31,8 @@ loop-key-preserved-in-Ok-None t c =
     changed_none os (members_view c.loop-key.changes.entries) c.into_iter-key-iterator.result c.loop-key.key-iterator c.next.new.self
     (key, v) c.loop-key.invariant c.in-Some.ensures.steps
     (subst (λ o. IsChange o (Some (view v)) None) old
-    (subst (λ x. IsChange (option_map (λ w. view w.now) c.member_of.result) (Some (view v)) (option_map view x)) c.in-Ok-None.field-0-is c.in-Ok-None.ensures))
+    (subst (λ x. IsChange (option_map (λ w. view w.now) c.member_of.result) (Some (view v)) (option_map view x)) c.in-Ok-None.field-0-is
+        c.in-Ok-None.ensures))
 
 pub loop-key-preserved : goal.loop-key-preserved
 loop-key-preserved t c =
@@ -47,7 +48,8 @@ loop-key-preserved t c =
     changed_some os now c.into_iter-key-iterator.result c.loop-key.key-iterator c.next.new.self
     (key, v) c.loop-key.invariant c.in-Some.ensures.steps next p
     (subst (λ o. IsChange o (Some (view v)) (Some p)) old
-    (subst (λ x. IsChange (option_map (λ w. view w.now) c.member_of.result) (Some (view v)) (option_map view x)) c.in-Ok-Some.field-0-is c.in-Ok-Some.ensures)) is_put
+    (subst (λ x. IsChange (option_map (λ w. view w.now) c.member_of.result) (Some (view v)) (option_map view x)) c.in-Ok-Some.field-0-is
+        c.in-Ok-Some.ensures)) is_put
 
 pub returns-in-Err : goal.returns-in-Err
 returns-in-Err t c =

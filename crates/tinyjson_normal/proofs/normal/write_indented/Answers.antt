@@ -17,7 +17,8 @@ returns-in-Ok-read_events g c = λ t e k.
     (subst (λ z. IsText None (chars z) u.1) c.in-Ok.ensures.cases.0 u.2)) (c.write_to.ensures u.1 u.3)
 
 pub returns-in_default : goal.returns-in_default
-returns-in_default g c = λ t e k. record { rest = enc (text (indent_of c.args.indent) 0 t) ++ c.args.behind.now; written = written_none _ _ _ refl }
+returns-in_default g c =
+    λ t e k. record { rest = enc (text (indent_of c.args.indent) 0 t) ++ c.args.behind.now; written = written_none _ _ _ refl }
 
 pub returns : goal.returns
 returns g c = λ t e k. record { rest = enc (text (indent_of c.args.indent) 0 t) ++ c.args.behind.now; written = written_none _ _ _ refl }

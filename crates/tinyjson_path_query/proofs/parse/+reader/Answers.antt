@@ -23,7 +23,8 @@ use Rattle.tinyjson_path_query.proofs.Levels.{selection_at, selection_none, segm
 use Rattle.tinyjson_path_query.proofs.Levels.{descendant_short, segment_bracket, segment_short, closed_at}
 use Rattle.tinyjson_path_query.proofs.Levels.{query_from, call_from, literal_from, length_from}
 use Rattle.tinyjson_path_query.proofs.Levels.{count_from, value_from, closed_from, begun_from}
-use Rattle.tinyjson_path_query.proofs.Levels.{argument_at, no_argument, pattern_from, basics_at, conjunctions_at, IsOperandAt, IsComparableAt, IsBasicAt}
+use Rattle.tinyjson_path_query.proofs.Levels.{argument_at, no_argument, pattern_from, basics_at, conjunctions_at}
+use Rattle.tinyjson_path_query.proofs.Levels.{IsOperandAt, IsComparableAt, IsBasicAt}
 use Rattle.tinyjson_path_query.proofs.Levels.{IsConjunctionAt}
 use Rattle.tinyjson_path_query.proofs.Levels.{pattern_at, match_from, search_from, arguments_at}
 use Rattle.tinyjson_path_query.proofs.Levels.{operated_from, compared_at, tested_at, negated_from, affirmed_from, joined_at, joined_none}

@@ -35,7 +35,8 @@ returns-in_default g c =
     let t = tree c.args.node in
     record {
       waits = λ start os fs u h n. ok_map c.put_scalar.result
-          (λ p. completed (g.E.Events.holds start) (g.E.Events.is start) os u (reverse c.args.stack.now.items) fs t c.put_scalar.new.events p n)
+          (λ p. completed (g.E.Events.holds start) (g.E.Events.is start) os u
+              (reverse c.args.stack.now.items) fs t c.put_scalar.new.events p n)
           (c.put_scalar.ensures start fs h);
       less = let some = some_weight t in ok_always c.put_scalar.result (omega (arith, some));
     }

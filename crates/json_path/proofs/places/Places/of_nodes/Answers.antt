@@ -17,7 +17,8 @@ loop-node-preserved c = (
       let old = contains_text c.loop-node.places.paths (path_bytes path) in
       let rest = is_at (parts_view (drop (i + 1) ns)) path in
       ap (λ b. b || rest) (c.in_ok-add.ensures.paths (path_bytes path)
-      ∙ ap (λ bs. cond (bytes_eq bs (path_bytes path)) true old) (path_is c.in_ok-place_path.field-0 (path_of n) c.in_ok-place_path.ensures))
+      ∙ ap (λ bs. cond (bytes_eq bs (path_bytes path)) true old)
+      (path_is c.in_ok-place_path.field-0 (path_of n) c.in_ok-place_path.ensures))
       ∙ or_moves (bytes_eq (path_bytes (path_of n)) (path_bytes path)) old rest (is_at (parts_view ns) path)
       (ap (λ ms. old || is_at (parts_view ms) path) (sym (drop_at ns i n c.loop-node-test.true c.node-item.is))
       ∙ c.loop-node.invariant.1 path),

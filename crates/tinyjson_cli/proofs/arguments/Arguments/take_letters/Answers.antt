@@ -1,7 +1,8 @@
 use Rattle.std.proofs.Common.{◌+◌, drop, Some, ap, sym, ◌∙◌, subst}
 use Rattle.std.proofs.lemmas.List.{take_rest}
 use Rattle.tinyjson_cli.specs.Arguments.{given_of, nothing, flag, join, and_word, value_gives, letters_give, Takes}
-use Rattle.tinyjson_cli.proofs.Joining.{join_nothing, join_assoc, nothing_and_word, word_assoc, letter_at, letter_value, letter_flag, takes_after}
+use Rattle.tinyjson_cli.proofs.Joining.{join_nothing, join_assoc, nothing_and_word, word_assoc}
+use Rattle.tinyjson_cli.proofs.Joining.{letter_at, letter_value, letter_flag, takes_after}
 use Rattle.tinyjson_cli.proofs.arguments.Arguments.take_letters.Goals as goal
 
 pub loop-at-init : goal.loop-at-init
@@ -15,7 +16,8 @@ returns-in-Some-takes c =
     (sym c.in-Some.is ∙ c.with_letter.ensures) in
     let t = c.in-Some-takes.taken in
     let value = here ∙ (letter_value c.args.word.now k (drop (c.loop-at.at + 1) c.args.letters.now)
-    (letters_give c.args.known.now c.args.word.now (drop (c.loop-at.at + 1) c.args.letters.now)) t c.in-Some-takes.is ∙ ap (value_gives t k.letter) (sym (take_rest c.args.letters.now (c.loop-at.at + 1)))) in
+    (letters_give c.args.known.now c.args.word.now (drop (c.loop-at.at + 1) c.args.letters.now)) t c.in-Some-takes.is
+        ∙ ap (value_gives t k.letter) (sym (take_rest c.args.letters.now (c.loop-at.at + 1)))) in
     subst (λ w. Takes w (given_of c.args.self.now) (given_of c.take_value.new.self) c.take_value.result)
     (sym (i.2 ∙ ap (and_word i.0) value)) (takes_after i.0 _ _ _ _ _ i.1 c.take_value.ensures)
 

@@ -3,7 +3,8 @@ use Rattle.tinyjson_cli.specs.Arguments.{nothing, operand, option_gives}
 use Rattle.tinyjson_cli.specs.declared.arguments.Next.TheVariants.{Any}
 use Rattle.tinyjson_cli.proofs.Joining.{join_nothing, short_word, plain_word, dashed_word, dashes_alone}
 use Rattle.tinyjson_cli.proofs.arguments.Arguments.take_option.Goals as goal
-use Rattle.tinyjson_cli.proofs.arguments.Arguments.take_option.Goals.{then-bytes-lt2-via-then-bytes-lt2, then-bytes-lt2-via-else-bytes-lt2+then-bytes-ne45}
+use Rattle.tinyjson_cli.proofs.arguments.Arguments.take_option.Goals.{then-bytes-lt2-via-then-bytes-lt2}
+use Rattle.tinyjson_cli.proofs.arguments.Arguments.take_option.Goals.{then-bytes-lt2-via-else-bytes-lt2+then-bytes-ne45}
 
 pub returns-then-bytes-lt2 : goal.returns-then-bytes-lt2
 returns-then-bytes-lt2 c =

@@ -29,4 +29,5 @@ returns c =
       | in_default w ↦ part_empty s.items.items c.match-self.span (ap (λ p. p.from) w.span-is ∙ sym (ap (λ p. p.to) w.span-is))
           ∙ sym (cells_not s n.cell (λ p. w.in_default.not-Array p))
     ] in
-    items_left_known s n.cell n.known _ (c.part.ensures ∙ ap (λ z. part z c.match-self.span) c.deref.ensures.value ∙ rest) c.result-1.given.0
+    items_left_known s n.cell n.known _ (c.part.ensures ∙ ap (λ z. part z c.match-self.span) c.deref.ensures.value ∙ rest)
+          c.result-1.given.0

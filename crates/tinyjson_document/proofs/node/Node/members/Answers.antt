@@ -29,4 +29,5 @@ returns c =
       | in_default w ↦ part_empty s.members.items c.match-self.span (ap (λ p. p.from) w.span-is ∙ sym (ap (λ p. p.to) w.span-is))
           ∙ sym (members_not s n.cell (λ p. w.in_default.not-Object p))
     ] in
-    members_left_known s n.cell n.known _ (c.part.ensures ∙ ap (λ z. part z c.match-self.span) c.deref.ensures.value ∙ rest) c.result-1.given.0
+    members_left_known s n.cell n.known _ (c.part.ensures ∙ ap (λ z. part z c.match-self.span) c.deref.ensures.value ∙ rest)
+          c.result-1.given.0
