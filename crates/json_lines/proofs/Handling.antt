@@ -41,7 +41,7 @@ module _ (options : Options) (n : ℕ) (line : List ℕ) (held holds told : Opti
       → Handles options n line held holds told told (Ok AllWritten)
   line_written o is h =
       let w : WritesGiven options.limit options.max_line line held holds (Ok None) =
-          subst (λ q. WritesGiven options.limit options.max_line line held holds (Ok q)) is h in
+      subst (λ q. WritesGiven options.limit options.max_line line held holds (Ok q)) is h in
       (Ok w.0, w.1, refl, w.2, Appends-nil told)
 
   pub write_failed : (e : Error) → WritesGiven options.limit options.max_line line held holds (Err e)

@@ -116,7 +116,7 @@ same_line p ps t same = ap (λ gone. encode_utf8_all (compact (without gone [] t
 
 pub rest_written : (p : Places) (ps : List Part) (t : Tree) (old new : Option (List ℕ))
     → ((path : List Step) → has_path p path ≡ is_at ps path) → is_at ps [] ≡ false → Written old new (line_left p t) []
-        → Answers (GivesRest t ps) old new (Ok None)
+    → Answers (GivesRest t ps) old new (Ok None)
 rest_written p ps t old new same e w = (line_left p t, (e, same_line p ps t same), Appends_written old new _ w)
 
 pub rest_begun : (p : Places) (ps : List Part) (t : Tree) (old new : Option (List ℕ)) (r : Result (Option Unanswered) Error)

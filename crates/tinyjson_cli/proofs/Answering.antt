@@ -39,8 +39,15 @@ module _ {A : Type 0} (gives : Gives A) (old : TextLines A) (n : ℕ) (line : Op
       → HandlesLine (handles_text gives) old new n line held holds told told (Err d)
   unwritten new e d h =
       ⊎_elim (λ k. inl (k.1, Keeps-refl told))
-      (λ w. inr (w.0, [], true, old,
-          (Ok w.0, w.1, refl, refl, refl, and_true old.are_answered, refl, refl, refl, refl), w.2, stop begins)) h
+      (λ w. inr (
+        w.0,
+        [],
+        true,
+        old,
+        (Ok w.0, w.1, refl, refl, refl, and_true old.are_answered, refl, refl, refl, refl),
+        w.2,
+        stop begins,
+      )) h
 
 -- A line has no answer. The output is flushed, and that is reported.
 module _ {A : Type 0} (gives : Gives A) (old new : TextLines A) (n : ℕ) (line : Option (List ℕ))

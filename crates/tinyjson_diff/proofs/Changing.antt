@@ -68,7 +68,7 @@ module _ (os now : Members) (es rest more : List Entry) (e : Entry) (r : AreChan
 
       by : (q : List ℕ) (b : Bool) → bytes_eq q k ≡ b
           → IsChangedAt (find q os) (find q (members_view es)) (cond b (Some (view e.1)) (find q (members_view done)))
-              (cond b c (find q now))
+          (cond b c (find q now))
       by q true at = subst (λ x. IsChange (find x os) (Some (view e.1)) c) (sym ((bytes_eq-Decides q k).0 at)) is
       by q false at = r.changed q
 

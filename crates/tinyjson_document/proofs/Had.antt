@@ -142,7 +142,7 @@ mutual
   is_had s (string cs) (node.String p) h = (p, refl, text_had s cs p (∥∥₁_map h (λ g. subst (IsText s cs) (string_place g.1) g.2)))
   is_had s (array ts) (node.Array p) h =
       let there = ∥∥₁_map h
-          (λ g. subst (λ q. (ns : List Cell) × IsRun s.items.items q ns × Are s ts ns) (array_place g.1) (g.2, g.3, g.4)) in
+      (λ g. subst (λ q. (ns : List Cell) × IsRun s.items.items q ns × Are s ts ns) (array_place g.1) (g.2, g.3, g.4)) in
       let run = run_had s.items.items p (∥∥₁_map there (λ g. (g.0, g.1))) in
       (p, refl, run.0, run.1, are_had s ts run.0 (∥∥₁_map there (λ g. subst (Are s ts) (run_one _ p _ _ g.1 run.1) g.2)))
   is_had s (object ms) (node.Object p) h =

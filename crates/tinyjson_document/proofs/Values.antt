@@ -72,7 +72,7 @@ count_put_new k t (member l u ms) h = by (key_cmp k l) refl (bytes_eq k l) refl 
     by : (o : Ordering) → key_cmp k l ≡ o → (b : Bool) → bytes_eq k l ≡ b
         → (find k ms ≡ None → member_count (put k t ms) ≡ suc (member_count ms))
         → member_count (match_ordering o (member k t (member l u ms)) (member k t ms) (member l u (put k t ms)))
-              ≡ suc (suc (member_count ms))
+        ≡ suc (suc (member_count ms))
     by Less e b f more = refl
     by Equal e b f more =
         let same = (bytes_eq-Decides k l).1 (key_same k l e) in

@@ -140,7 +140,7 @@ module _ (unread left : Option (List ℕ)) (part held : List ℕ) (p : Passing u
   pub cut : (text tail : List ℕ) → IsCutAfter text held → tail ≡ drop (length text) held → Passing unread left part tail
   cut text tail c e =
       let whole : held ≡ text ++ tail = c.2
-          ∙ ap (λ t. text ++ t) (sym (drop-append_seam text c.1) ∙ (ap (drop (length text)) (sym c.2) ∙ sym e)) in
+      ∙ ap (λ t. text ++ t) (sym (drop-append_seam text c.1) ∙ (ap (drop (length text)) (sym c.2) ∙ sym e)) in
       let front_text : All IsInLine text = subst (All IsInLine) (ap (take (length text)) whole ∙ take-append_seam text tail)
       (All-take IsInLine (length text) held p.piece.unended) in
       let in_tail : All IsInLine tail = subst (All IsInLine) (sym e) (All-drop IsInLine (length text) held p.piece.unended) in

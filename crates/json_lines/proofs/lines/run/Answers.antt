@@ -36,7 +36,7 @@ returns-in_err-handled g c =
     let left = g.R.Read.remaining c.loop-number.input in
     let after = g.R.Read.remaining c.read_next.new.input in
     let one = given_next c.args.options.limit c.args.options.max_line left after c.in_ok-read.read c.read_next.new.line.items
-        c.as_slice.result.now _
+    c.as_slice.result.now _
     c.in_default.not-End c.as_slice.ensures.value c.given-given.ensures c.in_ok-read.ensures in
     at_error _ _ _ _ _ _ _ c.from_residual-in_err-handled.result c.from_residual-in_err-handled.ensures.0
     (failed c.args.options _ _ _ _ _ _ c.loop-number.number c.loop-number.outcome c.loop-number.invariant.progress _ _ _
@@ -48,7 +48,7 @@ loop-number-preserved-in_default-handled g c =
     let left = g.R.Read.remaining c.loop-number.input in
     let after = g.R.Read.remaining c.read_next.new.input in
     let one = given_next c.args.options.limit c.args.options.max_line left after c.in_ok-read.read c.read_next.new.line.items
-        c.as_slice.result.now _
+    c.as_slice.result.now _
     c.in_default.not-End c.as_slice.ensures.value c.given-given.ensures c.in_ok-read.ensures in
     record {
       progress = next c.args.options _ _ _ _ _ _ c.loop-number.number c.loop-number.outcome c.loop-number.invariant.progress _ _ _
@@ -61,7 +61,7 @@ returns-then-not-options g c =
     let left = g.R.Read.remaining c.loop-number.input in
     let after = g.R.Read.remaining c.read_next.new.input in
     let one = given_next c.args.options.limit c.args.options.max_line left after c.in_ok-read.read c.read_next.new.line.items
-        c.as_slice.result.now _
+    c.as_slice.result.now _
     c.in_default.not-End c.as_slice.ensures.value c.given-given.ensures c.in_ok-read.ensures in
     let off : c.args.options.goes_on ≡ false = let t = c.if-not-options.true in cc in
     refused c.args.options _ _ _ _ _ _ c.loop-number.number c.loop-number.outcome c.loop-number.invariant.progress _ _ _
@@ -73,7 +73,7 @@ loop-number-preserved g c =
     let left = g.R.Read.remaining c.loop-number.input in
     let after = g.R.Read.remaining c.read_next.new.input in
     let one = given_next c.args.options.limit c.args.options.max_line left after c.in_ok-read.read c.read_next.new.line.items
-        c.as_slice.result.now _
+    c.as_slice.result.now _
     c.in_default.not-End c.as_slice.ensures.value c.given-given.ensures c.in_ok-read.ensures in
     let on : c.args.options.goes_on ≡ true = let t = c.if-not-options.false in cc in
     record {

@@ -8,5 +8,5 @@ pub returns : goal.returns
 returns c =
     asked c.unwrap_or-count.result c.as_slice-operands.result.now (λ p. p.now) (omega (arith, c.if-count-operands.false))
     (given_of c.args.arguments.now) c.texts_asked-texts.result c.has-is_indented.result c.texts_asked-texts.ensures
-        c.has-is_indented.ensures
+    c.has-is_indented.ensures
     (c.unwrap_or-count.ensures ∙ ap (λ o. unwrap_or o 1) c.number.ensures) (ap (map (λ p. p.now)) c.as_slice-operands.ensures.value)

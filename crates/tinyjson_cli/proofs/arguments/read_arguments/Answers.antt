@@ -9,7 +9,7 @@ pub loop-word-preserved : goal.loop-word-preserved
 loop-word-preserved c =
     let known = c.args.known.now in
     let rest : Next → Result Given Fault =
-        λ n. words_give known n (map string_bytes (drop (c.loop-word.word-index + 1) c.args.words.now)) in
+    λ n. words_give known n (map string_bytes (drop (c.loop-word.word-index + 1) c.args.words.now)) in
     let h = c.in_ok-next.ensures in
     let before = given_of c.loop-word.arguments in
     let step = word_at string_bytes known c.args.words.now c.loop-word.word-index c.word-item.result c.loop-word.next

@@ -32,7 +32,7 @@ loop-key-preserved-in-Ok-None t c =
     (key, v) c.loop-key.invariant c.in-Some.ensures.steps
     (subst (λ o. IsChange o (Some (view v)) None) old
     (subst (λ x. IsChange (option_map (λ w. view w.now) c.member_of.result) (Some (view v)) (option_map view x)) c.in-Ok-None.field-0-is
-        c.in-Ok-None.ensures))
+    c.in-Ok-None.ensures))
 
 pub loop-key-preserved : goal.loop-key-preserved
 loop-key-preserved t c =
@@ -49,7 +49,7 @@ loop-key-preserved t c =
     (key, v) c.loop-key.invariant c.in-Some.ensures.steps next p
     (subst (λ o. IsChange o (Some (view v)) (Some p)) old
     (subst (λ x. IsChange (option_map (λ w. view w.now) c.member_of.result) (Some (view v)) (option_map view x)) c.in-Ok-Some.field-0-is
-        c.in-Ok-Some.ensures)) is_put
+    c.in-Ok-Some.ensures)) is_put
 
 pub returns-in-Err : goal.returns-in-Err
 returns-in-Err t c =

@@ -24,5 +24,5 @@ returns-in-Some-Short g c = λ d h.
     let bytes : c.part.result.now ≡ decimal_text d = c.part.ensures ∙ ap (λ z. part z span) c.deref-in-Some-Short.ensures.value
     ∙ run_part s.texts.items span (decimal_text d) short.run in
     subst (λ bs. Sends g.W.Write.contents c.args.out.now c.write_bytes.new.out c.args.buffer.now c.write_bytes.new.buffer bs
-        c.write_bytes.result)
+    c.write_bytes.result)
     (bytes ∙ sym (number_bytes d short.canonical)) c.write_bytes.ensures

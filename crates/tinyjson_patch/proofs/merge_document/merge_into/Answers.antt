@@ -34,7 +34,7 @@ loop-left-preserved g c = λ start os h.
     let u = merge_patch (tree c.args.target) (tree c.args.patch) in
     let last = ap reverse c.in-Some.ensures.items ∙ reverse-append c.pop.new.self.items (c.in-Some.left ∷ []) in
     c.in_ok-resume.ensures.waits start os u
-        (subst (λ xs. Waits (E.holds start) (E.is start) os u xs l.events) last (l.invariant start os h))
+    (subst (λ xs. Waits (E.holds start) (E.is start) os u xs l.events) last (l.invariant start os h))
 
 pub returns : goal.returns
 returns g c = λ start os h.

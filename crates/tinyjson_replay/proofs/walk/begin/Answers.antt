@@ -36,7 +36,7 @@ returns-in_default g c =
     record {
       waits = λ start os fs u h n. ok_map c.put_scalar.result
           (λ p. completed (g.E.Events.holds start) (g.E.Events.is start) os u
-              (reverse c.args.stack.now.items) fs t c.put_scalar.new.events p n)
+          (reverse c.args.stack.now.items) fs t c.put_scalar.new.events p n)
           (c.put_scalar.ensures start fs h);
       less = let some = some_weight t in ok_always c.put_scalar.result (omega (arith, some));
     }

@@ -32,7 +32,7 @@ loop-rest-preserved g c = λ start os h.
     let t = tree c.args.node in
     let last = ap reverse c.in-Some.ensures.items ∙ reverse-append c.pop.new.self.items (c.in-Some.rest ∷ []) in
     c.in_ok-resume.ensures.waits start os t
-        (subst (λ xs. Waits (E.holds start) (E.is start) os t xs l.events) last (l.invariant start os h))
+    (subst (λ xs. Waits (E.holds start) (E.is start) os t xs l.events) last (l.invariant start os h))
 
 pub returns : goal.returns
 returns g c = λ start os h.

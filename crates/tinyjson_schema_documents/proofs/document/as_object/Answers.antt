@@ -13,6 +13,6 @@ pub returns-else-accepts : goal.returns-else-accepts
 returns-else-accepts c =
     subst (λ t. IfOk c.with_member.result (λ v. view v ≡ t))
     (none_accepted c.new.result c.new-in-Boolean.result _ c.new.ensures.empty c.new-in-Boolean.ensures.empty
-        (name_chars kw.Not _ c.name.ensures)
+    (name_chars kw.Not _ c.name.ensures)
     ∙ ap as_object (sym (ap view c.in-Boolean.is ∙ (view_Boolean c.in-Boolean.accepts ∙ ap boolean c.if-accepts.false))))
     c.with_member.ensures

@@ -16,7 +16,7 @@ returns-in-Ok c =
     let key = c.args.key.now in
     let at = c.in-Ok.ensures.position (compared key) (always_returns_same _ _ _ (λ a r f called. search rules)) in
     found ks key c.in-Ok.index kw.Schema c.requires.apart c.in-Ok.ensures.bound
-        (equal key (get_or ks c.in-Ok.index kw.Schema) Equal (at kw.Schema))
+    (equal key (get_or ks c.in-Ok.index kw.Schema) Equal (at kw.Schema))
 
 pub returns-in-Err : goal.returns-in-Err
 returns-in-Err c =

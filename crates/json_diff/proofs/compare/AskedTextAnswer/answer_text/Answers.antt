@@ -11,7 +11,7 @@ use Rattle.json_diff.proofs.compare.AskedTextAnswer.answer_text.Goals as goal
 pub returns-in-Ok : goal.returns-in-Ok
 returns-in-Ok g c =
     of_text c.args.self.now.is_indented (view c.args.self.now.old.now) (view c.in-Ok.new) _ _ c.args.self.now.is_merge
-        (chars c.args.text.now)
+    (chars c.args.text.now)
     c.answer_value.result c.in-Ok.ensures.answer.1 c.answer_value.ensures
 
 pub returns-else-is_out_of_memory : goal.returns-else-is_out_of_memory

@@ -17,7 +17,7 @@ returns-in-Some-takes c =
     let t = c.in-Some-takes.taken in
     let value = here ∙ (letter_value c.args.word.now k (drop (c.loop-at.at + 1) c.args.letters.now)
     (letters_give c.args.known.now c.args.word.now (drop (c.loop-at.at + 1) c.args.letters.now)) t c.in-Some-takes.is
-        ∙ ap (value_gives t k.letter) (sym (take_rest c.args.letters.now (c.loop-at.at + 1)))) in
+    ∙ ap (value_gives t k.letter) (sym (take_rest c.args.letters.now (c.loop-at.at + 1)))) in
     subst (λ w. Takes w (given_of c.args.self.now) (given_of c.take_value.new.self) c.take_value.result)
     (sym (i.2 ∙ ap (and_word i.0) value)) (takes_after i.0 _ _ _ _ _ i.1 c.take_value.ensures)
 

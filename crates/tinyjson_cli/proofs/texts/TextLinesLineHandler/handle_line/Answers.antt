@@ -6,7 +6,7 @@ pub returns-in_err-why : goal.returns-in_err-why
 returns-in_err-why g c =
     at_error g.A.TextAnswer.gives c.args.self.now c.args.number _ _ _ _ _ _ c.from_residual.result c.from_residual.ensures.0
     (λ e. unwritten g.A.TextAnswer.gives c.args.self.now c.args.number _ _ _ _ c.args.self.now c.in_err-why.field-0.0 e
-        c.in_err-why.ensures)
+    c.in_err-why.ensures)
 
 pub returns-in_default : goal.returns-in_default
 returns-in_default g c =

@@ -14,9 +14,9 @@ returns-in_err-cell c =
     let all : cells_at s n.cell ≡ c.part.result.now = ap (cells_at s) c.in-Array.is ∙ sym (c.part.ensures
     ∙ ap (λ z. part z c.in-Array.span) c.deref.ensures.value) in
     let none : slice_get c.part.result.now c.args.index ≡ None =
-        grind (arith, common_steps, slice_get_cases c.part.result.now c.args.index) in
+    grind (arith, common_steps, slice_get_cases c.part.result.now c.args.index) in
     ap (option_map tree) c.from_residual.ensures
-        ∙ sym (known_no_item s n.cell n.known c.args.index (ap (λ z. slice_get z c.args.index) all ∙ none))
+    ∙ sym (known_no_item s n.cell n.known c.args.index (ap (λ z. slice_get z c.args.index) all ∙ none))
 
 pub invariant_of-result : goal.invariant_of-result
 invariant_of-result c =

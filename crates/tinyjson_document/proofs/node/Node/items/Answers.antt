@@ -30,4 +30,4 @@ returns c =
           ∙ sym (cells_not s n.cell (λ p. w.in_default.not-Array p))
     ] in
     items_left_known s n.cell n.known _ (c.part.ensures ∙ ap (λ z. part z c.match-self.span) c.deref.ensures.value ∙ rest)
-          c.result-1.given.0
+    c.result-1.given.0

@@ -16,4 +16,4 @@ returns-in-Ok-from_str c =
     let same = ap chars c.as_str.ensures.value ∙ c.in-Ok.ensures in
     let read = c.in-Ok-from_str.ensures.answer.1 in
     ∥∥₁_elim c.args.self.now.known.sound (Tree_set _ _)
-        (λ g. only_tree None _ _ _ (subst (λ z. IsText None z (view v)) same read) (compact_text t g))
+    (λ g. only_tree None _ _ _ (subst (λ z. IsText None z (view v)) same read) (compact_text t g))

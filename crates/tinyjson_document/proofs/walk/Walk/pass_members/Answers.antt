@@ -47,7 +47,7 @@ returns-in_err-write_leaf-clause-sent g c = λ xs h.
     MatchResult-from_err _ _ _ c.from_residual-in_err-write_leaf.ensures.0
     (λ _. member_fails (indent_of a.indent) a.store.now xs _ _ _ _ _ k p n
     (second_fails _ _ (sent_after _ _ same (c.in_ok-begin_member.ensures n.key n.is_key))
-        (c.in_err-write_leaf.ensures (indent_of a.indent) k n.tree leaf n.is)))
+    (c.in_err-write_leaf.ensures (indent_of a.indent) k n.tree leaf n.is)))
 
 pub loop-member-preserved : goal.loop-member-preserved
 loop-member-preserved g c =
