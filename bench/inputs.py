@@ -173,6 +173,20 @@ EVERYDAY = [
 ]
 
 
+def tenfold(given):
+    """The input ten times in an array: what a program takes for its start hardly counts then."""
+
+    def ten(random):
+        value = given.make(random)
+        text = value if isinstance(value, str) else compact(value)
+        return array_of([text.strip()] * 10)
+
+    return Input(given.name, ten)
+
+
+TENFOLD = [tenfold(one) for one in EVERYDAY]
+
+
 # ---- classes of text
 
 
