@@ -10,7 +10,7 @@ use Rattle.i_regexp.specs.Deciding.{matches, searches, pattern_matches, pattern_
 use Rattle.i_regexp.specs.Forms.{Form, Matches, Searches}
 use Rattle.i_regexp.specs.Grammar.{Regexp, IsText, regexp_form}
 use Rattle.i_regexp.specs.PatternDeciding.{is_pattern, is_found}
-use Rattle.i_regexp.specs.PatternMachine.{pattern_form}
+use Rattle.i_regexp.specs.PatternCases.{pattern_form}
 use Rattle.i_regexp.specs.PatternReading as patterns
 use Rattle.i_regexp.specs.Reading.{Says, Refused}
 use Rattle.i_regexp.specs.Regexps.{form_in, IsReading}

@@ -1,13 +1,13 @@
 -- The tests hold where the grammar does, and what is matched, and nowhere else.
 use Rattle.std.proofs.Common.{◌≡◌, ◌≤◌, ◌<◌, ◌+◌, ◌==◌, ◌&&◌, ◌||◌, ◌++◌, ◌∷◌, [], ℕ, zero, suc, Bool, true, false, nat_le, List, length}
-use Rattle.std.proofs.Common.{Option, Some, None, option_map, inl, inr, refl, sym, ap, ◌∙◌, subst, arith, length-append, true≢false}
+use Rattle.std.proofs.Common.{Option, Some, None, not, option_map, inl, inr, refl, sym, ap, ◌∙◌, subst, arith, length-append, true≢false}
 use Rattle.std.proofs.lemmas.Bool.{and_parts, and_from, or_cases, or_left, or_right, eqb-true, leb-true, le-leb}
 use Rattle.std.proofs.lemmas.Bool.Decides.{nat_tests}
 use Rattle.std.specs.Prelude.{option_and_then}
 use Rattle.i_regexp.specs.declared.class.Item.{Item}
 use Rattle.i_regexp.specs.Deciding.{splits, is_empty, is_one_in, are_parts, is_at_most, is_count, some_below, matches, searches}
 use Rattle.i_regexp.specs.Deciding.{with_token, tokens_in, whole_of, regexp_in, is_regexp, pattern_matches, pattern_searches}
-use Rattle.i_regexp.specs.Forms.{Form, empty, class, concat, alternation, repetition, is_in_class, Parts, AtMost, Matches, Searches}
+use Rattle.i_regexp.specs.Forms.{Form, empty, class, concat, alternation, repetition, both, no, is_in_class, Parts, AtMost, Matches, Searches}
 use Rattle.i_regexp.specs.Fronts.{token_front}
 use Rattle.i_regexp.specs.Grammar.{Token, Spelled, Regexp, regexp_form, IsText}
 use Rattle.i_regexp.specs.Levels.{State, fresh, run}
@@ -153,6 +153,17 @@ repetition_decides {f = f} {P = P} least most d = record {
       (parts_complete d m.count cs m.parts)));
 }
 
+both_true : (a b : Bool) → a ≡ true → b ≡ true → (a && b) ≡ true
+both_true a b e f = ap (λ c. c && b) e ∙ f
+
+is_no : (b : Bool) → not b ≡ true → b ≡ false
+is_no true h = absurd (true≢false (sym h))
+is_no false h = refl
+
+no_is : (b : Bool) → (b ≡ true → ⊥) → not b ≡ true
+no_is true h = absurd (h refl)
+no_is false h = refl
+
 pub matches_decides : (f : Form) → Decides (matches f) (Matches f)
 matches_decides empty = record { sound = empty_sound; complete = λ cs h. ap is_empty h }
 matches_decides (class negated items) =
@@ -172,6 +183,17 @@ matches_decides (alternation r s) =
 matches_decides (repetition r least most) =
     let d = repetition_decides least most (matches_decides r) in
     record { sound = d.sound; complete = d.complete }
+matches_decides (both r s) =
+    let a = matches_decides r in
+    let b = matches_decides s in record {
+      sound = λ cs h. let k = and_parts (matches r cs) (matches s cs) h in (a.sound cs k.0, b.sound cs k.1);
+      complete = λ cs h. both_true (matches r cs) (matches s cs) (a.complete cs h.0) (b.complete cs h.1);
+    }
+matches_decides (no r) =
+    let a = matches_decides r in record {
+      sound = λ cs h m. true≢false (sym (a.complete cs m) ∙ is_no (matches r cs) h);
+      complete = λ cs h. no_is (matches r cs) (λ e. h (a.sound cs e));
+    }
 
 pub searches_decides : (f : Form) → Decides (searches f) (Searches f)
 searches_decides f =

@@ -7,13 +7,13 @@ use Rattle.i_regexp.specs.Deciding.{matches}
 use Rattle.i_regexp.specs.Patterns.{Mark, Spelled, Pattern, IsText}
 use Rattle.i_regexp.specs.PatternDeciding.{PatternFound, with_mark, marks_in, whole_pattern, pattern_of, is_pattern, is_found}
 use Rattle.i_regexp.specs.PatternFronts.{mark_front}
-use Rattle.i_regexp.specs.PatternMachine.{PatternState, initial, no_levels, pattern_in, run_marks, pattern_form}
+use Rattle.i_regexp.specs.PatternCases.{CasesState, no_cases, is_closed, pattern_in, run_cases, pattern_form}
 use Rattle.i_regexp.specs.PatternReading.{IsNone}
 use Rattle.i_regexp.proofs.Deciding.{matches_decides}
 use Rattle.i_regexp.proofs.Lexing.{none_some, some_same}
 use Rattle.i_regexp.proofs.PatternForms.{found_to, found_from}
 use Rattle.i_regexp.proofs.PatternLexing.{mark_shorter}
-use Rattle.i_regexp.proofs.PatternMachine.{pattern_sound, pattern_complete}
+use Rattle.i_regexp.proofs.PatternCases.{pattern_sound, pattern_complete}
 use Rattle.i_regexp.proofs.PatternReading.{Lexes, stop, go, lexes_spelled, spelled_lexes}
 
 -- ---- marks
@@ -56,28 +56,28 @@ marks_complete (go {xs} {ys} {zs} {m} {ms} f k) e n l = marks_on n xs ys m ms f 
 pattern_of_sound : (cs : List ℕ) (p : Pattern) → pattern_of cs ≡ Some p → IsText cs p
 pattern_of_sound cs p e = by (marks_in (length cs) cs) (marks_sound (length cs) cs) e
   where
-    closed : (ms : List Mark) → Lexes cs ms [] → (s : PatternState) → run_marks initial ms ≡ Some s → (b : Bool)
-        → no_levels s.state.1 ≡ b → cond b (Some (pattern_in s)) None ≡ Some p → IsText cs p
+    closed : (ms : List Mark) → Lexes cs ms [] → (s : CasesState) → run_cases no_cases ms ≡ Some s → (b : Bool)
+        → is_closed s ≡ b → cond b (Some (pattern_in s)) None ≡ Some p → IsText cs p
     closed ms k s f true n g =
         subst (IsText cs) (some_same g)
         (record { spelled = subst (Spelled cs) (sym (pattern_sound ms s f n)) (lexes_spelled k refl) })
     closed ms k s f false n g = absurd (none_some g)
 
-    state_by : (ms : List Mark) → Lexes cs ms [] → (o : Option PatternState) → run_marks initial ms ≡ o
+    state_by : (ms : List Mark) → Lexes cs ms [] → (o : Option CasesState) → run_cases no_cases ms ≡ o
         → option_and_then whole_pattern o ≡ Some p → IsText cs p
     state_by ms k None f g = absurd (none_some g)
-    state_by ms k (Some s) f g = closed ms k s f (no_levels s.state.1) refl g
+    state_by ms k (Some s) f g = closed ms k s f (is_closed s) refl g
 
     by : (o : Option (List Mark)) → ((ms : List Mark) → o ≡ Some ms → Lexes cs ms [])
-        → option_and_then whole_pattern (option_and_then (run_marks initial) o) ≡ Some p → IsText cs p
+        → option_and_then whole_pattern (option_and_then (run_cases no_cases) o) ≡ Some p → IsText cs p
     by None k g = absurd (none_some g)
-    by (Some ms) k g = state_by ms (k ms refl) (run_marks initial ms) refl g
+    by (Some ms) k g = state_by ms (k ms refl) (run_cases no_cases ms) refl g
 
 pattern_of_complete : (cs : List ℕ) (p : Pattern) → IsText cs p → pattern_of cs ≡ Some p
 pattern_of_complete cs p x =
     let ms = marks_complete (spelled_lexes x.spelled) refl (length cs) (omega arith) in
     let r = pattern_complete p in
-    ap (λ o. option_and_then whole_pattern (option_and_then (run_marks initial) o)) ms
+    ap (λ o. option_and_then whole_pattern (option_and_then (run_cases no_cases) o)) ms
     ∙ (ap (option_and_then whole_pattern) r.runs
     ∙ (ap (λ b. cond b (Some (pattern_in r.last)) None) r.closed ∙ ap (λ q. Some q) r.whole))
 

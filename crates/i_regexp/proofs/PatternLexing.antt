@@ -18,11 +18,11 @@ use Rattle.i_regexp.specs.Patterns as is
 use Rattle.i_regexp.specs.Patterns.{named_letter, hex_digit, byte_of, code_of, value_of, is_high, is_low, is_surrogate, scalar}
 use Rattle.i_regexp.specs.Patterns.{others, PropertyText}
 use Rattle.i_regexp.specs.Patterns.{pair_of, control_of, LetterText, begins_with_digit, follows, ends_class, LettersText}
-use Rattle.i_regexp.specs.Patterns.{class_items, Mark, start, end, token, dot, is_normal, Spells, begins_with_question, fits}
+use Rattle.i_regexp.specs.Patterns.{class_items, Mark, start, end, look, token, dot, is_normal, Spells, begins_with_question, fits}
 use Rattle.i_regexp.specs.PatternFronts.{literal_front, byte_front, four_front, low_front, half_front, value_front, braced_front}
 use Rattle.i_regexp.specs.PatternFronts.{unit_front}
 use Rattle.i_regexp.specs.PatternFronts.{control_front, null_front, property_front, escape_front, letter_front, letters_step, letters_front}
-use Rattle.i_regexp.specs.PatternFronts.{caret_front, class_of, class_from, class_front, silent, eager, repeat_front, letter_mark}
+use Rattle.i_regexp.specs.PatternFronts.{caret_front, class_of, class_from, class_front, special, opening, eager, repeat_front, letter_mark}
 use Rattle.i_regexp.specs.PatternFronts.{token_mark}
 use Rattle.i_regexp.specs.PatternFronts.{sign_front, fitting, mark_front}
 use Rattle.i_regexp.proofs.Lexing.{cond_cases, then_cases, map_cases, none_some, some_same, not_equal, no_caret, front_sound}
@@ -619,25 +619,37 @@ class_sound (c ∷ xs) m zs e = by (c == 94) refl e
         let k = map_cases token_mark (class_from (false, c ∷ xs)) (m, zs) e in
         bracket_front false [] (c ∷ xs) k.0.0 k.0.1 m zs regexp.none (λ cs ks s f. no_caret_in c xs cs ks h s) k.1 k.2
 
-opened_sound : (cs : List ℕ) (m : Mark) (ys : List ℕ) → ◌≡◌ {A = Option (Mark × List ℕ)} (Some (token opened, silent cs)) (Some (m, ys))
-    → MarkFront (40 ∷ cs) m ys
+opened_sound : (cs : List ℕ) (m : Mark) (ys : List ℕ) → opening cs ≡ Some (m, ys) → MarkFront (40 ∷ cs) m ys
 opened_sound [] m ys e = sign 40 40 (token opened) m [] ys refl e is.opens tt
 opened_sound (c ∷ []) m ys e = sign 40 40 (token opened) m (c ∷ []) ys refl e is.opens tt
-opened_sound (c ∷ d ∷ cs) m ys e = by ((c == 63) && (d == 58)) refl e
+opened_sound (c ∷ d ∷ cs) m ys e = by (c == 63) refl e
   where
-    by : (b : Bool) → ((c == 63) && (d == 58)) ≡ b
-        → ◌≡◌ {A = Option (Mark × List ℕ)} (Some (token opened, cond b cs (c ∷ d ∷ cs))) (Some (m, ys)) → MarkFront (40 ∷ c ∷ d ∷ cs) m ys
-    by true h e =
-        let both = and_parts (c == 63) (d == 58) h in
+    one : (x : ℕ) (u : Mark) → (c == 63) ≡ true → (d == x) ≡ true → ◌≡◌ {A = Option (Mark × List ℕ)} (Some (u, cs)) (Some (m, ys))
+        → Spells (40 ∷ 63 ∷ x ∷ []) u → IsFitMark u → MarkFront (40 ∷ c ∷ d ∷ cs) m ys
+    one x u h k e s t =
         let same = some_same e in
         record {
-          cs = 40 ∷ 63 ∷ 58 ∷ [];
-          split = ap (λ x. 40 ∷ x ∷ d ∷ cs) (eqb-true c 63 both.0)
-              ∙ (ap (λ x. 40 ∷ 63 ∷ x ∷ cs) (eqb-true d 58 both.1) ∙ ap (λ p. 40 ∷ 63 ∷ 58 ∷ p.1) same);
-          spelled = subst (Spells (40 ∷ 63 ∷ 58 ∷ [])) (ap (λ p. p.0) same) is.opens_silently;
-          fit = subst IsFitMark (ap (λ p. p.0) same) tt;
+          cs = 40 ∷ 63 ∷ x ∷ [];
+          split = ap (λ y. 40 ∷ y ∷ d ∷ cs) (eqb-true c 63 h)
+              ∙ (ap (λ y. 40 ∷ 63 ∷ y ∷ cs) (eqb-true d x k) ∙ ap (λ p. 40 ∷ 63 ∷ x ∷ p.1) same);
+          spelled = subst (Spells (40 ∷ 63 ∷ x ∷ [])) (ap (λ p. p.0) same) s;
+          fit = subst IsFitMark (ap (λ p. p.0) same) t;
           after = refl;
         }
+
+    by : (b : Bool) → (c == 63) ≡ b → cond b (special d cs) (Some (token opened, c ∷ d ∷ cs)) ≡ Some (m, ys)
+        → MarkFront (40 ∷ c ∷ d ∷ cs) m ys
+    by true h e =
+        elim (cond_cases (d == 58) _ _ (m, ys) e) [
+          | inl a ↦ one 58 (token opened) h a.0 a.1 is.opens_silently tt
+          | inr e1 ↦ elim (cond_cases (d == 61) _ _ (m, ys) e1.1) [
+            | inl a ↦ one 61 (look false) h a.0 a.1 is.looks tt
+            | inr e2 ↦ elim (cond_cases (d == 33) _ _ (m, ys) e2.1) [
+              | inl a ↦ one 33 (look true) h a.0 a.1 is.looks_not tt
+              | inr e3 ↦ none_some e3.1
+            ]
+          ]
+        ]
     by false h e = sign 40 40 (token opened) m (c ∷ d ∷ cs) ys refl e is.opens tt
 
 quantifier_follows : (cs : List ℕ) (t : Token) (least : ℕ) (most : Option ℕ) → regexp.Spells cs t → t ≡ quantifier least most
@@ -792,10 +804,10 @@ eager_other : (ys : List ℕ) → begins_with_question ys ≡ false → eager ys
 eager_other [] h = refl
 eager_other (c ∷ ys) h = cond-false (c == 63) _ _ h
 
-silent_other : (ys : List ℕ) → begins_with_question ys ≡ false → silent ys ≡ ys
-silent_other [] h = refl
-silent_other (c ∷ []) h = refl
-silent_other (c ∷ d ∷ ys) h = ap (λ b. cond (b && (d == 58)) ys (c ∷ d ∷ ys)) h
+opening_other : (ys : List ℕ) → begins_with_question ys ≡ false → opening ys ≡ Some (token opened, ys)
+opening_other [] h = refl
+opening_other (c ∷ []) h = refl
+opening_other (c ∷ d ∷ ys) h = cond-false (c == 63) _ _ h
 
 repeats : (cs : List ℕ) (t : Token) (least : ℕ) (most : Option ℕ) → regexp.Spells cs t → t ≡ quantifier least most → (ys : List ℕ)
     → sign_front (cs ++ ys) ≡ option_and_then repeat_front (token_front (cs ++ ys))
@@ -830,8 +842,10 @@ sign_complete : (cs : List ℕ) (m : Mark) → Spells cs m → (ys : List ℕ) �
     → sign_front (cs ++ ys) ≡ Some (m, ys)
 sign_complete cs m is.begins ys f after = refl
 sign_complete cs m is.finishes ys f after = refl
-sign_complete cs m is.opens ys f after = with_rest (token opened) (silent ys) ys (silent_other ys (not-true (begins_with_question ys) f))
+sign_complete cs m is.opens ys f after = opening_other ys (not-true (begins_with_question ys) f)
 sign_complete cs m is.opens_silently ys f after = refl
+sign_complete cs m is.looks ys f after = refl
+sign_complete cs m is.looks_not ys f after = refl
 sign_complete cs m is.closes ys f after = refl
 sign_complete cs m is.parts ys f after = refl
 sign_complete cs m is.any ys f after = refl
@@ -864,6 +878,8 @@ mark_some cs m is.begins = omega arith
 mark_some cs m is.finishes = omega arith
 mark_some cs m is.opens = omega arith
 mark_some cs m is.opens_silently = omega arith
+mark_some cs m is.looks = omega arith
+mark_some cs m is.looks_not = omega arith
 mark_some cs m is.closes = omega arith
 mark_some cs m is.parts = omega arith
 mark_some cs m is.any = omega arith

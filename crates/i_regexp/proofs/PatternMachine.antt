@@ -1,4 +1,4 @@
--- The machine takes the marks of a pattern, and no others, to the pattern.
+-- The machine takes the marks of branches, and no others, to the branches.
 use Rattle.std.proofs.Common.{◌≡◌, inl, inr, ℕ, ◌≤◌, Bool, true, false, not, ◌&&◌, ◌||◌, cond, List, [], ◌∷◌, ◌++◌, map}
 use Rattle.std.proofs.Common.{Option, Some, None, option_map, refl, sym, ap, ◌∙◌, subst, arith, append_assoc, append-nil, true≢false}
 use Rattle.std.proofs.lemmas.Bool.{cond-false, or_parts, and_parts}
@@ -10,9 +10,9 @@ use Rattle.i_regexp.specs.Grammar.{branch_tokens}
 use Rattle.i_regexp.specs.Levels.{Level, level, State, fresh, with_atom, regexp_of, quantified, in_state, advance, run, state_size}
 use Rattle.i_regexp.specs.Levels.{level_size, outer_size}
 use Rattle.i_regexp.specs.Limits.{size_limit, branch_size}
-use Rattle.i_regexp.specs.Patterns.{Mark, start, end, token, Part, Pattern, mark_if, part_marks, barred_marks, pattern_marks, AreSmall}
-use Rattle.i_regexp.specs.Patterns.{IsSmall}
-use Rattle.i_regexp.specs.PatternMachine.{PatternState, initial, no_levels, is_blank, is_unread, is_bar, branch_in, part_in, pattern_in}
+use Rattle.i_regexp.specs.Patterns.{Mark, start, end, look, token, Part, Disjunction, mark_if, part_marks, barred_marks}
+use Rattle.i_regexp.specs.Patterns.{disjunction_marks, AreSmall}
+use Rattle.i_regexp.specs.PatternMachine.{PartsState, initial, no_levels, is_blank, is_unread, is_bar, branch_in, part_in, disjunction_in}
 use Rattle.i_regexp.specs.PatternMachine.{next_part, with_state, take_token, advance_mark, run_marks, no_done, is_bare}
 use Rattle.i_regexp.proofs.Lexing.{cond_cases, map_cases, none_some, some_same}
 use Rattle.i_regexp.proofs.Machine.{machine_sound, machine_complete}
@@ -78,17 +78,17 @@ bare_tokens (level (b ∷ bs) ps z) ts h e = absurd (true≢false (sym h))
 
 -- ---- what was read is the marks
 
-pub record Shape (s : PatternState) (ms : List Mark) : Type 0 where
+pub record Shape (s : PartsState) (ms : List Mark) : Type 0 where
   pub tokens : List Token
   pub ran : run (fresh, []) tokens ≡ Some s.state
   pub marks : ms ≡ barred_marks s.parts ++ (mark_if s.starts start ++ (map token tokens ++ mark_if s.ends end))
   pub bare : is_bare s.state.0 s.state.1 ≡ true
   pub outermost : s.ends ≡ true → no_levels s.state.1 ≡ true
 
-shape_initial : Shape initial []
-shape_initial = record { tokens = []; ran = refl; marks = refl; bare = refl; outermost = λ h. absurd (true≢false (sym h)) }
+shape_initial : (fixed : Bool) → Shape (initial fixed) []
+shape_initial fixed = record { tokens = []; ran = refl; marks = refl; bare = refl; outermost = λ h. absurd (true≢false (sym h)) }
 
-is_the_blank : (l : Level) → is_blank l ≡ true → l ≡ fresh
+pub is_the_blank : (l : Level) → is_blank l ≡ true → l ≡ fresh
 is_the_blank (level [] [] None) h = refl
 is_the_blank (level [] [] (Some a)) h = absurd (true≢false (sym h))
 is_the_blank (level [] (p ∷ ps) e) h = absurd (true≢false (sym h))
@@ -104,7 +104,7 @@ or_not true b h = absurd (true≢false h)
 or_not false true h = (refl, refl)
 or_not false false h = absurd (true≢false h)
 
-shape_start : (s u : PatternState) (ms : List Mark) → Shape s ms → advance_mark s start ≡ Some u → Shape u (ms ++ start ∷ [])
+shape_start : (s u : PartsState) (ms : List Mark) → Shape s ms → advance_mark s start ≡ Some u → Shape u (ms ++ start ∷ [])
 shape_start s u ms h e =
     elim (cond_cases (s.ends || (s.starts || not (is_unread s.state))) _ _ u e) [
       | inl a ↦ none_some a.1
@@ -134,7 +134,7 @@ shape_start s u ms h e =
 regroup_end : (a b c : List Mark) (m : Mark) → (a ++ (b ++ (c ++ []))) ++ m ∷ [] ≡ a ++ (b ++ (c ++ m ∷ []))
 regroup_end a b c m = simp append_assoc
 
-shape_end : (s u : PatternState) (ms : List Mark) → Shape s ms → advance_mark s end ≡ Some u → Shape u (ms ++ end ∷ [])
+shape_end : (s u : PartsState) (ms : List Mark) → Shape s ms → advance_mark s end ≡ Some u → Shape u (ms ++ end ∷ [])
 shape_end s u ms h e =
     elim (cond_cases (s.ends || not (no_levels s.state.1)) _ _ u e) [
       | inl a ↦ none_some a.1
@@ -154,7 +154,7 @@ shape_end s u ms h e =
 regroup_next : (a b : List Mark) (m : Mark) → (a ++ b) ++ m ∷ [] ≡ (a ++ (b ++ m ∷ [])) ++ []
 regroup_next a b m = simp append_assoc
 
-shape_next : (s : PatternState) (ms : List Mark) → Shape s ms → no_levels s.state.1 ≡ true → Shape (next_part s) (ms ++ token bar ∷ [])
+shape_next : (s : PartsState) (ms : List Mark) → Shape s ms → no_levels s.state.1 ≡ true → Shape (next_part s) (ms ++ token bar ∷ [])
 shape_next s ms h n =
     let none = no_level_left s.state.1 n in
     let bare : no_done s.state.0 ≡ true = sym (ap (λ ls. is_bare s.state.0 ls) none) ∙ h.bare in
@@ -181,7 +181,7 @@ regroup_token : (a b : List Mark) (ts : List Token) (t : Token)
 regroup_token a b ts t = regroup_end a b (map token ts) (token t)
     ∙ ap (λ c. a ++ (b ++ c)) (sym (map-append token ts (t ∷ [])) ∙ sym (append-nil (map token (ts ++ t ∷ []))))
 
-shape_token : (s : PatternState) (t : Token) (u : PatternState) (ms : List Mark) → Shape s ms → advance_mark s (token t) ≡ Some u
+shape_token : (s : PartsState) (t : Token) (u : PartsState) (ms : List Mark) → Shape s ms → advance_mark s (token t) ≡ Some u
     → Shape u (ms ++ token t ∷ [])
 shape_token s t u ms h e =
     elim (cond_cases (s.ends && not (is_bar t)) _ _ u e) [
@@ -209,59 +209,60 @@ shape_token s t u ms h e =
       ]
     ]
 
-shape_step : (s : PatternState) (m : Mark) (u : PatternState) (ms : List Mark) → Shape s ms → advance_mark s m ≡ Some u
+shape_step : (s : PartsState) (m : Mark) (u : PartsState) (ms : List Mark) → Shape s ms → advance_mark s m ≡ Some u
     → Shape u (ms ++ m ∷ [])
 shape_step s start u ms h e = shape_start s u ms h e
 shape_step s end u ms h e = shape_end s u ms h e
+shape_step s (look negated) u ms h e = none_some e
 shape_step s (token t) u ms h e = shape_token s t u ms h e
 
-shape_run : (ms ns : List Mark) (s u : PatternState) → Shape s ns → run_marks s ms ≡ Some u → Shape u (ns ++ ms)
+shape_run : (ms ns : List Mark) (s u : PartsState) → Shape s ns → run_marks s ms ≡ Some u → Shape u (ns ++ ms)
 shape_run [] ns s u h e = subst (λ v. Shape v (ns ++ [])) (some_same e) (subst (Shape s) (sym (append-nil ns)) h)
 shape_run (m ∷ ms) ns s u h e = by (advance_mark s m) refl e (λ v k g. shape_run ms (ns ++ m ∷ []) v u k g)
   where
-    by : (o : Option PatternState) → advance_mark s m ≡ o → option_and_then (λ v. run_marks v ms) o ≡ Some u
-        → ((v : PatternState) → Shape v (ns ++ m ∷ []) → run_marks v ms ≡ Some u → Shape u ((ns ++ m ∷ []) ++ ms)) → Shape u (ns ++ m ∷ ms)
+    by : (o : Option PartsState) → advance_mark s m ≡ o → option_and_then (λ v. run_marks v ms) o ≡ Some u
+        → ((v : PartsState) → Shape v (ns ++ m ∷ []) → run_marks v ms ≡ Some u → Shape u ((ns ++ m ∷ []) ++ ms)) → Shape u (ns ++ m ∷ ms)
     by None f g rec = none_some g
     by (Some v) f g rec = subst (Shape u) (append_assoc ns (m ∷ []) ms) (rec v (shape_step s m v ns h f) g)
 
-pub shaped : (ms : List Mark) (u : PatternState) → run_marks initial ms ≡ Some u → Shape u ms
-shaped ms u e = shape_run ms [] initial u shape_initial e
+pub shaped : (fixed : Bool) (ms : List Mark) (u : PartsState) → run_marks (initial fixed) ms ≡ Some u → Shape u ms
+shaped fixed ms u e = shape_run ms [] (initial fixed) u (shape_initial fixed) e
 
-pub pattern_sound : (ms : List Mark) (s : PatternState) → run_marks initial ms ≡ Some s → no_levels s.state.1 ≡ true
-    → pattern_marks (pattern_in s) ≡ ms
-pattern_sound ms s e n =
-    let h = shaped ms s e in
+pub disjunction_sound : (fixed : Bool) (ms : List Mark) (s : PartsState) → run_marks (initial fixed) ms ≡ Some s
+    → no_levels s.state.1 ≡ true → disjunction_marks (disjunction_in s) ≡ ms
+disjunction_sound fixed ms s e n =
+    let h = shaped fixed ms s e in
     let none = no_level_left s.state.1 n in
     let bare : no_done s.state.0 ≡ true = sym (ap (λ ls. is_bare s.state.0 ls) none) ∙ h.bare in
     let ts : branch_tokens (branch_in s.state.0) ≡ h.tokens =
     bare_tokens s.state.0 h.tokens bare (h.ran ∙ ap (λ ls. let o : Option State = Some (s.state.0, ls) in o) none) in
     ap (λ us. barred_marks s.parts ++ (mark_if s.starts start ++ (map token us ++ mark_if s.ends end))) ts ∙ sym h.marks
 
--- ---- each pattern is taken
+-- ---- all branches are taken
 
-pub run_marks_append : (ms ns : List Mark) (s : PatternState)
+pub run_marks_append : (ms ns : List Mark) (s : PartsState)
     → run_marks s (ms ++ ns) ≡ option_and_then (λ u. run_marks u ns) (run_marks s ms)
 run_marks_append [] ns s = refl
 run_marks_append (m ∷ ms) ns s = by (advance_mark s m) (λ u. run_marks_append ms ns u)
   where
-    by : (o : Option PatternState)
-        → ((u : PatternState) → run_marks u (ms ++ ns) ≡ option_and_then (λ v. run_marks v ns) (run_marks u ms))
+    by : (o : Option PartsState)
+        → ((u : PartsState) → run_marks u (ms ++ ns) ≡ option_and_then (λ v. run_marks v ns) (run_marks u ms))
         → option_and_then (λ u. run_marks u (ms ++ ns)) o
         ≡ option_and_then (λ v. run_marks v ns) (option_and_then (λ u. run_marks u ms) o)
     by None h = refl
     by (Some u) h = h u
 
-record RunsBranch (s : PatternState) (ts : List Token) (l : Level) (rest : List Mark) : Type 0 where
+record RunsBranch (s : PartsState) (ts : List Token) (l : Level) (rest : List Mark) : Type 0 where
   runs : run_marks s (map token ts ++ rest) ≡ run_marks (with_state s (l, [])) rest
   bare : is_bare s.state.0 s.state.1 ≡ true
 
-pub open_token : (s : PatternState) (t : Token) (v : State) → s.ends ≡ false → (no_levels s.state.1 && is_bar t) ≡ false
+pub open_token : (s : PartsState) (t : Token) (v : State) → s.ends ≡ false → (no_levels s.state.1 && is_bar t) ≡ false
     → advance s.state t ≡ Some v → advance_mark s (token t) ≡ Some (with_state s v)
 open_token s t v o h e =
     ap (λ b. cond (b && not (is_bar t)) None (take_token s t)) o
     ∙ (cond-false (no_levels s.state.1 && is_bar t) _ _ h ∙ ap (option_map (with_state s)) e)
 
-runs_branch : (ts : List Token) (s : PatternState) (l : Level) (rest : List Mark) → s.ends ≡ false → run s.state ts ≡ Some (l, [])
+runs_branch : (ts : List Token) (s : PartsState) (l : Level) (rest : List Mark) → s.ends ≡ false → run s.state ts ≡ Some (l, [])
     → no_done l ≡ true → RunsBranch s ts l rest
 runs_branch [] s l rest o e h =
     let same : s.state ≡ (l, []) = some_same e in
@@ -289,46 +290,46 @@ last_bare : (l : Level) (b : Branch) → regexp_of l ≡ last b → (no_done l �
 last_bare (level [] ps z) b e = (refl, cc)
 last_bare (level (c ∷ bs) ps z) b e = absurd (let no : branches c _ ≡ last b = e in cc)
 
-abbrev part_end : List Part → Part → Level → PatternState
-part_end qs q l = record { parts = qs; starts = q.starts; ends = q.ends; state = (l, []) }
+abbrev part_end : Bool → List Part → Part → Level → PartsState
+part_end fixed qs q l = record { fixed = fixed; parts = qs; starts = q.starts; ends = q.ends; state = (l, []) }
 
-abbrev part_begin : List Part → PatternState
-part_begin qs = record { parts = qs; starts = false; ends = false; state = (fresh, []) }
+abbrev part_begin : Bool → List Part → PartsState
+part_begin fixed qs = record { fixed = fixed; parts = qs; starts = false; ends = false; state = (fresh, []) }
 
-abbrev started : List Part → Bool → PatternState
-started qs b = record { parts = qs; starts = b; ends = false; state = (fresh, []) }
+abbrev started : Bool → List Part → Bool → PartsState
+started fixed qs b = record { fixed = fixed; parts = qs; starts = b; ends = false; state = (fresh, []) }
 
-runs_start : (qs : List Part) (b : Bool) (rest : List Mark)
-    → run_marks (part_begin qs) (mark_if b start ++ rest) ≡ run_marks (started qs b) rest
-runs_start qs true rest = refl
-runs_start qs false rest = refl
+runs_start : (fixed : Bool) (qs : List Part) (b : Bool) (rest : List Mark)
+    → run_marks (part_begin fixed qs) (mark_if b start ++ rest) ≡ run_marks (started fixed qs b) rest
+runs_start fixed qs true rest = refl
+runs_start fixed qs false rest = refl
 
-runs_end : (qs : List Part) (a b : Bool) (l : Level) (rest : List Mark)
-    → run_marks (with_state (started qs a) (l, [])) (mark_if b end ++ rest)
-    ≡ run_marks (record { parts = qs; starts = a; ends = b; state = (l, []) }) rest
-runs_end qs a true l rest = refl
-runs_end qs a false l rest = refl
+runs_end : (fixed : Bool) (qs : List Part) (a b : Bool) (l : Level) (rest : List Mark)
+    → run_marks (with_state (started fixed qs a) (l, [])) (mark_if b end ++ rest)
+    ≡ run_marks (record { fixed = fixed; parts = qs; starts = a; ends = b; state = (l, []) }) rest
+runs_end fixed qs a true l rest = refl
+runs_end fixed qs a false l rest = refl
 
 regroup_part : (a b c d : List Mark) → (a ++ (b ++ c)) ++ d ≡ a ++ (b ++ (c ++ d))
 regroup_part a b c d = simp append_assoc
 
-record RunsPart (qs : List Part) (q : Part) (rest : List Mark) : Type 0 where
+record RunsPart (fixed : Bool) (qs : List Part) (q : Part) (rest : List Mark) : Type 0 where
   end_level : Level
-  runs : run_marks (part_begin qs) (part_marks q ++ rest) ≡ run_marks (part_end qs q end_level) rest
+  runs : run_marks (part_begin fixed qs) (part_marks q ++ rest) ≡ run_marks (part_end fixed qs q end_level) rest
   bare : no_done end_level ≡ true
   branch : branch_in end_level ≡ q.branch
 
-runs_part : (qs : List Part) (q : Part) (rest : List Mark) → RunsPart qs q rest
-runs_part qs q rest =
+runs_part : (fixed : Bool) (qs : List Part) (q : Part) (rest : List Mark) → RunsPart fixed qs q rest
+runs_part fixed qs q rest =
     let k = machine_complete (last q.branch) in
     let b = last_bare k.0 q.branch k.2 in
-    let r = runs_branch (branch_tokens q.branch) (started qs q.starts) k.0 (mark_if q.ends end ++ rest) refl k.1 b.0 in
+    let r = runs_branch (branch_tokens q.branch) (started fixed qs q.starts) k.0 (mark_if q.ends end ++ rest) refl k.1 b.0 in
     record {
       end_level = k.0;
-      runs = ap (run_marks (part_begin qs))
+      runs = ap (run_marks (part_begin fixed qs))
           (regroup_part (mark_if q.starts start) (map token (branch_tokens q.branch)) (mark_if q.ends end) rest)
-          ∙ (runs_start qs q.starts (map token (branch_tokens q.branch) ++ (mark_if q.ends end ++ rest))
-          ∙ (r.runs ∙ runs_end qs q.starts q.ends k.0 rest));
+          ∙ (runs_start fixed qs q.starts (map token (branch_tokens q.branch) ++ (mark_if q.ends end ++ rest))
+          ∙ (r.runs ∙ runs_end fixed qs q.starts q.ends k.0 rest));
       bare = b.0;
       branch = b.1;
     }
@@ -337,38 +338,38 @@ and_false : (b : Bool) → (b && false) ≡ false
 and_false true = refl
 and_false false = refl
 
-runs_bar : (qs : List Part) (q : Part) (l : Level) → branch_in l ≡ q.branch
-    → advance_mark (part_end qs q l) (token bar) ≡ Some (part_begin (qs ++ q ∷ []))
-runs_bar qs q l e =
+runs_bar : (fixed : Bool) (qs : List Part) (q : Part) (l : Level) → branch_in l ≡ q.branch
+    → advance_mark (part_end fixed qs q l) (token bar) ≡ Some (part_begin fixed (qs ++ q ∷ []))
+runs_bar fixed qs q l e =
     cond-false (q.ends && false) _ _ (and_false q.ends)
-    ∙ ap (λ b. let o : Option PatternState = Some (part_begin (qs ++ record { starts = q.starts; branch = b; ends = q.ends } ∷ [])) in o) e
+    ∙ ap (λ b. let o : Option PartsState = Some (part_begin fixed (qs ++ record { starts = q.starts; branch = b; ends = q.ends } ∷ [])) in o) e
 
-runs_parts : (qs done : List Part) (rest : List Mark)
-    → run_marks (part_begin done) (barred_marks qs ++ rest) ≡ run_marks (part_begin (done ++ qs)) rest
-runs_parts [] done rest = ap (λ ps. run_marks (part_begin ps) rest) (sym (append-nil done))
-runs_parts (q ∷ qs) done rest =
-    let r = runs_part done q (token bar ∷ (barred_marks qs ++ rest)) in
-    ap (run_marks (part_begin done)) (append_assoc (part_marks q) (token bar ∷ barred_marks qs) rest)
+runs_parts : (fixed : Bool) (qs done : List Part) (rest : List Mark)
+    → run_marks (part_begin fixed done) (barred_marks qs ++ rest) ≡ run_marks (part_begin fixed (done ++ qs)) rest
+runs_parts fixed [] done rest = ap (λ ps. run_marks (part_begin fixed ps) rest) (sym (append-nil done))
+runs_parts fixed (q ∷ qs) done rest =
+    let r = runs_part fixed done q (token bar ∷ (barred_marks qs ++ rest)) in
+    ap (run_marks (part_begin fixed done)) (append_assoc (part_marks q) (token bar ∷ barred_marks qs) rest)
     ∙ (r.runs
-    ∙ (ap (option_and_then (λ u. run_marks u (barred_marks qs ++ rest))) (runs_bar done q r.end_level r.branch)
-    ∙ (runs_parts qs (done ++ q ∷ []) rest
-    ∙ ap (λ ps. run_marks (part_begin ps) rest) (append_assoc done (q ∷ []) qs))))
+    ∙ (ap (option_and_then (λ u. run_marks u (barred_marks qs ++ rest))) (runs_bar fixed done q r.end_level r.branch)
+    ∙ (runs_parts fixed qs (done ++ q ∷ []) rest
+    ∙ ap (λ ps. run_marks (part_begin fixed ps) rest) (append_assoc done (q ∷ []) qs))))
 
-pub record RunsPattern (p : Pattern) : Type 0 where
-  pub last : PatternState
-  pub runs : run_marks initial (pattern_marks p) ≡ Some last
-  pub whole : pattern_in last ≡ p
+pub record RunsDisjunction (fixed : Bool) (p : Disjunction) : Type 0 where
+  pub last : PartsState
+  pub runs : run_marks (initial fixed) (disjunction_marks p) ≡ Some last
+  pub whole : disjunction_in last ≡ p
   pub closed : no_levels last.state.1 ≡ true
   pub bare : no_done last.state.0 ≡ true
 
--- the marks of a pattern lead to a state with no group open
-pub pattern_complete : (p : Pattern) → RunsPattern p
-pattern_complete p =
-    let r = runs_part p.before p.last [] in
+-- the marks of all branches lead to a state with no group open
+pub disjunction_complete : (fixed : Bool) (p : Disjunction) → RunsDisjunction fixed p
+disjunction_complete fixed p =
+    let r = runs_part fixed p.before p.last [] in
     record {
-      last = part_end p.before p.last r.end_level;
-      runs = runs_parts p.before [] (part_marks p.last)
-          ∙ (ap (run_marks (part_begin p.before)) (sym (append-nil (part_marks p.last))) ∙ r.runs);
+      last = part_end fixed p.before p.last r.end_level;
+      runs = runs_parts fixed p.before [] (part_marks p.last)
+          ∙ (ap (run_marks (part_begin fixed p.before)) (sym (append-nil (part_marks p.last))) ∙ r.runs);
       whole = ap (λ b. record { before = p.before; last = record { starts = p.last.starts; branch = b; ends = p.last.ends } }) r.branch;
       closed = refl;
       bare = r.bare;
@@ -376,7 +377,7 @@ pattern_complete p =
 
 -- ---- how large it is
 
-pub record Fine (s : PatternState) : Type 0 where
+pub record Fine (s : PartsState) : Type 0 where
   pub parts : AreSmall s.parts
   pub state : state_size s.state ≤ size_limit
 
@@ -392,7 +393,7 @@ pub branch_in_size : (l : Level) → no_done l ≡ true → branch_size (branch_
 branch_in_size (level [] ps z) h = regexp_of_size (level [] ps z)
 branch_in_size (level (b ∷ bs) ps z) h = absurd (true≢false (sym h))
 
-fine_part : (s : PatternState) → no_levels s.state.1 ≡ true → is_bare s.state.0 s.state.1 ≡ true → AreSmall (s.parts ++ part_in s ∷ [])
+pub fine_part : (s : PartsState) → no_levels s.state.1 ≡ true → is_bare s.state.0 s.state.1 ≡ true → AreSmall (s.parts ++ part_in s ∷ [])
     → Fine s
 fine_part s n b a =
     let none = no_level_left s.state.1 n in
@@ -402,16 +403,17 @@ fine_part s n b a =
     let zero : outer_size s.state.1 ≡ 0 = ap outer_size none in
     record { parts = small.0; state = omega (arith, small.1) }
 
-pub record Back (s u : PatternState) : Type 0 where
+pub record Back (s u : PartsState) : Type 0 where
   pub bare : is_bare u.state.0 u.state.1 ≡ true
   pub fine : Fine u → Fine s
 
-pub step_back : (s : PatternState) (m : Mark) (u : PatternState) → advance_mark s m ≡ Some u → is_bare s.state.0 s.state.1 ≡ true → Back s u
+pub step_back : (s : PartsState) (m : Mark) (u : PartsState) → advance_mark s m ≡ Some u → is_bare s.state.0 s.state.1 ≡ true → Back s u
 step_back s start u e b =
     elim (cond_cases (s.ends || (s.starts || not (is_unread s.state))) _ _ u e) [
       | inl a ↦ none_some a.1
       | inr n ↦ subst (Back s) (some_same n.1) (record { bare = b; fine = λ f. record { parts = f.parts; state = f.state } })
     ]
+step_back s (look negated) u e b = none_some e
 step_back s end u e b =
     elim (cond_cases (s.ends || not (no_levels s.state.1)) _ _ u e) [
       | inl a ↦ none_some a.1
@@ -434,16 +436,11 @@ step_back s (token t) u e b =
       ]
     ]
 
-pub run_fine : (ms : List Mark) (s u : PatternState) → run_marks s ms ≡ Some u → is_bare s.state.0 s.state.1 ≡ true → Fine u → Fine s
+pub run_fine : (ms : List Mark) (s u : PartsState) → run_marks s ms ≡ Some u → is_bare s.state.0 s.state.1 ≡ true → Fine u → Fine s
 run_fine [] s u e b f = subst Fine (sym (some_same e)) f
 run_fine (m ∷ ms) s u e b f = by (advance_mark s m) refl e (λ v h k. run_fine ms v u h k f)
   where
-    by : (o : Option PatternState) → advance_mark s m ≡ o → option_and_then (λ v. run_marks v ms) o ≡ Some u
-        → ((v : PatternState) → run_marks v ms ≡ Some u → is_bare v.state.0 v.state.1 ≡ true → Fine v) → Fine s
+    by : (o : Option PartsState) → advance_mark s m ≡ o → option_and_then (λ v. run_marks v ms) o ≡ Some u
+        → ((v : PartsState) → run_marks v ms ≡ Some u → is_bare v.state.0 v.state.1 ≡ true → Fine v) → Fine s
     by None g h rec = none_some h
     by (Some v) g h rec = let k = step_back s m v g b in k.fine (rec v h k.bare)
-
-pub fine_pattern : (p : Pattern) (r : RunsPattern p) → IsSmall p → Fine r.last
-fine_pattern p r h =
-    let none = no_level_left r.last.state.1 r.closed in
-    fine_part r.last r.closed (ap (λ ls. is_bare r.last.state.0 ls) none ∙ r.bare) (subst IsSmall (sym r.whole) h)

@@ -1,8 +1,8 @@
 -- The grammar and matching, as tests; for private contracts.
-use Rattle.std.specs.Prelude.{ℕ, zero, suc, ◌+◌, Bool, true, false, ◌&&◌, ◌||◌, nat_le, List, [], ◌∷◌, length, Option, Some, None}
+use Rattle.std.specs.Prelude.{ℕ, zero, suc, ◌+◌, Bool, true, false, not, ◌&&◌, ◌||◌, nat_le, List, [], ◌∷◌, length, Option, Some, None}
 use Rattle.std.specs.Prelude.{option_map, option_and_then}
 use Rattle.i_regexp.specs.declared.class.Item.{Item}
-use Rattle.i_regexp.specs.Forms.{Form, empty, class, concat, alternation, repetition, is_in_class}
+use Rattle.i_regexp.specs.Forms.{Form, empty, class, concat, alternation, repetition, both, no, is_in_class}
 use Rattle.i_regexp.specs.Fronts.{token_front}
 use Rattle.i_regexp.specs.Grammar.{Token, Regexp, regexp_form}
 use Rattle.i_regexp.specs.Levels.{State, fresh, regexp_of, run}
@@ -46,6 +46,8 @@ matches (class negated items) cs = is_one_in negated items cs
 matches (concat r s) cs = splits (λ xs ys. matches r xs && matches s ys) cs
 matches (alternation r s) cs = matches r cs || matches s cs
 matches (repetition r least most) cs = some_below (is_count (matches r) least most cs) (least + length cs)
+matches (both r s) cs = matches r cs && matches s cs
+matches (no r) cs = not (matches r cs)
 
 -- whether the regular expression matches a part of the text
 abbrev pub searches : Form → List ℕ → Bool

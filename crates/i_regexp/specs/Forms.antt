@@ -22,13 +22,16 @@ abbrev pub is_in_class : Bool → List Item → ℕ → Bool
 is_in_class negated items c = cond negated (not (is_within items c)) (is_within items c)
 
 -- A regular expression: the empty one, one character of a class, a sequence, a choice, or a
--- repetition with a least and perhaps a greatest number.
+-- repetition with a least and perhaps a greatest number. Patterns with look-aheads also have texts
+-- that both match, and texts that one does not match.
 pub data Form : Type 0 where
   empty : Form
   class : (negated : Bool) (items : List Item) → Form
   concat : (first second : Form) → Form
   alternation : (first second : Form) → Form
   repetition : (body : Form) (least : ℕ) (most : Option ℕ) → Form
+  both : (first second : Form) → Form
+  no : (body : Form) → Form
 
 -- a text of that many parts, one after the other, and P is true for each
 abbrev pub Parts : (List ℕ → Type 0) → ℕ → List ℕ → Type 0
@@ -47,6 +50,8 @@ Matches (class negated items) cs = (c : ℕ) × (cs ≡ c ∷ []) × (is_in_clas
 Matches (concat r s) cs = (xs : List ℕ) × (ys : List ℕ) × (cs ≡ xs ++ ys) × Matches r xs × Matches s ys
 Matches (alternation r s) cs = Matches r cs ⊎ Matches s cs
 Matches (repetition r least most) cs = (n : ℕ) × (least ≤ n) × AtMost n most × Parts (Matches r) n cs
+Matches (both r s) cs = Matches r cs × Matches s cs
+Matches (no r) cs = Matches r cs → ⊥
 
 -- the regular expression matches a part of the text
 pub record Searches (r : Form) (cs : List ℕ) : Type 0 where

@@ -13,6 +13,8 @@ pub mod Regexps
 pub mod Patterns
 pub mod PatternFronts
 pub mod PatternMachine
+pub mod PatternTexts
+pub mod PatternCases
 pub mod PatternDeciding
 pub mod PatternReading
 pub mod PatternMessage

@@ -5,7 +5,7 @@ use Rattle.std.specs.Option.{option_map_or}
 use Rattle.i_regexp.specs.Deciding.{matches}
 use Rattle.i_regexp.specs.Patterns.{Mark, Pattern, IsText, IsFound}
 use Rattle.i_regexp.specs.PatternFronts.{mark_front}
-use Rattle.i_regexp.specs.PatternMachine.{PatternState, initial, no_levels, pattern_in, run_marks, pattern_form}
+use Rattle.i_regexp.specs.PatternCases.{CasesState, no_cases, is_closed, pattern_in, run_cases, pattern_form}
 
 -- The first text is a pattern that matches a part of the second.
 pub record PatternFound (ps cs : List ℕ) : Type 0 where
@@ -23,13 +23,13 @@ marks_in zero (c ∷ cs) = None
 marks_in (suc n) [] = Some []
 marks_in (suc n) (c ∷ cs) = option_and_then (λ p. option_map (with_mark p.0) (marks_in n p.1)) (mark_front (c ∷ cs))
 
--- the pattern that was parsed, if no group is open
-abbrev pub whole_pattern : PatternState → Option Pattern
-whole_pattern s = cond (no_levels s.state.1) (Some (pattern_in s)) None
+-- the pattern that was parsed, if no group or look-ahead is open
+abbrev pub whole_pattern : CasesState → Option Pattern
+whole_pattern s = cond (is_closed s) (Some (pattern_in s)) None
 
 -- the pattern that the text is
 abbrev pub pattern_of : List ℕ → Option Pattern
-pattern_of cs = option_and_then whole_pattern (option_and_then (run_marks initial) (marks_in (length cs) cs))
+pattern_of cs = option_and_then whole_pattern (option_and_then (run_cases no_cases) (marks_in (length cs) cs))
 
 -- the text is a pattern
 abbrev pub is_pattern : List ℕ → Bool

@@ -20,14 +20,15 @@ use Rattle.i_regexp.specs.declared.mark.Mark.TheVariants as code
 use Rattle.i_regexp.specs.declared.mark.Mark.{Mark as CodeMark}
 use Rattle.i_regexp.specs.Fronts.{token_of, token_front}
 use Rattle.i_regexp.specs.Grammar.{Token, characters, opened, closed, bar, quantifier, one}
-use Rattle.i_regexp.specs.Patterns.{dollar_sign, colon, letter_c, letter_x, letter_u, letter_items, named_letter, hex_digit, byte_of}
+use Rattle.i_regexp.specs.Patterns.{dollar_sign, colon, equals_sign, exclamation_mark, letter_c, letter_x, letter_u, letter_items, named_letter, hex_digit, byte_of}
 use Rattle.i_regexp.specs.Patterns.{code_of, is_high, scalar, pair_of, control_of, begins_with_digit, others}
-use Rattle.i_regexp.specs.Patterns.{ends_class, is_dash, class_items, Mark, start, end, token, dot, is_normal, fits}
+use Rattle.i_regexp.specs.Patterns.{ends_class, is_dash, class_items, Mark, start, end, look, token, dot, is_normal, fits}
 
 -- the view of the code's mark
 abbrev pub mark_of : CodeMark → Mark
 mark_of code.Start = start
 mark_of code.End = end
+mark_of (code.Look negated) = look negated
 mark_of (code.Token t) = token (token_of t)
 
 -- a character by its code
@@ -176,11 +177,17 @@ range_behind [] = None
 range_behind (y ∷ []) = None
 range_behind (y ∷ z ∷ xs) = cond (is_dash y) (Some (z, xs)) None
 
--- the text after `(`, without `?:`
-abbrev pub silent : List ℕ → List ℕ
-silent [] = []
-silent (c ∷ []) = c ∷ []
-silent (c ∷ d ∷ cs) = cond ((c == question_mark) && (d == colon)) cs (c ∷ d ∷ cs)
+-- what begins after `(?`: a group, or a look-ahead
+abbrev pub special : ℕ → List ℕ → Option (Mark × List ℕ)
+special d cs =
+    cond (d == colon) (Some (token opened, cs)) (cond (d == equals_sign) (Some (look false, cs))
+    (cond (d == exclamation_mark) (Some (look true, cs)) None))
+
+-- what begins after `(`
+abbrev pub opening : List ℕ → Option (Mark × List ℕ)
+opening [] = Some (token opened, [])
+opening (c ∷ []) = Some (token opened, c ∷ [])
+opening (c ∷ d ∷ cs) = cond (c == question_mark) (special d cs) (Some (token opened, c ∷ d ∷ cs))
 
 -- the text after a quantifier, without its `?`
 abbrev pub eager : List ℕ → List ℕ
@@ -207,7 +214,7 @@ sign_front [] = None
 sign_front (c ∷ cs) =
     cond (c == circumflex) (Some (start, cs))
     (cond (c == dollar_sign) (Some (end, cs))
-    (cond (c == left_parenthesis) (Some (token opened, silent cs))
+    (cond (c == left_parenthesis) (opening cs)
     (cond (c == right_parenthesis) (Some (token closed, cs))
     (cond (c == vertical_bar) (Some (token bar, cs))
     (cond (c == full_stop) (Some (token dot, cs))

@@ -1,28 +1,31 @@
--- The result of parsing a pattern; `ReadsTree` and `Refused` are for private contracts.
+-- The result of parsing a pattern; `ReadsCases` and `Refused` are for private contracts.
 use Rattle.std.specs.Prelude.{◌≡◌, ℕ, ◌≤◌, ◌+◌, ◌↔◌, Bool, true, false, ◌&&◌, ◌||◌, ◌==◌, cond, List, [], ◌∷◌, ◌++◌, length, ◌⊎◌}
-use Rattle.std.specs.Prelude.{nat_le, Result, Ok, Err}
+use Rattle.std.specs.Prelude.{map, nat_le, Result, Ok, Err}
 use Rattle.std.specs.Option.{option_map_or}
 use Rattle.i_regexp.specs.Characters.{left_parenthesis, question_mark, circumflex, reverse_solidus, letter_p, capital_p}
 use Rattle.i_regexp.specs.declared.error.IRegexpError.{IRegexpError}
 use Rattle.i_regexp.specs.declared.error.IRegexpErrorKind.{IRegexpErrorKind}
 use Rattle.i_regexp.specs.declared.error.IRegexpErrorKind.TheVariants as kind
-use Rattle.i_regexp.specs.declared.marked.Node.{Node}
+use Rattle.i_regexp.specs.declared.cases.Case.{Case as CaseTree}
+use Rattle.std.specs.declared.alloc.Global.{Global}
+use Rattle.std.specs.declared.vec.Vec.{Vec}
 use Rattle.i_regexp.specs.declared.pattern.SchemaPattern.{SchemaPattern}
 use Rattle.i_regexp.specs.declared.pattern_error.SchemaPatternError.{SchemaPatternError}
 use Rattle.i_regexp.specs.declared.pattern_error.SchemaPatternErrorKind.{SchemaPatternErrorKind}
 use Rattle.i_regexp.specs.declared.pattern_error.SchemaPatternErrorKind.TheVariants as reason
-use Rattle.i_regexp.specs.Building.{Means}
+use Rattle.i_regexp.specs.Building.{choice}
 use Rattle.i_regexp.specs.Forms.{Form, Matches}
 use Rattle.i_regexp.specs.Grammar.{is_one_of}
 use Rattle.i_regexp.specs.Limits.{depth_limit, begins_group, ends_group, LargeCount}
-use Rattle.i_regexp.specs.Marked.{form_of}
 use Rattle.i_regexp.specs.PatternFronts.{code_front}
-use Rattle.i_regexp.specs.Patterns.{dollar_sign, letter_u, is_surrogate, Mark, token, Spelled, Pattern, IsText, IsSmall, IsFound}
-use Rattle.i_regexp.specs.PatternMachine.{pattern_form}
+use Rattle.i_regexp.specs.Patterns.{dollar_sign, letter_u, is_surrogate, Mark, token, look, Spelled, Pattern, IsText, IsSmall, IsFound}
+use Rattle.i_regexp.specs.PatternCases.{CasesMean}
+use Rattle.i_regexp.specs.PatternTexts.{case_text}
 
--- 1 for the mark that begins a group, and 0 for others
+-- 1 for the mark that begins a group, as a look-ahead is one, and 0 for others
 abbrev pub begins_one : Mark → ℕ
 begins_one (token t) = begins_group t
+begins_one (look negated) = 1
 begins_one m = 0
 
 -- 1 for the mark that ends a group, and 0 for others
@@ -73,10 +76,10 @@ pub record Refused (cs : List ℕ) (e : IRegexpError) : Type 0 where
   pub spelled : Spelled front marks
   pub says : Says cs marks rest e.kind
 
--- the result of parsing a text into a tree
-abbrev pub ReadsTree : List ℕ → Result Node IRegexpError → Type 0
-ReadsTree cs (Ok n) = (p : Pattern) × IsText cs p × IsSmall p × Means n (pattern_form p)
-ReadsTree cs (Err e) = Refused cs e
+-- the result of parsing a text into trees
+abbrev pub ReadsCases : List ℕ → Result (Vec CaseTree Global) IRegexpError → Type 0
+ReadsCases cs (Ok v) = (p : Pattern) × IsText cs p × IsSmall p × CasesMean v.items (p.before ++ p.last ∷ [])
+ReadsCases cs (Err e) = Refused cs e
 
 -- ---- patterns that were parsed
 
@@ -127,7 +130,7 @@ pub record IsRefused (cs : List ℕ) (e : SchemaPatternError) : Type 0 where
 
 -- the texts that the pattern matches somewhere, as a regular expression
 abbrev pub texts_of : SchemaPattern → Form
-texts_of x = form_of x.root
+texts_of x = choice (map case_text x.cases.items)
 
 -- The text is this pattern and no other, and none of its branches is too large. What was parsed
 -- matches in the same texts.

@@ -29,6 +29,13 @@ dollar_sign = 36
 abbrev pub colon : ℕ
 colon = 58
 
+-- the signs of look-aheads
+abbrev pub equals_sign : ℕ
+equals_sign = 61
+
+abbrev pub exclamation_mark : ℕ
+exclamation_mark = 33
+
 -- the letters of escapes that have the code of a character
 abbrev pub letter_c : ℕ
 letter_c = 99
@@ -231,10 +238,11 @@ class_items (x ∷ y ∷ z ∷ xs) =
 
 -- ---- marks
 
--- a mark: `^`, `$` or a token
+-- a mark: `^`, `$`, what begins a look-ahead, or a token
 pub data Mark : Type 0 where
   start : Mark
   end : Mark
+  look : (negated : Bool) → Mark
   token : Token → Mark
 
 -- every character but a line feed, a carriage return, and the ends of lines and paragraphs of Unicode
@@ -252,6 +260,8 @@ pub data Spells : List ℕ → Mark → Type 0 where
   finishes : Spells (dollar_sign ∷ []) end
   opens : Spells (left_parenthesis ∷ []) (token opened)
   opens_silently : Spells (left_parenthesis ∷ question_mark ∷ colon ∷ []) (token opened)
+  looks : Spells (left_parenthesis ∷ question_mark ∷ equals_sign ∷ []) (look false)
+  looks_not : Spells (left_parenthesis ∷ question_mark ∷ exclamation_mark ∷ []) (look true)
   closes : Spells (right_parenthesis ∷ []) (token closed)
   parts : Spells (vertical_bar ∷ []) (token bar)
   any : Spells (full_stop ∷ []) (token dot)
@@ -279,13 +289,14 @@ begins_with_question (c ∷ cs) = c == question_mark
 -- a branch may end before the text
 abbrev pub ends_branch : List ℕ → Bool
 ends_branch [] = true
-ends_branch (c ∷ cs) = c == vertical_bar
+ends_branch (c ∷ cs) = (c == vertical_bar) || (c == right_parenthesis)
 
 -- the text may follow the mark: after `(` and after a quantifier no further `?`, and after `$` the
 -- end of a branch
 abbrev pub fits : Mark → List ℕ → Bool
 fits start cs = true
 fits end cs = ends_branch cs
+fits (look negated) cs = true
 fits (token t) cs = not (takes_question (token t) && begins_with_question cs)
 
 -- the text consists of these marks
@@ -296,16 +307,31 @@ pub data Spelled : List ℕ → List Mark → Type 0 where
 
 -- ---- patterns
 
--- An outermost branch, and whether it begins with `^` and ends with `$`.
+-- A branch outside of all groups, and whether it begins with `^` and ends with `$`.
 pub record Part : Type 0 where
   pub starts : Bool
   pub branch : Branch
   pub ends : Bool
 
--- the outermost branches
-pub record Pattern : Type 0 where
+-- the branches of a look-ahead
+pub record Disjunction : Type 0 where
   pub before : List Part
   pub last : Part
+
+-- a look-ahead, `(?=..)` or, if it is negated, `(?!..)`
+pub record Look : Type 0 where
+  pub negated : Bool
+  pub content : Disjunction
+
+-- An outermost branch. If it has look-aheads, a `^` is before them.
+pub record Case : Type 0 where
+  pub looks : List Look
+  pub part : Part
+
+-- the outermost branches
+pub record Pattern : Type 0 where
+  pub before : List Case
+  pub last : Case
 
 abbrev pub mark_if : Bool → Mark → List Mark
 mark_if true m = m ∷ []
@@ -319,8 +345,28 @@ abbrev pub barred_marks : List Part → List Mark
 barred_marks [] = []
 barred_marks (q ∷ qs) = part_marks q ++ token bar ∷ barred_marks qs
 
+abbrev pub disjunction_marks : Disjunction → List Mark
+disjunction_marks p = barred_marks p.before ++ part_marks p.last
+
+abbrev pub looks_marks : List Look → List Mark
+looks_marks [] = []
+looks_marks (k ∷ ks) = look k.negated ∷ (disjunction_marks k.content ++ token closed ∷ looks_marks ks)
+
+-- look-aheads, with the `^` before them
+abbrev pub guard_marks : List Look → List Mark
+guard_marks [] = []
+guard_marks (k ∷ ks) = start ∷ looks_marks (k ∷ ks)
+
+abbrev pub case_marks : Case → List Mark
+case_marks c = guard_marks c.looks ++ part_marks c.part
+
+-- outermost branches, each with the bar after it
+abbrev pub cases_marks : List Case → List Mark
+cases_marks [] = []
+cases_marks (c ∷ cs) = case_marks c ++ token bar ∷ cases_marks cs
+
 abbrev pub pattern_marks : Pattern → List Mark
-pattern_marks p = barred_marks p.before ++ part_marks p.last
+pattern_marks p = cases_marks p.before ++ case_marks p.last
 
 -- the text is in the grammar, and is this pattern
 pub record IsText (cs : List ℕ) (p : Pattern) : Type 0 where
@@ -337,19 +383,59 @@ pub record Finds (q : Part) (cs : List ℕ) : Type 0 where
   pub starts : q.starts ≡ true → before ≡ []
   pub ends : q.ends ≡ true → after ≡ []
 
+-- it is so unless it is to be otherwise
+abbrev pub Unless : Bool → Type 0 → Type 0
+Unless false P = P
+Unless true P = P → ⊥
+
 -- one of the branches does so
 abbrev pub FindsOne : List Part → List ℕ → Type 0
 FindsOne [] cs = ⊥
 FindsOne (q ∷ qs) cs = Finds q cs ⊎ FindsOne qs cs
 
+-- the branch, as if it began with `^` where it has to match at the beginning
+abbrev pub fixed_part : Bool → Part → Part
+fixed_part fixed q = record { starts = fixed || q.starts; branch = q.branch; ends = q.ends }
+
+-- the look-ahead holds at the beginning of the text (ECMA-262, 22.2.2.4): one of its branches
+-- matches there or, if it is negated, none does
+abbrev pub Holds : Look → List ℕ → Type 0
+Holds k cs = Unless k.negated (FindsOne (map (fixed_part true) (k.content.before ++ k.content.last ∷ [])) cs)
+
+abbrev pub AllHold : List Look → List ℕ → Type 0
+AllHold [] cs = Unit {0}
+AllHold (k ∷ ks) cs = Holds k cs × AllHold ks cs
+
+abbrev pub has_looks : List Look → Bool
+has_looks [] = false
+has_looks (k ∷ ks) = true
+
+-- the look-aheads hold, and the branch matches a part of the text, after look-aheads at the
+-- beginning
+abbrev pub FindsCase : Case → List ℕ → Type 0
+FindsCase c cs = AllHold c.looks cs × Finds (fixed_part (has_looks c.looks) c.part) cs
+
+-- one of the branches does so
+abbrev pub FindsOneCase : List Case → List ℕ → Type 0
+FindsOneCase [] cs = ⊥
+FindsOneCase (c ∷ rest) cs = FindsCase c cs ⊎ FindsOneCase rest cs
+
 -- the pattern matches a part of the text
 abbrev pub IsFound : Pattern → List ℕ → Type 0
-IsFound p cs = FindsOne (p.before ++ p.last ∷ []) cs
+IsFound p cs = FindsOneCase (p.before ++ p.last ∷ []) cs
 
--- no branch is too large
+-- no branch is too large, those of look-aheads neither
 abbrev pub AreSmall : List Part → Type 0
 AreSmall [] = Unit {0}
 AreSmall (q ∷ qs) = (branch_size q.branch ≤ size_limit) × AreSmall qs
 
+abbrev pub AreSmallLooks : List Look → Type 0
+AreSmallLooks [] = Unit {0}
+AreSmallLooks (k ∷ ks) = AreSmall (k.content.before ++ k.content.last ∷ []) × AreSmallLooks ks
+
+abbrev pub AreSmallCases : List Case → Type 0
+AreSmallCases [] = Unit {0}
+AreSmallCases (c ∷ cs) = AreSmallLooks c.looks × (branch_size c.part.branch ≤ size_limit) × AreSmallCases cs
+
 abbrev pub IsSmall : Pattern → Type 0
-IsSmall p = AreSmall (p.before ++ p.last ∷ [])
+IsSmall p = AreSmallCases (p.before ++ p.last ∷ [])

@@ -1,4 +1,4 @@
-//! Parses the marks of a schema's pattern into a tree.
+//! Parses the marks of branches outside of groups into a tree.
 ghost use Rattle.std.specs.Prelude.{◌≡◌, ◌<◌, OnOk, IfOk, true, vec_len};
 ghost use Rattle.i_regexp.specs.Building.{Means};
 ghost use Rattle.i_regexp.specs.Fronts.{token_of};
@@ -7,23 +7,24 @@ ghost use Rattle.i_regexp.specs.Patterns.{start, end, token};
 ghost use Rattle.i_regexp.specs.PatternFronts.{mark_of};
 ghost use Rattle.i_regexp.specs.PatternMachine.{TakesMark, Finishes, EndsPart, AgreesAt, initial};
 ghost use Rattle.i_regexp.specs.PatternMachine.{open_form, is_bar, no_levels, next_part};
-ghost use Rattle.i_regexp.specs.PatternMachine.{PatternState, IsFitMark};
-ghost use Rattle.i_regexp.specs.PatternReading.{ReadsTree};
+ghost use Rattle.i_regexp.specs.PatternMachine.{PartsState, IsFitMark, is_before};
 
 use crate::build::{choice_of, concat, one_of, star};
 use crate::class::Class;
-use crate::error::{IRegexpError, IRegexpErrorKind};
-use crate::mark::{Mark, next_mark};
+use crate::error::IRegexpErrorKind;
+use crate::mark::Mark;
 use crate::marked::Node;
 use crate::reader::{Level, take};
 use crate::token::Token;
 use std::alloc::{AllocError, Global};
 use std::mem;
 
-/// What was parsed of a pattern: the branches that have ended, whether the last one begins with `^`
-/// and ends with `$`, and the rest of it.
+/// What was parsed of branches outside of groups: those that have ended, whether the last one begins
+/// with `^` and ends with `$`, and the rest of it.
 #[derive(Drop)]
 pub(crate) struct Branches {
+    // whether they have to match at the beginning of the text
+    fixed: bool,
     parts: Vec<Node>,
     starts: bool,
     ends: bool,
@@ -33,10 +34,11 @@ pub(crate) struct Branches {
 
 impl Branches {
     /// The state before the first mark.
-    fn new(alloc: Global) -> Branches
-        ensures { AgreesAt result initial }
+    pub(crate) fn new(alloc: Global, fixed: bool) -> Branches
+        ensures { AgreesAt result (initial fixed) }
     {
         Branches {
+            fixed,
             parts: Vec::new(alloc),
             starts: false,
             ends: false,
@@ -49,17 +51,18 @@ impl Branches {
     fn end_part(&mut self, alloc: Global) -> Result<(), AllocError>
         ensures part { OnOk result (EndsPart self.old self.new.parts.items) }
         ensures some { OnOk result (0 < vec_len self.new.parts) }
+        ensures fixed { self.new.fixed ≡ self.old.fixed }
     {
         let node = self.here.finish(alloc)?;
         let behind = concat(alloc, node, open_end(alloc, self.ends)?)?;
-        let part = concat(alloc, open_end(alloc, self.starts)?, behind)?;
+        let part = concat(alloc, open_end(alloc, self.fixed | self.starts)?, behind)?;
         self.parts.push(part)?;
         Ok(())
     }
 
     /// Accepts a bar outside of groups.
     fn take_bar(&mut self, alloc: Global) -> Result<(), AllocError>
-        ensures { OnOk result ((s : PatternState) → AgreesAt self.old s
+        ensures { OnOk result ((s : PartsState) → AgreesAt self.old s
             → no_levels s.state.1 ≡ true → AgreesAt self.new (next_part s)) }
     {
         self.end_part(alloc)?;
@@ -121,27 +124,48 @@ impl Branches {
     }
 
     /// Accepts a mark.
-    fn take_mark(&mut self, alloc: Global, mark: Mark) -> Result<(), IRegexpErrorKind>
+    pub(crate) fn take_mark(&mut self, alloc: Global, mark: Mark) -> Result<(), IRegexpErrorKind>
         requires { IsFitMark (mark_of mark) }
         ensures { TakesMark self.old (mark_of mark) result self.new }
     {
         match mark {
             Mark::Start => self.take_start(),
             Mark::End => self.take_end(),
+            Mark::Look(_) => Err(IRegexpErrorKind::Invalid),
             Mark::Token(taken) => self.take_token(alloc, taken),
         }
     }
 
-    /// The tree of the whole pattern.
-    fn finish(&mut self, alloc: Global) -> Result<Node, IRegexpErrorKind>
-        ensures { Finishes self.old result }
+    /// The tree of all branches.
+    pub(crate) fn finish(&mut self, alloc: Global) -> Result<Node, AllocError>
+        ensures { IfOk result (λ n. Finishes self.old n) }
     {
-        if !self.outer.is_empty() {
-            return Err(IRegexpErrorKind::Invalid);
-        }
         self.end_part(alloc)?;
         let parts = mem::replace(&mut self.parts, Vec::new(alloc));
-        Ok(choice_of(alloc, parts)?)
+        choice_of(alloc, parts)
+    }
+
+    /// Whether no group is open.
+    pub(crate) fn is_outermost(&self) -> bool
+        ensures { (s : PartsState) → AgreesAt self.now s → result ≡ no_levels s.state.1 }
+    {
+        self.outer.is_empty()
+    }
+
+    /// Whether only a `^` was read, or without `starts` nothing.
+    pub(crate) fn is_before(&self, starts: bool) -> bool
+        ensures { (s : PartsState) → AgreesAt self.now s → result ≡ is_before s starts }
+    {
+        if self.ends {
+            return false;
+        }
+        if self.starts != starts {
+            return false;
+        }
+        if !self.outer.is_empty() {
+            return false;
+        }
+        self.here.is_blank()
     }
 }
 
@@ -166,28 +190,4 @@ fn open_end(alloc: Global, closed: bool) -> Result<Node, AllocError>
             items: Vec::new(alloc),
         }),
     )
-}
-
-/// Parses a whole pattern.
-pub(crate) fn read_pattern(alloc: Global, text: &[char]) -> Result<Node, IRegexpError>
-    ensures { ReadsTree text.now result }
-{
-    let mut branches = Branches::new(alloc);
-    let mut rest = text;
-    while !rest.is_empty() {
-        let place = text.len().saturating_sub(rest.len());
-        let (mark, after) = match next_mark(alloc, rest) {
-            Ok(pair) => pair,
-            Err(kind) => return Err(IRegexpError { kind, place }),
-        };
-        if let Err(kind) = branches.take_mark(alloc, mark) {
-            return Err(IRegexpError { kind, place });
-        }
-        rest = after;
-    }
-    let place = text.len();
-    match branches.finish(alloc) {
-        Ok(node) => Ok(node),
-        Err(kind) => Err(IRegexpError { kind, place }),
-    }
 }

@@ -1,5 +1,6 @@
-//! Regular expressions of RFC 9485 (I-Regexp), and the patterns that JSON Schema recommends. Both
-//! are matched in a single pass over the text, without memory.
+//! Regular expressions of RFC 9485 (I-Regexp), and the patterns that JSON Schema recommends. A
+//! regular expression is matched in a single pass over the text, and a pattern in one for each of its
+//! outermost branches and look-aheads. Neither takes memory.
 //!
 //! ```
 //! let mut months = IRegexp::parse(alloc, "[0-9]{4}-[0-9]{2}")?;
@@ -9,18 +10,21 @@
 
 mod branches;
 mod build;
+mod cases;
 mod class;
 mod error;
 mod letter;
 mod limits;
 mod mark;
 mod marked;
+mod outermost;
 mod pattern;
 mod pattern_error;
 mod reader;
 mod refusal;
 mod regexp;
 mod run;
+mod search;
 mod token;
 
 pub use error::{IRegexpError, IRegexpErrorKind};

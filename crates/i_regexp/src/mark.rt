@@ -1,13 +1,13 @@
-//! The marks of a schema's pattern: `^`, `$` and tokens.
+//! The marks of a schema's pattern: `^`, `$`, `(?=`, `(?!` and tokens.
 ghost use Rattle.std.specs.Prelude.{◌≡◌, ℕ, ◌<◌, [], IfOk, length, option_map, option_and_then};
 ghost use Rattle.i_regexp.specs.Limits.{LargeCount};
 ghost use Rattle.i_regexp.specs.Fronts.{Fronts, token_of, token_front};
 ghost use Rattle.i_regexp.specs.declared.token.Token.TheVariants.{Characters};
-ghost use Rattle.i_regexp.specs.Patterns.{is_normal, class_items, begins_with_question, dot};
-ghost use Rattle.i_regexp.specs.Patterns.{takes_question, ends_branch, fits, range_of};
+ghost use Rattle.i_regexp.specs.Patterns.{is_normal, class_items, dot};
+ghost use Rattle.i_regexp.specs.Patterns.{takes_question, fits, range_of};
 ghost use Rattle.i_regexp.specs.Patterns.{token as with_token};
 ghost use Rattle.i_regexp.specs.PatternFronts.{mark_of, mark_front, sign_front, class_front};
-ghost use Rattle.i_regexp.specs.PatternFronts.{letters_front, caret_front, range_behind, silent};
+ghost use Rattle.i_regexp.specs.PatternFronts.{letters_front, caret_front, range_behind, opening};
 ghost use Rattle.i_regexp.specs.PatternFronts.{eager, letter_mark, escape_front, repeat_front};
 ghost use Rattle.i_regexp.specs.PatternFronts.{ReadsItems, RangeBehind, Appends};
 
@@ -17,11 +17,14 @@ use crate::letter::{Letter, escape, next_letter};
 use crate::token::{Token, next_token};
 use std::alloc::{AllocError, Global};
 
-/// The smallest part of a pattern's text with a meaning: `^`, `$` or a token.
+/// The smallest part of a pattern's text with a meaning: `^`, `$`, what begins a look-ahead, or a
+/// token.
 #[derive(Drop)]
 pub(crate) enum Mark {
     Start,
     End,
+    // a look-ahead begins, and whether it is negated
+    Look(bool),
     Token(Token),
 }
 
@@ -32,8 +35,9 @@ impl Mark {
     {
         match self {
             Mark::Start => true,
-            Mark::End => ends_branch(text),
-            Mark::Token(token) => !(takes_question(token) && begins_with_question(text)),
+            Mark::End => matches!(text, ['|' | ')', ..] | []),
+            Mark::Look(_) => true,
+            Mark::Token(token) => !(takes_question(token) && matches!(text, ['?', ..])),
         }
     }
 }
@@ -59,20 +63,6 @@ fn takes_question(token: &Token) -> bool
     matches!(token, Token::Open | Token::Quantifier { .. })
 }
 
-/// Whether a branch may end before this text.
-fn ends_branch(text: &[char]) -> bool
-    ensures { result ≡ ends_branch text.now }
-{
-    matches!(text, ['|', ..] | [])
-}
-
-/// Whether the text begins with `?`.
-fn begins_with_question(text: &[char]) -> bool
-    ensures { result ≡ begins_with_question text.now }
-{
-    matches!(text, ['?', ..])
-}
-
 /// The first mark of a text, whatever follows it.
 fn sign<'t>(alloc: Global, text: &'t [char]) -> Result<(Mark, &'t [char]), IRegexpErrorKind>
     ensures { Fronts (LargeCount text.now) mark_of (sign_front text.now) result }
@@ -83,7 +73,7 @@ fn sign<'t>(alloc: Global, text: &'t [char]) -> Result<(Mark, &'t [char]), IRege
     match *first {
         '^' => Ok((Mark::Start, rest)),
         '$' => Ok((Mark::End, rest)),
-        '(' => Ok((Mark::Token(Token::Open), silent(rest))),
+        '(' => opening(rest),
         ')' => Ok((Mark::Token(Token::Close), rest)),
         '|' => Ok((Mark::Token(Token::Bar), rest)),
         '.' => Ok((Mark::Token(Token::Characters(dot(alloc)?)), rest)),
@@ -112,13 +102,16 @@ fn is_normal(c: char) -> bool
     )
 }
 
-/// The text after an opening parenthesis, without `?:`.
-fn silent(text: &[char]) -> &[char]
-    ensures { result.now ≡ silent text.now }
+/// What begins after an opening parenthesis: a group or a look-ahead.
+fn opening(text: &[char]) -> Result<(Mark, &[char]), IRegexpErrorKind>
+    ensures { Fronts ⊥ mark_of (opening text.now) result }
 {
     match text {
-        ['?', ':', after @ ..] => after,
-        _ => text,
+        ['?', ':', after @ ..] => Ok((Mark::Token(Token::Open), after)),
+        ['?', '=', after @ ..] => Ok((Mark::Look(false), after)),
+        ['?', '!', after @ ..] => Ok((Mark::Look(true), after)),
+        ['?', _, ..] => Err(IRegexpErrorKind::Invalid),
+        _ => Ok((Mark::Token(Token::Open), text)),
     }
 }
 

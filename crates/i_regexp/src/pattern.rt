@@ -1,15 +1,14 @@
 //! A parsed pattern of JSON Schema.
-ghost use Rattle.std.specs.Prelude.{◌≡◌, ◌↔◌, true, IsTrue};
+ghost use Rattle.std.specs.Prelude.{◌≡◌, ◌↔◌, IsTrue};
 ghost use Rattle.std.specs.Str.{chars};
 ghost use Rattle.i_regexp.specs.Forms.{Matches};
-ghost use Rattle.i_regexp.specs.Marked.{is_kept};
 
-use crate::branches::read_pattern;
-use crate::marked::Node;
+use crate::cases::Case;
+use crate::outermost::read_pattern;
 use crate::pattern_error::{SchemaPatternError, SchemaPatternErrorKind};
 use crate::refusal::refusal;
 use crate::regexp::characters;
-use crate::run::matches_whole;
+use crate::search::any_found;
 use std::alloc::Global;
 
 /// A pattern of JSON Schema, in the dialect that the standard recommends (Core 2020-12, 6.4), with
@@ -23,8 +22,7 @@ use std::alloc::Global;
 /// ```
 #[derive(Drop)]
 pub struct SchemaPattern {
-    root: Node,
-    ghost kept: { is_kept root ≡ true },
+    cases: Vec<Case>,
 }
 
 impl SchemaPattern {
@@ -47,13 +45,13 @@ impl SchemaPattern {
             });
         };
         match read_pattern(alloc, all.as_slice()) {
-            Ok(root) => Ok(SchemaPattern { root }),
+            Ok(cases) => Ok(SchemaPattern { cases }),
             Err(error) => Err(refusal(all.as_slice(), error)),
         }
     }
 
     /// Whether the pattern matches a part of the text. A branch that begins with `^` matches only
-    /// at the beginning, and one that ends with `$` only at the end. The time is at most
+    /// at the beginning, and if its look-aheads hold there; one that ends with `$` only at the end. The time is at most
     /// proportional to the product of the two sizes. It takes no memory.
     ///
     /// ```
@@ -64,6 +62,6 @@ impl SchemaPattern {
         ensures found { IsTrue result ↔ Matches (texts_of self.old) (chars text.now) }
         ensures same { texts_of self.new ≡ texts_of self.old }
     {
-        matches_whole(&mut self.root, text)
+        any_found(self.cases.as_mut_slice(), text)
     }
 }

@@ -14,6 +14,6 @@ returns-then-not-is_empty c =
 
 pub returns : goal.returns
 returns c =
-    end_taken c.args.self.now _ refl refl refl refl refl c.if-self.false
+    end_taken c.args.self.now _ refl refl refl refl refl refl c.if-self.false
     (none_left _ _ (tested_as _ _ (length c.args.self.now.outer.items) c.is_empty.ensures (omega (arith, c.args.self.now.outer.ok.0)))
     c.if-not-is_empty.false)

@@ -20,7 +20,7 @@ returns-then-not-is_blank c = start_late c.args.self.now c.args.self.now (λ l s
 
 pub returns : goal.returns
 returns c =
-    start_taken c.args.self.now _ refl refl refl refl refl c.if-self.false c.if-self-2.false
+    start_taken c.args.self.now _ refl refl refl refl refl refl c.if-self.false c.if-self-2.false
     (none_left _ _ (tested_as _ _ (length c.args.self.now.outer.items) c.is_empty.ensures (omega (arith, c.args.self.now.outer.ok.0)))
     c.if-not-is_empty.false)
     (λ l s. sym (c.is_blank.ensures l s) ∙ c.if-not-is_blank.false)

@@ -12,6 +12,6 @@ returns-then-self c =
 
 pub returns : goal.returns
 returns c =
-    token_takes c.args.self.now _ (token_of c.args.taken) c.take.result refl refl refl
+    token_takes c.args.self.now _ (token_of c.args.taken) c.take.result refl refl refl refl
     (next_test _ _ _ _ _ (tested_as _ _ (length c.args.self.now.outer.items) c.is_empty.ensures (omega (arith, c.args.self.now.outer.ok.0)))
     c.is_bar.ensures c.if-next.false) c.if-self.false c.take.ensures

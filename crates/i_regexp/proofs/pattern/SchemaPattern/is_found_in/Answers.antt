@@ -1,8 +1,11 @@
-use Rattle.i_regexp.proofs.Kept.{kept_from, kept_to}
+use Rattle.std.proofs.Common.{◌↔◌, map, IsTrue, subst}
+use Rattle.std.specs.Str.{chars}
+use Rattle.i_regexp.specs.Building.{choice}
+use Rattle.i_regexp.specs.Forms.{Matches}
+use Rattle.i_regexp.specs.PatternTexts.{case_text}
 use Rattle.i_regexp.proofs.pattern.SchemaPattern.is_found_in.Goals as goal
 
-pub matches_whole-requires : goal.matches_whole-requires
-matches_whole-requires c = kept_from c.args.self.now.root c.args.self.now.kept
-
-pub invariant_of-self : goal.invariant_of-self
-invariant_of-self c = record { kept = kept_to c.matches_whole.new.root c.matches_whole.ensures.kept }
+pub returns-clause-found : goal.returns-clause-found
+returns-clause-found c =
+    subst (λ v. IsTrue c.any_found.result ↔ Matches (choice (map case_text v)) (chars c.args.text.now)) c.as_mut_slice.ensures.value
+    c.any_found.ensures.found

@@ -1,14 +1,11 @@
-use Rattle.std.proofs.Common.{◌∙◌, refl, subst, sym}
+use Rattle.std.proofs.Common.{[], ◌∷◌, ◌++◌, ◌∙◌, refl, subst, sym}
 use Rattle.std.specs.Str.{chars}
 use Rattle.i_regexp.specs.Patterns.{IsText}
 use Rattle.i_regexp.specs.PatternReading.{Refused, IsRefused}
-use Rattle.i_regexp.proofs.Kept.{kept_to}
 use Rattle.i_regexp.proofs.PatternForms.{found_to, found_from}
+use Rattle.i_regexp.proofs.PatternTexts.{texts_to, texts_from}
 use Rattle.i_regexp.proofs.PatternReading.{one_pattern, refused_at_once}
 use Rattle.i_regexp.proofs.pattern.SchemaPattern.parse.Goals as goal
-
-pub invariant_of-result : goal.invariant_of-result
-invariant_of-result c = record { kept = kept_to c.in-Ok-read_pattern.root c.in-Ok-read_pattern.ensures.3.kept }
 
 pub returns-in-Ok-read_pattern : goal.returns-in-Ok-read_pattern
 returns-in-Ok-read_pattern c =
@@ -20,7 +17,10 @@ returns-in-Ok-read_pattern c =
       text = text;
       only = λ q t. one_pattern (chars c.args.text.now) q p t text;
       small = c.in-Ok-read_pattern.ensures.2;
-      same = λ ds. (λ m. found_to p ds (means.sound ds m), λ f. means.complete ds (found_from p ds f));
+      same = λ ds. (
+        λ m. found_to p ds (texts_to c.in-Ok-read_pattern.cases.items (p.before ++ p.last ∷ []) ds means m),
+        λ f. texts_from c.in-Ok-read_pattern.cases.items (p.before ++ p.last ∷ []) ds means (found_from p ds f),
+      );
     }
 
 pub returns-in_default : goal.returns-in_default

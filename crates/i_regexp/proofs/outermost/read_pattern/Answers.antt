@@ -3,18 +3,24 @@ use Rattle.i_regexp.specs.PatternFronts.{mark_of}
 use Rattle.i_regexp.proofs.PatternLexing.{mark_sound, mark_shorter}
 use Rattle.i_regexp.proofs.Reading.{some_left, none_left}
 use Rattle.i_regexp.proofs.PatternReading.{reading_init, reading_on, reading_end, refused, says_no_mark, says_no_take, says_no_end}
-use Rattle.i_regexp.proofs.branches.read_pattern.Goals as goal
+use Rattle.i_regexp.proofs.outermost.read_pattern.Goals as goal
 
 pub loop-rest-init : goal.loop-rest-init
-loop-rest-init c = reading_init c.args.text.now c.new-branches.result c.new-branches.ensures
+loop-rest-init c = reading_init c.args.text.now c.new-outermost.result c.new-outermost.ensures
 
 pub returns-in-Err : goal.returns-in-Err
 returns-in-Err c =
     refused _ _ _ _ c.loop-rest.invariant (omega (arith, c.saturating_sub-place.ensures))
     (says_no_mark _ _ _ c.in-Err.kind c.loop-rest.invariant (some_left _ _ c.is_empty.ensures c.loop-rest-test.true) c.in-Err.ensures)
 
-pub take_mark-requires : goal.take_mark-requires
-take_mark-requires c = (mark_sound c.loop-rest.rest.now (mark_of c.in-Ok.pair.0) c.in-Ok.pair.1.now c.in-Ok.ensures).0.fit
+pub take_mark-requires-clause-state : goal.take_mark-requires-clause-state
+take_mark-requires-clause-state c = (c.loop-rest.invariant.state, c.loop-rest.invariant.agrees)
+
+pub finish-requires : goal.finish-requires
+finish-requires c = (c.loop-rest.invariant.state, c.loop-rest.invariant.agrees)
+
+pub take_mark-requires-clause-fit : goal.take_mark-requires-clause-fit
+take_mark-requires-clause-fit c = (mark_sound c.loop-rest.rest.now (mark_of c.in-Ok.pair.0) c.in-Ok.pair.1.now c.in-Ok.ensures).0.fit
 
 pub returns-in-Err-take_mark : goal.returns-in-Err-take_mark
 returns-in-Err-take_mark c =
@@ -29,7 +35,7 @@ loop-rest-preserved c = reading_on _ _ _ _ _ _ c.loop-rest.invariant c.in-Ok.ens
 
 pub returns-in-Ok-finish : goal.returns-in-Ok-finish
 returns-in-Ok-finish c =
-    reading_end _ _ _ c.in-Ok-finish.node c.loop-rest.invariant (none_left _ _ c.is_empty.ensures c.loop-rest-test.false)
+    reading_end _ _ _ c.in-Ok-finish.cases.items c.loop-rest.invariant (none_left _ _ c.is_empty.ensures c.loop-rest-test.false)
     c.in-Ok-finish.ensures
 
 pub returns : goal.returns
