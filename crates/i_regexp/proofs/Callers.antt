@@ -7,7 +7,7 @@ use Rattle.i_regexp.specs.declared.pattern_error.SchemaPatternError.{SchemaPatte
 use Rattle.i_regexp.specs.declared.pattern_error.SchemaPatternErrorKind.TheVariants as reason
 use Rattle.i_regexp.specs.declared.regexp.IRegexp.{IRegexp}
 use Rattle.i_regexp.specs.Deciding.{matches, searches, pattern_matches, pattern_searches}
-use Rattle.i_regexp.specs.Forms.{Form, Matches, Searches}
+use Rattle.marked_regexp.specs.Forms.{Form, Matches, Searches}
 use Rattle.i_regexp.specs.Grammar.{Regexp, IsText, regexp_form}
 use Rattle.i_regexp.specs.PatternDeciding.{is_pattern, is_found}
 use Rattle.i_regexp.specs.PatternCases.{pattern_form}

@@ -3,8 +3,8 @@ use Rattle.std.proofs.Common.{◌≡◌, ◌≤◌, ◌<◌, ◌+◌, ◌↔◌,
 use Rattle.std.proofs.Common.{take, get_or, refl, sym, ap, ◌∙◌, subst, arith, true≢false}
 use Rattle.std.specs.Bool.{IsTrue}
 use Rattle.std.proofs.lemmas.List.{get_or-map, take_more, take_all}
-use Rattle.i_regexp.specs.Building.{choice, choice_from}
-use Rattle.i_regexp.specs.Forms.{Form, empty, Matches}
+use Rattle.marked_regexp.specs.Building.{choice, choice_from}
+use Rattle.marked_regexp.specs.Forms.{Form, empty, Matches}
 use Rattle.i_regexp.specs.PatternTexts.{unless_form, guarded, AllMatch}
 
 -- ---- a look-ahead

@@ -4,10 +4,11 @@ use Rattle.std.proofs.Common.{Option, Some, None, not, option_map, inl, inr, ref
 use Rattle.std.proofs.lemmas.Bool.{and_parts, and_from, or_cases, or_left, or_right, eqb-true, leb-true, le-leb}
 use Rattle.std.proofs.lemmas.Bool.Decides.{nat_tests}
 use Rattle.std.specs.Prelude.{option_and_then}
-use Rattle.i_regexp.specs.declared.class.Item.{Item}
+use Rattle.marked_regexp.specs.declared.class.Item.{Item}
 use Rattle.i_regexp.specs.Deciding.{splits, is_empty, is_one_in, are_parts, is_at_most, is_count, some_below, matches, searches}
 use Rattle.i_regexp.specs.Deciding.{with_token, tokens_in, whole_of, regexp_in, is_regexp, pattern_matches, pattern_searches}
-use Rattle.i_regexp.specs.Forms.{Form, empty, class, concat, alternation, repetition, both, no, is_in_class, Parts, AtMost, Matches, Searches}
+use Rattle.marked_regexp.specs.Forms.{Form, empty, class, concat, alternation, repetition, both, no, is_in_class, Parts, AtMost}
+use Rattle.marked_regexp.specs.Forms.{Matches, Searches}
 use Rattle.i_regexp.specs.Fronts.{token_front}
 use Rattle.i_regexp.specs.Grammar.{Token, Spelled, Regexp, regexp_form, IsText}
 use Rattle.i_regexp.specs.Levels.{State, fresh, run}

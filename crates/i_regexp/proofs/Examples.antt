@@ -1,8 +1,8 @@
 -- Instances of the definitions, computed.
 use Rattle.std.proofs.Common.{◌≡◌, ◌≤◌, true, false, [], ◌∷◌, Some, None, inr, refl, arith}
 use Rattle.std.specs.Prelude.{codes}
-use Rattle.i_regexp.specs.declared.class.Item.TheVariants.{Range, In, NotIn}
-use Rattle.i_regexp.specs.Forms.{Form, empty, class, concat, alternation, repetition, is_within, is_in_class, Matches, Searches}
+use Rattle.marked_regexp.specs.declared.class.Item.TheVariants.{Range, In, NotIn}
+use Rattle.marked_regexp.specs.Forms.{Form, empty, class, concat, alternation, repetition, is_within, is_in_class, Matches, Searches}
 use Rattle.i_regexp.specs.Fronts.{token_front}
 use Rattle.i_regexp.specs.Grammar.{characters, quantifier, one, IsText}
 use Rattle.i_regexp.specs.Grammar as is

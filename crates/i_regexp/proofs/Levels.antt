@@ -4,25 +4,25 @@ use Rattle.std.proofs.Common.{refl, sym, ap, ◌∙◌, subst, arith, length-app
 use Rattle.std.proofs.lemmas.List.{map-append}
 use Rattle.i_regexp.specs.declared.error.IRegexpErrorKind.{IRegexpErrorKind}
 use Rattle.i_regexp.specs.declared.error.IRegexpErrorKind.TheVariants.{Invalid, TooDeep, TooLarge, OutOfMemory}
-use Rattle.i_regexp.specs.declared.marked.Node.{Node}
+use Rattle.marked_regexp.specs.declared.expression.Expression.{Expression}
 use Rattle.i_regexp.specs.declared.reader.Level.{Level as CodeLevel}
-use Rattle.i_regexp.specs.Forms.{Form, concat, alternation, repetition}
-use Rattle.i_regexp.specs.Building.{Means, AllMean, sequence, choice, choice_from}
+use Rattle.marked_regexp.specs.Forms.{Form, concat, alternation, repetition}
+use Rattle.marked_regexp.specs.Building.{Means, AllMean, sequence, choice, choice_from}
 use Rattle.i_regexp.specs.Grammar.{Token, closed, quantifier, Branch, Piece, once, times, Atom, group, regexp_form, branch_form, piece_form}
 use Rattle.i_regexp.specs.Grammar.{atom_form}
 use Rattle.i_regexp.specs.Levels.{Level, level, State, settled, settle, with_atom, branch_of, regexp_from, barred, regexp_of, quantified}
 use Rattle.i_regexp.specs.Levels.{in_state, close, advance, MeansEnd, StandsAt, IsSized, Outer, Agrees, Quantifies, Takes, level_size}
 use Rattle.i_regexp.specs.Levels.{outer_size, state_size}
 use Rattle.i_regexp.specs.Limits.{size_limit, repeated, regexp_size}
-use Rattle.i_regexp.proofs.Building.{all_mean_push}
+use Rattle.marked_regexp.proofs.Callers.{all_mean_push}
 use Rattle.i_regexp.proofs.Sizes.{regexp_of_size, put_sized, quantified_sized, quantified_more}
 
-pub all_mean_map_push : {A : Type 0} (form : A → Form) (ns ms : List Node) (n : Node) (xs : List A) (x : A) → ms ≡ ns ++ n ∷ []
+pub all_mean_map_push : {A : Type 0} (form : A → Form) (ns ms : List Expression) (n : Expression) (xs : List A) (x : A) → ms ≡ ns ++ n ∷ []
     → AllMean ns (map form xs) → Means n (form x) → AllMean ms (map form (xs ++ x ∷ []))
 all_mean_map_push form ns ms n xs x e a m =
     subst (AllMean ms) (sym (map-append form xs (x ∷ []))) (all_mean_push ns ms n (map form xs) (form x) e a m)
 
-pub ended_none : (o : Option Node) (end : Option Atom) → o ≡ None → MeansEnd o end → end ≡ None
+pub ended_none : (o : Option Expression) (end : Option Atom) → o ≡ None → MeansEnd o end → end ≡ None
 ended_none o None e m = refl
 ended_none o (Some a) e m = absurd (subst (λ x. MeansEnd x (Some a)) e m)
 
@@ -34,7 +34,7 @@ stands_same f g (level bs ps end) b p o s = record {
   ended = subst (λ x. MeansEnd x end) (sym o) s.ended;
 }
 
-pub settle_stands : (f g : CodeLevel) (n : Node) (l : Level) → f.last ≡ Some n → g.branches ≡ f.branches
+pub settle_stands : (f g : CodeLevel) (n : Expression) (l : Level) → f.last ≡ Some n → g.branches ≡ f.branches
     → g.pieces.items ≡ f.pieces.items ++ n ∷ [] → g.last ≡ None → StandsAt f l → StandsAt g (settle l)
 settle_stands f g n (level bs ps None) e b p o s = absurd (subst (λ x. MeansEnd x None) e s.ended)
 settle_stands f g n (level bs ps (Some a)) e b p o s = record {
@@ -48,7 +48,7 @@ sequence_branch [] = refl
 sequence_branch (p ∷ ps) = ap (concat (piece_form p)) (sequence_branch ps)
 
 -- the level f after the last atom was settled, and g after the branch was ended, which is the node n
-pub barred_stands : (f g : CodeLevel) (n : Node) (l : Level) → StandsAt f (settle l)
+pub barred_stands : (f g : CodeLevel) (n : Expression) (l : Level) → StandsAt f (settle l)
     → ((fs : List Form) → AllMean f.pieces.items fs → Means n (sequence fs)) → g.branches.items ≡ f.branches.items ++ n ∷ []
     → g.pieces.items ≡ [] → g.last ≡ f.last → StandsAt g (barred l)
 barred_stands f g n (level bs ps end) s m b p o = record {
@@ -67,12 +67,12 @@ pub choice_regexp : (bs : List Branch) (b : Branch) → choice (map branch_form 
 choice_regexp [] b = refl
 choice_regexp (c ∷ bs) b = choice_more (branch_form c) bs b ∙ ap (alternation (branch_form c)) (choice_regexp bs b)
 
-pub finished : (f : CodeLevel) (n : Node) (l : Level) → StandsAt f (barred l)
+pub finished : (f : CodeLevel) (n : Expression) (l : Level) → StandsAt f (barred l)
     → ((fs : List Form) → AllMean f.branches.items fs → Means n (choice fs)) → Means n (regexp_form (regexp_of l))
 finished f n (level bs ps end) s m =
     subst (Means n) (choice_regexp bs (branch_of (settled ps end))) (m (map branch_form (bs ++ branch_of (settled ps end) ∷ [])) s.done)
 
-pub put_stands : (f g : CodeLevel) (n : Node) (l : Level) (a : Atom) → StandsAt f (settle l) → Means n (atom_form a)
+pub put_stands : (f g : CodeLevel) (n : Expression) (l : Level) (a : Atom) → StandsAt f (settle l) → Means n (atom_form a)
     → g.branches ≡ f.branches → g.pieces ≡ f.pieces → g.last ≡ Some n → StandsAt g (with_atom l a)
 put_stands f g n (level bs ps end) a s m b p o = record {
   done = subst (λ v. AllMean v.items (map branch_form bs)) (sym b) s.done;
@@ -80,7 +80,7 @@ put_stands f g n (level bs ps end) a s m b p o = record {
   ended = subst (λ x. MeansEnd x (Some a)) (sym o) m;
 }
 
-pub quantified_stands : (f g : CodeLevel) (n m : Node) (least : ℕ) (most : Option ℕ) (l : Level) → f.last ≡ Some n
+pub quantified_stands : (f g : CodeLevel) (n m : Expression) (least : ℕ) (most : Option ℕ) (l : Level) → f.last ≡ Some n
     → ((h : Form) → Means n h → Means m (repetition h least most)) → g.branches ≡ f.branches → g.pieces.items ≡ f.pieces.items ++ m ∷ []
     → g.last ≡ None → g.size ≡ f.size + repeated least most * f.last_size → g.size ≤ size_limit → StandsAt f l
     → (l' : Level) × (quantified l least most ≡ Some l') × StandsAt g l' × ((ls : List Level) → IsSized f (l, ls) → IsSized g (l', ls))
@@ -97,7 +97,7 @@ quantified_stands f g n m least most (level bs ps (Some a)) e r b p o z k s = (
   λ ls i. quantified_sized f g bs ps a least most ls i z k,
 )
 
-pub quantified_large : (f : CodeLevel) (n : Node) (least : ℕ) (most : Option ℕ) (l : Level) → f.last ≡ Some n
+pub quantified_large : (f : CodeLevel) (n : Expression) (least : ℕ) (most : Option ℕ) (l : Level) → f.last ≡ Some n
     → size_limit < f.size + repeated least most * f.last_size → StandsAt f l
     → (l' : Level) × (quantified l least most ≡ Some l') × ((ls : List Level) → IsSized f (l, ls) → size_limit < state_size (l', ls))
 quantified_large f n least most (level bs ps None) e z s = absurd (subst (λ x. MeansEnd x None) e s.ended)
@@ -172,7 +172,7 @@ quantifier_takes here here' outer least most t (Err TooLarge) e q = λ s a.
     ((k.0, s.1), ap (advance s) e ∙ ap (in_state s.1) k.1, k.2 s.1 a.1)
 quantifier_takes here here' outer least most t (Err OutOfMemory) e q = tt
 
-pub closed_takes : (here here' around : CodeLevel) (outer outer' : List CodeLevel) (n : Node) (t : Token) → t ≡ closed
+pub closed_takes : (here here' around : CodeLevel) (outer outer' : List CodeLevel) (n : Expression) (t : Token) → t ≡ closed
     → outer ≡ outer' ++ around ∷ [] → ((l : Level) → StandsAt here l → Means n (regexp_form (regexp_of l)))
     → ((l : Level) (a : Atom) → StandsAt around l → Means n (atom_form a) → StandsAt here' (with_atom l a)) → here'.size ≡ here.size
     → here'.last_size ≡ here.size - around.size → (s : State) → Agrees here outer s

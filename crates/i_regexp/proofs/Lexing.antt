@@ -9,8 +9,8 @@ use Rattle.std.proofs.lemmas.Bool.{not-true}
 use Rattle.std.specs.Prelude.{option_and_then}
 use Rattle.general_category.specs.Categories.{from_to, named}
 use Rattle.general_category.specs.declared.Category.{Category}
-use Rattle.i_regexp.specs.declared.class.Item.{Item}
-use Rattle.i_regexp.specs.declared.class.Item.TheVariants.{Range, In, NotIn}
+use Rattle.marked_regexp.specs.declared.class.Item.{Item}
+use Rattle.marked_regexp.specs.declared.class.Item.TheVariants.{Range, In, NotIn}
 use Rattle.i_regexp.specs.Grammar as is
 use Rattle.i_regexp.specs.Grammar.{Token, characters, opened, closed, bar, quantifier, one, any, is_one_of, is_normal, is_plain, is_digit}
 use Rattle.i_regexp.specs.Grammar.{NameText, CategoryText, are_digits, number_on, escape_of, MemberText, ItemText, ItemsText, FirstText}

@@ -1,8 +1,7 @@
 -- What the code's outermost branches stand for, as marks are taken.
-use Rattle.std.proofs.Common.{◌≡◌, ◌≤◌, ◌<◌, ◌==◌, ◌&&◌, Bool, true, false, not, cond, List, [], ◌∷◌, ◌++◌, length, map}
+use Rattle.std.proofs.Common.{◌≡◌, ◌==◌, ◌&&◌, Bool, true, false, not, List, [], ◌∷◌, ◌++◌, length}
 use Rattle.std.proofs.Common.{Option, Some, None, Result, Ok, Err, is_some, option_map, refl, sym, ap, ◌∙◌, subst, arith, true≢false}
 use Rattle.std.proofs.lemmas.Bool.{cond-true, cond-false, eqb-true}
-use Rattle.i_regexp.specs.declared.branches.Branches.{Branches}
 use Rattle.i_regexp.specs.declared.cases.Look.{Look as LookTree}
 use Rattle.i_regexp.specs.declared.cases.Case.{Case as CaseTree}
 use Rattle.i_regexp.specs.declared.error.IRegexpErrorKind.{IRegexpErrorKind}
@@ -10,18 +9,15 @@ use Rattle.i_regexp.specs.declared.error.IRegexpErrorKind.TheVariants.{Invalid, 
 use Rattle.i_regexp.specs.declared.mark.Mark.{Mark as CodeMark}
 use Rattle.i_regexp.specs.declared.mark.Mark.TheVariants as code
 use Rattle.i_regexp.specs.declared.outermost.Outermost.{Outermost}
-use Rattle.i_regexp.specs.declared.marked.Node.{Node}
-use Rattle.i_regexp.specs.Building.{Means}
-use Rattle.i_regexp.specs.Marked.{is_kept}
-use Rattle.i_regexp.specs.Patterns.{Mark, look, start, end, token, Part, Look, Case, has_looks, AreSmall, AreSmallCases, AreSmallLooks}
+use Rattle.marked_regexp.specs.Building.{Means}
+use Rattle.i_regexp.specs.Patterns.{Mark, look, start, end, token, Look, Case, has_looks, AreSmall, AreSmallCases}
 use Rattle.i_regexp.specs.PatternFronts.{mark_of}
 use Rattle.i_regexp.specs.PatternMachine.{PartsState, initial, no_levels, is_before, part_in, advance_mark, form_at, disjunction_form}
 use Rattle.i_regexp.specs.PatternMachine.{disjunction_in, AgreesAt, Finishes, TakesMark}
 use Rattle.i_regexp.specs.PatternCases.{CasesState, no_cases, is_closed, case_in, opened_look, look_in, closed_look, next_case, with_here}
-use Rattle.i_regexp.specs.PatternCases.{is_parting, is_closing, is_last, ended, may_look, advance_other, advance_case, is_other}
-use Rattle.i_regexp.specs.PatternCases.{LookMeans, LooksMean, CaseMeans, CasesMean, IsProper, StandsFor, TakesOther, TakesCase}
+use Rattle.i_regexp.specs.PatternCases.{is_last, ended, may_look, advance_other, advance_case, is_other}
+use Rattle.i_regexp.specs.PatternCases.{LookMeans, LooksMean, CaseMeans, CasesMean, StandsFor, TakesOther, TakesCase}
 use Rattle.i_regexp.specs.PatternCases.{FinishesCases, Stands, StandsOut}
-use Rattle.i_regexp.proofs.Kept.{kept_to}
 use Rattle.i_regexp.proofs.Lexing.{none_some}
 use Rattle.i_regexp.proofs.PatternCases.{cases_small, looks_small, still_alone, step_fixed}
 
@@ -89,7 +85,8 @@ before_as old s first b a f h =
 pub look_late : (old new : Outermost) (n first : Bool) → first ≡ (length old.looks.items == 0)
     → ((h : PartsState) → AgreesAt old.here h → false ≡ is_before h first) → TakesCase old (look n) (Err Invalid) new
 look_late old new n first f h s a =
-    cond-false (may_look s) _ _ (ap (λ b. not (is_some s.inside) && b) (before_as old s first false a f h) ∙ and_false (not (is_some s.inside)))
+    cond-false (may_look s) _ _ (ap (λ b. not (is_some s.inside) && b) (before_as old s first false a f h)
+    ∙ and_false (not (is_some s.inside)))
 
 pub look_opened : (old new : Outermost) (n first : Bool) → is_some old.inside ≡ false → first ≡ (length old.looks.items == 0)
     → ((h : PartsState) → AgreesAt old.here h → true ≡ is_before h first) → new.cases ≡ old.cases → new.looks ≡ old.looks
@@ -117,7 +114,8 @@ look_closed old new n k done e c l i here s a some none =
     let fixed : s.here.fixed ≡ true = a.proper.within (ap is_some some) in
     record {
       cases = subst (λ v. CasesMean v.items s.cases) (sym c) a.cases;
-      looks = subst (λ v. LooksMean v (s.looks ++ look_in s n ∷ [])) (sym l) (looks_mean_push old.looks.items s.looks k (look_in s n) a.looks
+      looks = subst (λ v. LooksMean v (s.looks ++ look_in s n ∷ [])) (sym l) (looks_mean_push old.looks.items s.looks k (look_in s n)
+          a.looks
           (record { negated = e; root = subst (λ b. Means k.root (disjunction_form b (disjunction_in s.here))) fixed f.0 }));
       inside = i;
       here = here;
@@ -282,10 +280,7 @@ closed_all old ns e h mid ended f s a =
     none_is None e = refl
     none_is (Some b) e = absurd (true≢false e)
 
--- ---- the trees are right
-
-pub root_kept : (b : Outermost) (n : Node) → Finishes b.here n → StandsOut b → is_kept n ≡ true
-root_kept b n done o = kept_to n (done o.0.here o.1.here o.2).0.kept
+-- ---- outside of groups
 
 pub out_of : (b : Outermost) (a : Bool) → Stands b → ((h : PartsState) → AgreesAt b.here h → a ≡ no_levels h.state.1) → a ≡ true
     → StandsOut b

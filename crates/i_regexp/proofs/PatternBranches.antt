@@ -5,9 +5,9 @@ use Rattle.std.proofs.lemmas.Bool.{cond-true, cond-false}
 use Rattle.i_regexp.specs.declared.branches.Branches.{Branches}
 use Rattle.i_regexp.specs.declared.error.IRegexpErrorKind.{IRegexpErrorKind}
 use Rattle.i_regexp.specs.declared.error.IRegexpErrorKind.TheVariants.{Invalid, TooDeep, TooLarge, OutOfMemory}
-use Rattle.i_regexp.specs.declared.marked.Node.{Node}
-use Rattle.i_regexp.specs.Building.{Means, AllMean, choice}
-use Rattle.i_regexp.specs.Forms.{Form, concat}
+use Rattle.marked_regexp.specs.declared.expression.Expression.{Expression}
+use Rattle.marked_regexp.specs.Building.{Means, AllMean, choice}
+use Rattle.marked_regexp.specs.Forms.{Form, concat}
 use Rattle.i_regexp.specs.Grammar.{Token, regexp_form, branch_form}
 use Rattle.i_regexp.specs.Levels.{Level, level, fresh, regexp_of, advance, StandsAt, IsSized, Outer, Takes}
 use Rattle.i_regexp.specs.Patterns.{start, end, token}
@@ -54,7 +54,7 @@ at_first b fixed f p s e h z o = record {
   outermost = λ h. false_true h;
 }
 
-pub part_ended : (old : Branches) (ps : List Node) (n before behind inner part : Node)
+pub part_ended : (old : Branches) (ps : List Expression) (n before behind inner part : Expression)
     → ((l : Level) → StandsAt old.here l → Means n (regexp_form (regexp_of l))) → Means behind (open_form old.ends)
     → ((f g : Form) → Means n f → Means behind g → Means inner (concat f g)) → Means before (open_form (old.fixed || old.starts))
     → ((f g : Form) → Means before f → Means inner g → Means part (concat f g)) → ps ≡ old.parts.items ++ part ∷ []
@@ -68,15 +68,18 @@ part_ended old ps n before behind inner part whole end_means first start_means s
     subst (Means n) (bare_form s.state.0 bare) (whole s.state.0 a.agrees.0) in
     let behind_means : Means behind (open_form s.ends) = subst (λ b. Means behind (open_form b)) a.ends end_means in
     let before_means : Means before (open_form (s.fixed || s.starts)) =
-    subst (λ b. Means before (open_form (b || s.starts))) a.fixed (subst (λ b. Means before (open_form (old.fixed || b))) a.starts start_means) in
+    subst (λ b. Means before (open_form (b || s.starts))) a.fixed (subst (λ b. Means before (open_form (old.fixed || b))) a.starts
+    start_means) in
     let means : Means part (form_at s.fixed (part_in s)) =
-    second (open_form (s.fixed || s.starts)) _ before_means (first (branch_form (branch_in s.state.0)) (open_form s.ends) branch behind_means) in (
+    second (open_form (s.fixed || s.starts)) _ before_means (first (branch_form (branch_in s.state.0)) (open_form s.ends) branch
+    behind_means) in (
       all_mean_map_push (form_at s.fixed) old.parts.items ps part s.parts (part_in s) e a.parts means,
       small_append s.parts (part_in s) a.small (omega arith),
     )
 
-pub bar_taken : (old : Branches) (ps : List Node) (new : Branches) → EndsPart old ps → new.fixed ≡ old.fixed → new.parts.items ≡ ps
-    → new.starts ≡ false → new.ends ≡ false → StandsAt new.here fresh → new.here.size ≡ 0 → new.outer.items ≡ [] → (s : PartsState) → AgreesAt old s
+pub bar_taken : (old : Branches) (ps : List Expression) (new : Branches) → EndsPart old ps → new.fixed ≡ old.fixed → new.parts.items ≡ ps
+    → new.starts ≡ false → new.ends ≡ false → StandsAt new.here fresh → new.here.size ≡ 0 → new.outer.items ≡ [] → (s : PartsState)
+    → AgreesAt old s
     → no_levels s.state.1 ≡ true → AgreesAt new (next_part s)
 bar_taken old ps new ended x p st en h z o s a n =
     let k = ended s a n in
@@ -122,7 +125,8 @@ start_within old new l s a =
 pub start_late : (old new : Branches) → ((l : Level) → StandsAt old.here l → is_blank l ≡ false) → TakesMark old start (Err Invalid) new
 start_late old new h s a = read_before s (ap (λ b. b && no_levels s.state.1) (h s.state.0 a.agrees.0))
 
-pub start_taken : (old new : Branches) → new.fixed ≡ old.fixed → new.parts ≡ old.parts → new.starts ≡ true → new.ends ≡ old.ends → new.here ≡ old.here
+pub start_taken : (old new : Branches) → new.fixed ≡ old.fixed → new.parts ≡ old.parts → new.starts ≡ true → new.ends ≡ old.ends
+    → new.here ≡ old.here
     → new.outer ≡ old.outer → old.ends ≡ false → old.starts ≡ false → old.outer.items ≡ []
     → ((l : Level) → StandsAt old.here l → is_blank l ≡ true) → TakesMark old start (Ok tt) new
 start_taken old new x p st en h o e f n blank s a =
@@ -157,7 +161,8 @@ pub end_within : (old new : Branches) → 0 < length old.outer.items → TakesMa
 end_within old new l s a =
     cond-true (s.ends || not (no_levels s.state.1)) _ _ (ap (λ b. s.ends || not b) (not_outermost old s a l) ∙ or_true s.ends)
 
-pub end_taken : (old new : Branches) → new.fixed ≡ old.fixed → new.parts ≡ old.parts → new.starts ≡ old.starts → new.ends ≡ true → new.here ≡ old.here
+pub end_taken : (old new : Branches) → new.fixed ≡ old.fixed → new.parts ≡ old.parts → new.starts ≡ old.starts → new.ends ≡ true
+    → new.here ≡ old.here
     → new.outer ≡ old.outer → old.ends ≡ false → old.outer.items ≡ [] → TakesMark old end (Ok tt) new
 end_taken old new x p st en h o e n s a =
     let none = outermost old s a n in (
@@ -248,7 +253,7 @@ next_test a b x y v e f h = sym (ap (λ c. c && y) e) ∙ (sym (ap (λ c. a && c
 
 -- ---- the end
 
-pub finished : (old : Branches) (qs : List Node) (n : Node) (ps : List Node) → EndsPart old qs → ps ≡ qs
+pub finished : (old : Branches) (qs : List Expression) (n : Expression) (ps : List Expression) → EndsPart old qs → ps ≡ qs
     → ((fs : List Form) → AllMean ps fs → Means n (choice fs)) → Finishes old n
 finished old qs n ps ended e means s a none =
     let k = ended s a none in

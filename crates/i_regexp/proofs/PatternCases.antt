@@ -1,18 +1,19 @@
 -- The machine takes the marks of a pattern, and no others, to the pattern.
-use Rattle.std.proofs.Common.{◌≡◌, inl, inr, ℕ, ◌+◌, ◌≤◌, Bool, true, false, not, ◌&&◌, ◌||◌, cond, List, [], ◌∷◌, ◌++◌, map, length}
+use Rattle.std.proofs.Common.{◌≡◌, inl, inr, ◌≤◌, Bool, true, false, not, ◌&&◌, ◌||◌, cond, List, [], ◌∷◌, ◌++◌, map}
 use Rattle.std.proofs.Common.{Option, Some, None, option_map, is_some, refl, sym, ap, ◌∙◌, subst, arith, append_assoc, append-nil}
 use Rattle.std.proofs.Common.{true≢false}
 use Rattle.std.proofs.lemmas.Bool.{cond-true, cond-false, and_parts}
 use Rattle.std.specs.Prelude.{option_and_then}
 use Rattle.i_regexp.specs.Grammar.{Token, characters, opened, closed, bar, quantifier, branch_tokens}
-use Rattle.i_regexp.specs.Levels.{Level, level, State, fresh, advance, state_size}
-use Rattle.i_regexp.specs.Limits.{size_limit, begins_group, ends_group, branch_size}
-use Rattle.i_regexp.specs.Marked.{same_bool}
-use Rattle.i_regexp.specs.Patterns.{Mark, start, end, look, token, Part, Disjunction, Look, Case, Pattern, mark_if, part_marks, barred_marks}
+use Rattle.i_regexp.specs.Levels.{Level, State, fresh, advance, state_size}
+use Rattle.i_regexp.specs.Limits.{size_limit, branch_size}
+use Rattle.i_regexp.specs.PatternMachine.{same_bool}
+use Rattle.i_regexp.specs.Patterns.{Mark, start, end, look, token, Part, Disjunction, Look, Case, Pattern, mark_if, part_marks}
+use Rattle.i_regexp.specs.Patterns.{barred_marks}
 use Rattle.i_regexp.specs.Patterns.{disjunction_marks, looks_marks, guard_marks, case_marks, cases_marks, pattern_marks, has_looks}
 use Rattle.i_regexp.specs.Patterns.{AreSmall, AreSmallLooks, AreSmallCases, IsSmall}
 use Rattle.i_regexp.specs.PatternMachine.{PartsState, initial, no_levels, is_blank, is_unread, is_before, is_bar, branch_in, part_in}
-use Rattle.i_regexp.specs.PatternMachine.{disjunction_in, next_part, with_state, take_token, advance_mark, run_marks, is_bare}
+use Rattle.i_regexp.specs.PatternMachine.{disjunction_in, next_part, with_state, advance_mark, run_marks, is_bare}
 use Rattle.i_regexp.specs.PatternCases.{CasesState, no_cases, is_closed, case_in, pattern_in, opened_look, look_in, closed_look, next_case}
 use Rattle.i_regexp.specs.PatternCases.{with_here, is_parting, is_close, is_closing, is_last, ended, may_look, advance_other}
 use Rattle.i_regexp.specs.PatternCases.{advance_case, run_cases}
@@ -235,7 +236,8 @@ shape_next : (s : CasesState) (ms : List Mark) → Shape s ms → no_levels s.he
     → Shape (next_case s) (ms ++ token bar ∷ [])
 shape_next s ms h n none =
     let read : disjunction_marks (disjunction_in s.here) ≡ h.inner = disjunction_sound h.fixed h.inner s.here h.ran n in
-    let inner : h.inner ≡ part_marks (part_in s.here) = sym read ∙ ap (λ qs. barred_marks qs ++ part_marks (part_in s.here)) (h.alone none) in
+    let inner : h.inner ≡ part_marks (part_in s.here) = sym read
+    ∙ ap (λ qs. barred_marks qs ++ part_marks (part_in s.here)) (h.alone none) in
     record {
       inner = [];
       fixed = false;
@@ -275,7 +277,8 @@ shape_closed s ms n h l some =
       marks = ap (λ us. us ++ token closed ∷ []) (h.marks
           ∙ (ap (λ o. cases_marks s.cases ++ (opening_marks o s.looks ++ h.inner)) some
           ∙ ap (λ us. cases_marks s.cases ++ ((start ∷ (looks_marks s.looks ++ look n ∷ [])) ++ us)) inner))
-          ∙ (regroup_closed (cases_marks s.cases) (start ∷ looks_marks s.looks) (disjunction_marks (disjunction_in s.here)) (look n) (token closed)
+          ∙ (regroup_closed (cases_marks s.cases) (start ∷ looks_marks s.looks) (disjunction_marks (disjunction_in s.here)) (look n)
+          (token closed)
           ∙ ap (λ us. cases_marks s.cases ++ (us ++ [])) (sym (guard_push s.looks (look_in s n))));
       alone = λ f. refl;
     }
@@ -334,7 +337,8 @@ pattern_sound ms s e c =
     let both = and_parts (not (is_some s.inside)) (no_levels s.here.state.1) c in
     let none = none_of s.inside both.0 in
     let read : disjunction_marks (disjunction_in s.here) ≡ h.inner = disjunction_sound h.fixed h.inner s.here h.ran both.1 in
-    let inner : h.inner ≡ part_marks (part_in s.here) = sym read ∙ ap (λ qs. barred_marks qs ++ part_marks (part_in s.here)) (h.alone none) in
+    let inner : h.inner ≡ part_marks (part_in s.here) = sym read
+    ∙ ap (λ qs. barred_marks qs ++ part_marks (part_in s.here)) (h.alone none) in
     sym (h.marks
     ∙ (ap (λ o. cases_marks s.cases ++ (opening_marks o s.looks ++ h.inner)) none
     ∙ ap (λ us. cases_marks s.cases ++ (guard_marks s.looks ++ us)) inner))
@@ -428,7 +432,8 @@ runs_looks : (ks done : List Look) (cs : List Case) (rest : List Mark) → has_l
     → run_cases (behind cs done true) (looks_marks ks ++ rest) ≡ run_cases (behind cs (done ++ ks) true) rest
 runs_looks [] done cs rest h = ap (λ js. run_cases (behind cs js true) rest) (sym (append-nil done))
 runs_looks (k ∷ ks) done cs rest h =
-    ap (λ ms. run_cases (behind cs done true) (look k.negated ∷ ms)) (append_assoc (disjunction_marks k.content) (token closed ∷ looks_marks ks) rest)
+    ap (λ ms. run_cases (behind cs done true) (look k.negated ∷ ms)) (append_assoc (disjunction_marks k.content) (token closed ∷
+    looks_marks ks) rest)
     ∙ (runs_look (behind cs done true) k (looks_marks ks ++ rest) (may_look_behind cs done h)
     ∙ (runs_looks ks (done ++ k ∷ []) cs rest (looks_more done k)
     ∙ ap (λ js. run_cases (behind cs js true) rest) (append_assoc done (k ∷ []) ks)))

@@ -4,7 +4,7 @@ use Rattle.std.proofs.Common.{option_map, refl, sym}
 use Rattle.std.proofs.Common.{subst, ap, ◌∙◌, arith, append_assoc, append-nil}
 use Rattle.std.proofs.lemmas.Bool.{cond-true, cond-false}
 use Rattle.std.specs.Prelude.{option_and_then}
-use Rattle.i_regexp.specs.declared.class.Item.{Item}
+use Rattle.marked_regexp.specs.declared.class.Item.{Item}
 use Rattle.i_regexp.specs.declared.letter.Letter.{Letter}
 use Rattle.i_regexp.specs.Patterns.{letter_items, ends_class, is_dash, range_of, class_items}
 use Rattle.std.proofs.Common.{Result, Ok, Err, Bor}

@@ -1,8 +1,8 @@
 -- What a pattern's trees match is where the pattern is found.
 use Rattle.std.proofs.Common.{◌≡◌, inl, inr, ℕ, Bool, true, false, List, [], ◌∷◌, ◌++◌, length, map, refl, sym, ap, ◌∙◌, arith}
 use Rattle.std.proofs.Common.{true≢false}
-use Rattle.i_regexp.specs.Building.{choice_from}
-use Rattle.i_regexp.specs.Forms.{Form, class, Matches, Parts}
+use Rattle.marked_regexp.specs.Building.{choice_from}
+use Rattle.marked_regexp.specs.Forms.{Form, class, Matches, Parts}
 use Rattle.i_regexp.specs.Patterns.{Part, Disjunction, Look, Case, Pattern, Finds, FindsOne, fixed_part, Unless, Holds, AllHold}
 use Rattle.i_regexp.specs.Patterns.{has_looks, FindsCase, FindsOneCase, IsFound}
 use Rattle.i_regexp.specs.PatternCases.{look_form, case_form, pattern_form}

@@ -5,7 +5,7 @@ use Rattle.std.proofs.Common.{Option, Some, None, option_map, refl, sym, ap, ◌
 use Rattle.std.proofs.Common.{length-append}
 use Rattle.std.proofs.lemmas.Bool.{cond-true, cond-false, eqb-true, and_parts, not-true, leb-true, le-leb}
 use Rattle.std.specs.Prelude.{option_and_then}
-use Rattle.i_regexp.specs.declared.class.Item.{Item}
+use Rattle.marked_regexp.specs.declared.class.Item.{Item}
 use Rattle.i_regexp.specs.declared.letter.Letter.{Letter}
 use Rattle.i_regexp.specs.declared.letter.Letter.TheVariants.{Literal, Named}
 use Rattle.i_regexp.specs.declared.letter.Set.{Set}

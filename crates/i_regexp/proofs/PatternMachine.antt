@@ -342,7 +342,8 @@ runs_bar : (fixed : Bool) (qs : List Part) (q : Part) (l : Level) → branch_in 
     → advance_mark (part_end fixed qs q l) (token bar) ≡ Some (part_begin fixed (qs ++ q ∷ []))
 runs_bar fixed qs q l e =
     cond-false (q.ends && false) _ _ (and_false q.ends)
-    ∙ ap (λ b. let o : Option PartsState = Some (part_begin fixed (qs ++ record { starts = q.starts; branch = b; ends = q.ends } ∷ [])) in o) e
+    ∙ ap (λ b. let o : Option PartsState = Some (part_begin fixed (qs ++ record { starts = q.starts; branch = b; ends = q.ends } ∷ []))
+    in o) e
 
 runs_parts : (fixed : Bool) (qs done : List Part) (rest : List Mark)
     → run_marks (part_begin fixed done) (barred_marks qs ++ rest) ≡ run_marks (part_begin fixed (done ++ qs)) rest

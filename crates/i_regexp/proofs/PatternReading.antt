@@ -13,7 +13,7 @@ use Rattle.i_regexp.specs.Fronts.{Fronts}
 use Rattle.i_regexp.specs.Grammar.{opened}
 use Rattle.i_regexp.specs.Levels.{advance, state_size}
 use Rattle.i_regexp.specs.Limits.{depth_limit, size_limit, LargeCount, begins_group, ends_group}
-use Rattle.i_regexp.specs.Marked.{same_bool}
+use Rattle.i_regexp.specs.PatternMachine.{same_bool}
 use Rattle.i_regexp.specs.Patterns as is
 use Rattle.i_regexp.specs.Patterns.{Mark, start, end, look, token, Spells, fits, follows, Spelled, Pattern, pattern_marks, IsText, IsSmall}
 use Rattle.i_regexp.specs.Patterns.{has_looks, AreSmallCases}

@@ -1,12 +1,12 @@
 -- The trees of a pattern that was parsed match what the pattern's regular expression matches.
-use Rattle.std.proofs.Common.{◌≡◌, inl, inr, ℕ, Bool, true, false, List, [], ◌∷◌, map, sym, subst, ap}
+use Rattle.std.proofs.Common.{◌≡◌, inl, inr, ℕ, Bool, true, false, List, [], ◌∷◌, map, sym, subst}
 use Rattle.i_regexp.specs.declared.cases.Look.{Look as LookTree}
 use Rattle.i_regexp.specs.declared.cases.Case.{Case as CaseTree}
-use Rattle.i_regexp.specs.Building.{Same, Means, choice, choice_from}
-use Rattle.i_regexp.specs.Forms.{Form, Matches}
-use Rattle.i_regexp.specs.Marked.{form_of}
+use Rattle.marked_regexp.specs.Building.{choice, choice_from}
+use Rattle.marked_regexp.specs.Forms.{Form, Matches}
+use Rattle.marked_regexp.specs.Building.{form_of}
 use Rattle.i_regexp.specs.Patterns.{Look, Case, has_looks}
-use Rattle.i_regexp.specs.PatternCases.{look_form, case_form, LookMeans, LooksMean, CaseMeans, CasesMean}
+use Rattle.i_regexp.specs.PatternCases.{look_form, case_form, LooksMean, CaseMeans, CasesMean}
 use Rattle.i_regexp.specs.PatternMachine.{form_at, disjunction_form}
 use Rattle.i_regexp.specs.PatternTexts.{unless_form, guarded, look_text, case_text}
 

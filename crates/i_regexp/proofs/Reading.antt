@@ -4,9 +4,9 @@ use Rattle.std.proofs.lemmas.Bool.Decides.{nat_tests}
 use Rattle.std.proofs.Common.{Bool, true, false, ◌==◌, ◌≡◌, ℕ, ◌<◌, ◌≤◌, List, [], ◌∷◌, ◌++◌, length, Option, Some, None, refl, sym, ap}
 use Rattle.std.proofs.Common.{◌∙◌, subst, arith, append-nil, length-append}
 use Rattle.std.specs.Prelude.{option_and_then}
-use Rattle.i_regexp.specs.declared.marked.Node.{Node}
+use Rattle.marked_regexp.specs.declared.expression.Expression.{Expression}
 use Rattle.i_regexp.specs.declared.reader.Level.{Level as CodeLevel}
-use Rattle.i_regexp.specs.Building.{Means}
+use Rattle.marked_regexp.specs.Building.{Means}
 use Rattle.i_regexp.specs.Fronts.{token_front}
 use Rattle.i_regexp.specs.Grammar as is
 use Rattle.i_regexp.specs.Grammar.{Token, Spelled, Regexp, regexp_tokens, regexp_form, IsText}
@@ -114,7 +114,8 @@ reading_on text rest after here here' outer outer' t r e takes =
       agrees = k.2;
     }
 
-pub reading_end : (text rest : List ℕ) (here : CodeLevel) (outer : List CodeLevel) (n : Node) → Reading text rest here outer → rest ≡ []
+pub reading_end : (text rest : List ℕ) (here : CodeLevel) (outer : List CodeLevel) (n : Expression) → Reading text rest here outer
+    → rest ≡ []
     → outer ≡ [] → ((l : Level) → StandsAt here l → Means n (regexp_form (regexp_of l)))
     → (r : Regexp) × IsText text r × Means n (regexp_form r) × (regexp_size r ≤ size_limit)
 reading_end text rest here outer n r e o whole =

@@ -7,8 +7,8 @@ use Rattle.i_regexp.specs.declared.error.IRegexpErrorKind.{IRegexpErrorKind}
 use Rattle.i_regexp.specs.declared.error.IRegexpErrorKind.TheVariants.{Invalid, TooDeep, TooLarge, OutOfMemory}
 use Rattle.general_category.specs.Categories.{named}
 use Rattle.general_category.specs.declared.Category.{Category}
-use Rattle.i_regexp.specs.declared.class.Item.{Item}
-use Rattle.i_regexp.specs.declared.class.Item.TheVariants.{Range, In, NotIn}
+use Rattle.marked_regexp.specs.declared.class.Item.{Item}
+use Rattle.marked_regexp.specs.declared.class.Item.TheVariants.{Range, In, NotIn}
 use Rattle.i_regexp.specs.Grammar.{Token, characters, is_plain, escape_of}
 use Rattle.i_regexp.specs.Fronts.{Fronts, escape_front, member_front, up_to, range_end, range_front, item_front, closing, tail_step}
 use Rattle.i_regexp.specs.Fronts.{tail_front, class_front, first_front, bracket_front, characters_front, named_front, second_front}

@@ -1,8 +1,8 @@
 -- The grammar and matching, as tests; for private contracts.
 use Rattle.std.specs.Prelude.{ℕ, zero, suc, ◌+◌, Bool, true, false, not, ◌&&◌, ◌||◌, nat_le, List, [], ◌∷◌, length, Option, Some, None}
 use Rattle.std.specs.Prelude.{option_map, option_and_then}
-use Rattle.i_regexp.specs.declared.class.Item.{Item}
-use Rattle.i_regexp.specs.Forms.{Form, empty, class, concat, alternation, repetition, both, no, is_in_class}
+use Rattle.marked_regexp.specs.declared.class.Item.{Item}
+use Rattle.marked_regexp.specs.Forms.{Form, empty, class, concat, alternation, repetition, both, no, is_in_class}
 use Rattle.i_regexp.specs.Fronts.{token_front}
 use Rattle.i_regexp.specs.Grammar.{Token, Regexp, regexp_form}
 use Rattle.i_regexp.specs.Levels.{State, fresh, regexp_of, run}

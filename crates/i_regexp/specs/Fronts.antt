@@ -7,8 +7,8 @@ use Rattle.i_regexp.specs.Characters.{comma, right_brace, digit_zero, full_stop,
 use Rattle.general_category.specs.Categories.{named}
 use Rattle.general_category.specs.declared.Category.{Category}
 use Rattle.i_regexp.specs.Characters.{reverse_solidus, letter_p, capital_p}
-use Rattle.i_regexp.specs.declared.class.Item.{Item}
-use Rattle.i_regexp.specs.declared.class.Item.TheVariants.{Range, In, NotIn}
+use Rattle.marked_regexp.specs.declared.class.Item.{Item}
+use Rattle.marked_regexp.specs.declared.class.Item.TheVariants.{Range, In, NotIn}
 use Rattle.i_regexp.specs.declared.error.IRegexpErrorKind.{IRegexpErrorKind}
 use Rattle.i_regexp.specs.declared.error.IRegexpErrorKind.TheVariants as kind
 use Rattle.i_regexp.specs.declared.token.Token.TheVariants as is

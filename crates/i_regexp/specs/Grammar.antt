@@ -7,9 +7,9 @@ use Rattle.i_regexp.specs.Characters.{right_bracket, reverse_solidus, letter_n, 
 use Rattle.i_regexp.specs.Characters.{carriage_return, horizontal_tab}
 use Rattle.general_category.specs.Categories.{named}
 use Rattle.general_category.specs.declared.Category.{Category}
-use Rattle.i_regexp.specs.declared.class.Item.{Item}
-use Rattle.i_regexp.specs.declared.class.Item.TheVariants.{Range, In, NotIn}
-use Rattle.i_regexp.specs.Forms.{Form, empty, class, concat, alternation, repetition}
+use Rattle.marked_regexp.specs.declared.class.Item.{Item}
+use Rattle.marked_regexp.specs.declared.class.Item.TheVariants.{Range, In, NotIn}
+use Rattle.marked_regexp.specs.Forms.{Form, empty, class, concat, alternation, repetition}
 
 -- ---- tokens
 

@@ -3,10 +3,10 @@ use Rattle.std.specs.Prelude.{◌≡◌, ℕ, suc, ◌+◌, ◌≤◌, ◌<◌, 
 use Rattle.std.specs.Prelude.{option_and_then, Result, Ok, Err}
 use Rattle.i_regexp.specs.declared.error.IRegexpErrorKind.{IRegexpErrorKind}
 use Rattle.i_regexp.specs.declared.error.IRegexpErrorKind.TheVariants as kind
-use Rattle.i_regexp.specs.declared.marked.Node.{Node}
+use Rattle.marked_regexp.specs.declared.expression.Expression.{Expression}
 use Rattle.i_regexp.specs.declared.reader.Level.{Level as CodeLevel}
-use Rattle.i_regexp.specs.Forms.{AtMost}
-use Rattle.i_regexp.specs.Building.{Means, AllMean}
+use Rattle.marked_regexp.specs.Forms.{AtMost}
+use Rattle.marked_regexp.specs.Building.{Means, AllMean}
 use Rattle.i_regexp.specs.Limits.{depth_limit, size_limit, branch_size, piece_size, atom_size}
 use Rattle.i_regexp.specs.Grammar.{Token, characters, opened, closed, bar, quantifier, Regexp, last, branches, Branch, nothing, pieces}
 use Rattle.i_regexp.specs.Grammar.{Piece, once, times, Atom, character, group, branch_form, piece_form, atom_form}
@@ -112,7 +112,7 @@ state_size s = level_size s.0 + outer_size s.1
 -- ---- the code's levels
 
 -- the node is the atom, or there is neither
-abbrev pub MeansEnd : Option Node → Option Atom → Type 0
+abbrev pub MeansEnd : Option Expression → Option Atom → Type 0
 MeansEnd None None = Unit {0}
 MeansEnd None (Some a) = ⊥
 MeansEnd (Some n) None = ⊥

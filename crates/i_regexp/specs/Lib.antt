@@ -1,7 +1,4 @@
 pub mod Characters
-pub mod Forms
-pub mod Marked
-pub mod Building
 pub mod Grammar
 pub mod Limits
 pub mod Fronts

@@ -1,7 +1,7 @@
 -- The limits of nesting and size.
 use Rattle.std.specs.Prelude.{◌≡◌, ℕ, suc, ◌+◌, ◌-◌, ◌*◌, ◌<◌, Bool, true, ◌&&◌, ◌||◌, ◌==◌, List, [], ◌∷◌, ◌++◌, length, ◌/◌}
 use Rattle.std.specs.Prelude.{Option, Some, None}
-use Rattle.i_regexp.specs.declared.class.Item.{Item}
+use Rattle.marked_regexp.specs.declared.class.Item.{Item}
 use Rattle.i_regexp.specs.Characters.{left_brace, comma}
 use Rattle.i_regexp.specs.Grammar.{Token, opened, closed, is_digit, are_digits, count, Regexp, last, branches, Branch, nothing, pieces}
 use Rattle.i_regexp.specs.Grammar.{Piece, once, times, Atom, character, group}

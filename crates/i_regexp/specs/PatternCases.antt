@@ -8,9 +8,9 @@ use Rattle.i_regexp.specs.declared.cases.Case.{Case as CaseTree}
 use Rattle.i_regexp.specs.declared.error.IRegexpErrorKind.{IRegexpErrorKind}
 use Rattle.i_regexp.specs.declared.error.IRegexpErrorKind.TheVariants as kind
 use Rattle.i_regexp.specs.declared.outermost.Outermost.{Outermost}
-use Rattle.i_regexp.specs.Building.{Means, choice}
-use Rattle.i_regexp.specs.Forms.{Form}
-use Rattle.i_regexp.specs.Grammar.{Token, opened, closed, bar}
+use Rattle.marked_regexp.specs.Building.{Means, choice}
+use Rattle.marked_regexp.specs.Forms.{Form}
+use Rattle.i_regexp.specs.Grammar.{Token, opened, closed}
 use Rattle.i_regexp.specs.Levels.{state_size}
 use Rattle.i_regexp.specs.Limits.{depth_limit, size_limit}
 use Rattle.i_regexp.specs.Patterns as pattern

@@ -11,7 +11,7 @@ use Rattle.i_regexp.specs.declared.error.IRegexpErrorKind.TheVariants as kind
 use Rattle.i_regexp.specs.Characters.{left_parenthesis, right_parenthesis, vertical_bar, question_mark, full_stop, left_bracket, circumflex}
 use Rattle.i_regexp.specs.Characters.{reverse_solidus, left_brace, right_brace, digit_zero, letter_p, capital_p}
 use Rattle.general_category.specs.Names.{value_named}
-use Rattle.i_regexp.specs.declared.class.Item.{Item}
+use Rattle.marked_regexp.specs.declared.class.Item.{Item}
 use Rattle.i_regexp.specs.declared.letter.Letter.{Letter}
 use Rattle.i_regexp.specs.declared.letter.Letter.TheVariants.{Plain, Literal, Named}
 use Rattle.i_regexp.specs.declared.letter.Set.{Set}
@@ -20,7 +20,8 @@ use Rattle.i_regexp.specs.declared.mark.Mark.TheVariants as code
 use Rattle.i_regexp.specs.declared.mark.Mark.{Mark as CodeMark}
 use Rattle.i_regexp.specs.Fronts.{token_of, token_front}
 use Rattle.i_regexp.specs.Grammar.{Token, characters, opened, closed, bar, quantifier, one}
-use Rattle.i_regexp.specs.Patterns.{dollar_sign, colon, equals_sign, exclamation_mark, letter_c, letter_x, letter_u, letter_items, named_letter, hex_digit, byte_of}
+use Rattle.i_regexp.specs.Patterns.{dollar_sign, colon, equals_sign, exclamation_mark, letter_c, letter_x, letter_u, letter_items}
+use Rattle.i_regexp.specs.Patterns.{named_letter, hex_digit, byte_of}
 use Rattle.i_regexp.specs.Patterns.{code_of, is_high, scalar, pair_of, control_of, begins_with_digit, others}
 use Rattle.i_regexp.specs.Patterns.{ends_class, is_dash, class_items, Mark, start, end, look, token, dot, is_normal, fits}
 

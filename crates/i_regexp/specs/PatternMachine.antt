@@ -4,13 +4,12 @@ use Rattle.std.specs.Prelude.{option_map, option_and_then, Result, Ok, Err}
 use Rattle.i_regexp.specs.declared.branches.Branches.{Branches}
 use Rattle.i_regexp.specs.declared.error.IRegexpErrorKind.{IRegexpErrorKind}
 use Rattle.i_regexp.specs.declared.error.IRegexpErrorKind.TheVariants as kind
-use Rattle.i_regexp.specs.declared.marked.Node.{Node}
-use Rattle.i_regexp.specs.Building.{Means, AllMean, choice}
-use Rattle.i_regexp.specs.Forms.{Form, empty, class, concat, repetition}
+use Rattle.marked_regexp.specs.declared.expression.Expression.{Expression}
+use Rattle.marked_regexp.specs.Building.{Means, AllMean, choice}
+use Rattle.marked_regexp.specs.Forms.{Form, empty, class, concat, repetition}
 use Rattle.i_regexp.specs.Grammar.{Token, opened, bar, Branch, branch_form}
 use Rattle.i_regexp.specs.Levels.{Level, level, State, fresh, settled, branch_of, advance, state_size, Agrees, IsFit}
 use Rattle.i_regexp.specs.Limits.{depth_limit, size_limit}
-use Rattle.i_regexp.specs.Marked.{same_bool}
 use Rattle.i_regexp.specs.Patterns as pattern
 use Rattle.i_regexp.specs.Patterns.{Mark, token, Part, Disjunction, fixed_part, AreSmall}
 
@@ -39,6 +38,11 @@ is_blank l = false
 
 abbrev pub is_unread : State → Bool
 is_unread s = is_blank s.0 && no_levels s.1
+
+-- both are equal
+abbrev pub same_bool : Bool → Bool → Bool
+same_bool true b = b
+same_bool false b = not b
 
 -- nothing was read of the last branch but a `^`, or not even that
 abbrev pub is_before : PartsState → Bool → Bool
@@ -136,13 +140,13 @@ TakesMark old m (Err kind.TooLarge) new =
 TakesMark old m (Err kind.OutOfMemory) new = Unit {0}
 
 -- the end of all branches
-abbrev pub Finishes : Branches → Node → Type 0
+abbrev pub Finishes : Branches → Expression → Type 0
 Finishes old n =
     (s : PartsState) → AgreesAt old s → no_levels s.state.1 ≡ true
     → Means n (disjunction_form s.fixed (disjunction_in s)) × AreSmall (s.parts ++ part_in s ∷ [])
 
 -- the end of a branch
-abbrev pub EndsPart : Branches → List Node → Type 0
+abbrev pub EndsPart : Branches → List Expression → Type 0
 EndsPart old ns =
     (s : PartsState) → AgreesAt old s → no_levels s.state.1 ≡ true
     → AllMean ns (map (form_at s.fixed) (s.parts ++ part_in s ∷ [])) × AreSmall (s.parts ++ part_in s ∷ [])

@@ -13,8 +13,8 @@ use Rattle.i_regexp.specs.declared.pattern.SchemaPattern.{SchemaPattern}
 use Rattle.i_regexp.specs.declared.pattern_error.SchemaPatternError.{SchemaPatternError}
 use Rattle.i_regexp.specs.declared.pattern_error.SchemaPatternErrorKind.{SchemaPatternErrorKind}
 use Rattle.i_regexp.specs.declared.pattern_error.SchemaPatternErrorKind.TheVariants as reason
-use Rattle.i_regexp.specs.Building.{choice}
-use Rattle.i_regexp.specs.Forms.{Form, Matches}
+use Rattle.marked_regexp.specs.Building.{choice}
+use Rattle.marked_regexp.specs.Forms.{Form, Matches}
 use Rattle.i_regexp.specs.Grammar.{is_one_of}
 use Rattle.i_regexp.specs.Limits.{depth_limit, begins_group, ends_group, LargeCount}
 use Rattle.i_regexp.specs.PatternFronts.{code_front}

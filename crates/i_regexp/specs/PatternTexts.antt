@@ -2,8 +2,8 @@
 use Rattle.std.specs.Prelude.{ℕ, Bool, true, false, List, [], ◌∷◌, map}
 use Rattle.i_regexp.specs.declared.cases.Look.{Look}
 use Rattle.i_regexp.specs.declared.cases.Case.{Case}
-use Rattle.i_regexp.specs.Forms.{Form, both, no, Matches}
-use Rattle.i_regexp.specs.Marked.{form_of}
+use Rattle.marked_regexp.specs.Forms.{Form, both, no, Matches}
+use Rattle.marked_regexp.specs.Building.{form_of}
 
 -- all other texts, if it is negated
 abbrev pub unless_form : Bool → Form → Form

@@ -7,13 +7,13 @@ use Rattle.general_category.specs.declared.Category.{Category}
 use Rattle.i_regexp.specs.Characters.{left_parenthesis, right_parenthesis, vertical_bar, asterisk, plus_sign, question_mark, left_brace}
 use Rattle.i_regexp.specs.Characters.{right_brace, full_stop, left_bracket, circumflex, hyphen, right_bracket, reverse_solidus, line_feed}
 use Rattle.i_regexp.specs.Characters.{carriage_return, letter_n, letter_r, letter_t, letter_p, capital_p, horizontal_tab, digit_zero}
-use Rattle.i_regexp.specs.declared.class.Item.{Item}
-use Rattle.i_regexp.specs.declared.class.Item.TheVariants.{Range, In, NotIn}
+use Rattle.marked_regexp.specs.declared.class.Item.{Item}
+use Rattle.marked_regexp.specs.declared.class.Item.TheVariants.{Range, In, NotIn}
 use Rattle.i_regexp.specs.declared.letter.Letter.{Letter}
 use Rattle.i_regexp.specs.declared.letter.Letter.TheVariants.{Plain, Literal, Named}
 use Rattle.i_regexp.specs.declared.letter.Set.{Set}
 use Rattle.i_regexp.specs.declared.letter.Set.TheVariants as set
-use Rattle.i_regexp.specs.Forms.{Matches}
+use Rattle.marked_regexp.specs.Forms.{Matches}
 use Rattle.i_regexp.specs.Grammar.{Token, characters, opened, closed, bar, quantifier, one, is_one_of, is_digit}
 use Rattle.i_regexp.specs.Grammar.{CaretText, begins_with_caret}
 use Rattle.i_regexp.specs.Grammar as regexp

@@ -3,8 +3,8 @@ use Rattle.std.specs.Prelude.{◌≡◌, ℕ, ◌≤◌, ◌<◌, ◌+◌, List,
 use Rattle.i_regexp.specs.declared.error.IRegexpError.{IRegexpError}
 use Rattle.i_regexp.specs.declared.error.IRegexpErrorKind.{IRegexpErrorKind}
 use Rattle.i_regexp.specs.declared.error.IRegexpErrorKind.TheVariants as kind
-use Rattle.i_regexp.specs.declared.marked.Node.{Node}
-use Rattle.i_regexp.specs.Building.{Means}
+use Rattle.marked_regexp.specs.declared.expression.Expression.{Expression}
+use Rattle.marked_regexp.specs.Building.{Means}
 use Rattle.i_regexp.specs.Characters.{left_parenthesis}
 use Rattle.i_regexp.specs.Grammar.{Token, Spells, Spelled, Regexp, IsText, regexp_form}
 use Rattle.i_regexp.specs.Limits.{depth_limit, begun_groups, ended_groups, size_limit, regexp_size, LargeCount}
@@ -57,6 +57,6 @@ pub record Refused (cs : List ℕ) (e : IRegexpError) : Type 0 where
   pub says : Says cs front tokens rest e.kind
 
 -- the result of parsing a text into a tree
-abbrev pub Reads : List ℕ → Result Node IRegexpError → Type 0
+abbrev pub Reads : List ℕ → Result Expression IRegexpError → Type 0
 Reads cs (Ok n) = (r : Regexp) × IsText cs r × Means n (regexp_form r) × (regexp_size r ≤ size_limit)
 Reads cs (Err e) = Refused cs e

@@ -1,6 +1,6 @@
 //! Parses the marks of branches outside of groups into a tree.
 ghost use Rattle.std.specs.Prelude.{◌≡◌, ◌<◌, OnOk, IfOk, true, vec_len};
-ghost use Rattle.i_regexp.specs.Building.{Means};
+ghost use Rattle.marked_regexp.specs.Building.{Means};
 ghost use Rattle.i_regexp.specs.Fronts.{token_of};
 ghost use Rattle.i_regexp.specs.Levels.{IsFit};
 ghost use Rattle.i_regexp.specs.Patterns.{start, end, token};
@@ -9,23 +9,21 @@ ghost use Rattle.i_regexp.specs.PatternMachine.{TakesMark, Finishes, EndsPart, A
 ghost use Rattle.i_regexp.specs.PatternMachine.{open_form, is_bar, no_levels, next_part};
 ghost use Rattle.i_regexp.specs.PatternMachine.{PartsState, IsFitMark, is_before};
 
-use crate::build::{choice_of, concat, one_of, star};
-use crate::class::Class;
 use crate::error::IRegexpErrorKind;
 use crate::mark::Mark;
-use crate::marked::Node;
 use crate::reader::{Level, take};
 use crate::token::Token;
+use marked_regexp::{Class, Expression};
 use std::alloc::{AllocError, Global};
 use std::mem;
 
-/// What was parsed of branches outside of groups: those that have ended, whether the last one begins
-/// with `^` and ends with `$`, and the rest of it.
+/// What was parsed of branches outside of groups: those that have ended, whether the last one
+/// begins with `^` and ends with `$`, and the rest of it.
 #[derive(Drop)]
 pub(crate) struct Branches {
     // whether they have to match at the beginning of the text
     fixed: bool,
-    parts: Vec<Node>,
+    parts: Vec<Expression>,
     starts: bool,
     ends: bool,
     outer: Vec<Level>,
@@ -54,8 +52,8 @@ impl Branches {
         ensures fixed { self.new.fixed ≡ self.old.fixed }
     {
         let node = self.here.finish(alloc)?;
-        let behind = concat(alloc, node, open_end(alloc, self.ends)?)?;
-        let part = concat(alloc, open_end(alloc, self.fixed | self.starts)?, behind)?;
+        let behind = Expression::concat(alloc, node, open_end(alloc, self.ends)?)?;
+        let part = Expression::concat(alloc, open_end(alloc, self.fixed | self.starts)?, behind)?;
         self.parts.push(part)?;
         Ok(())
     }
@@ -137,12 +135,12 @@ impl Branches {
     }
 
     /// The tree of all branches.
-    pub(crate) fn finish(&mut self, alloc: Global) -> Result<Node, AllocError>
+    pub(crate) fn finish(&mut self, alloc: Global) -> Result<Expression, AllocError>
         ensures { IfOk result (λ n. Finishes self.old n) }
     {
         self.end_part(alloc)?;
         let parts = mem::replace(&mut self.parts, Vec::new(alloc));
-        choice_of(alloc, parts)
+        Expression::choice_of(alloc, parts)
     }
 
     /// Whether no group is open.
@@ -177,15 +175,15 @@ fn is_bar(token: &Token) -> bool
 }
 
 /// Any text, unless this end of a branch is anchored.
-fn open_end(alloc: Global, closed: bool) -> Result<Node, AllocError>
+fn open_end(alloc: Global, closed: bool) -> Result<Expression, AllocError>
     ensures { IfOk result (λ n. Means n (open_form closed)) }
 {
     if closed {
-        return Ok(Node::Empty);
+        return Ok(Expression::empty());
     }
-    star(
+    Expression::star(
         alloc,
-        one_of(Class {
+        Expression::one_of(Class {
             negated: true,
             items: Vec::new(alloc),
         }),

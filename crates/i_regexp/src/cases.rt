@@ -1,21 +1,17 @@
 //! The outermost branches of a schema's pattern, with their look-aheads, as trees.
-ghost use Rattle.std.specs.Prelude.{◌≡◌, true};
-ghost use Rattle.i_regexp.specs.Marked.{is_kept};
 
-use crate::marked::Node;
+use marked_regexp::Expression;
 
 /// A look-ahead: a tree of the texts before which it holds, or does not hold if it is negated.
 #[derive(Drop)]
 pub(crate) struct Look {
     pub(crate) negated: bool,
-    pub(crate) root: Node,
-    ghost kept: { is_kept root ≡ true },
+    pub(crate) root: Expression,
 }
 
 /// An outermost branch: its look-aheads, and a tree of the texts that it matches a part of.
 #[derive(Drop)]
 pub(crate) struct Case {
     pub(crate) looks: Vec<Look>,
-    pub(crate) root: Node,
-    ghost kept: { is_kept root ≡ true },
+    pub(crate) root: Expression,
 }

@@ -1,7 +1,8 @@
 //! The letters of a schema's pattern: characters, escapes, and named sets.
 ghost use Rattle.std.specs.Prelude.{◌≡◌, ◌++◌, ◌<◌, [], OnOk, IfSome, length};
 ghost use Rattle.i_regexp.specs.Fronts.{Fronts};
-ghost use Rattle.i_regexp.specs.Patterns.{set_items, letter_items, is_sign, named_letter, hex_digit};
+ghost use Rattle.i_regexp.specs.Patterns.{set_items, letter_items, is_sign, named_letter};
+ghost use Rattle.i_regexp.specs.Patterns.{hex_digit};
 ghost use Rattle.i_regexp.specs.Patterns.{byte_of, code_of, ends_class, is_dash, character_of};
 ghost use Rattle.i_regexp.specs.Patterns.{scalar, is_high, is_low, pair_of, control_of};
 ghost use Rattle.i_regexp.specs.Patterns.{begins_with_digit, others};
@@ -12,10 +13,10 @@ ghost use Rattle.i_regexp.specs.PatternFronts.{letter_front, CodeFront, name_fro
 ghost use Rattle.i_regexp.specs.PatternFronts.{behind, RestOf, is_name, value_part, property_of};
 ghost use Rattle.i_regexp.specs.PatternFronts.{property_front};
 
-use crate::class::Item;
 use crate::error::IRegexpErrorKind;
 use crate::token::is_digit;
 use general_category::Category;
+use marked_regexp::Item;
 use std::alloc::AllocError;
 
 /// A named set of characters (ECMA-262, 22.2.2.9).

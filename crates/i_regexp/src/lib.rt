@@ -1,6 +1,6 @@
 //! Regular expressions of RFC 9485 (I-Regexp), and the patterns that JSON Schema recommends. A
-//! regular expression is matched in a single pass over the text, and a pattern in one for each of its
-//! outermost branches and look-aheads. Neither takes memory.
+//! regular expression is matched in a single pass over the text, and a pattern in one for each of
+//! its outermost branches and look-aheads. Neither takes memory.
 //!
 //! ```
 //! let mut months = IRegexp::parse(alloc, "[0-9]{4}-[0-9]{2}")?;
@@ -9,21 +9,17 @@
 #![tactic(auto)]
 
 mod branches;
-mod build;
 mod cases;
-mod class;
 mod error;
 mod letter;
 mod limits;
 mod mark;
-mod marked;
 mod outermost;
 mod pattern;
 mod pattern_error;
 mod reader;
 mod refusal;
 mod regexp;
-mod run;
 mod search;
 mod token;
 

@@ -11,10 +11,10 @@ ghost use Rattle.i_regexp.specs.PatternFronts.{letters_front, caret_front, range
 ghost use Rattle.i_regexp.specs.PatternFronts.{eager, letter_mark, escape_front, repeat_front};
 ghost use Rattle.i_regexp.specs.PatternFronts.{ReadsItems, RangeBehind, Appends};
 
-use crate::class::{Class, Item};
 use crate::error::IRegexpErrorKind;
 use crate::letter::{Letter, escape, next_letter};
 use crate::token::{Token, next_token};
+use marked_regexp::{Class, Item};
 use std::alloc::{AllocError, Global};
 
 /// The smallest part of a pattern's text with a meaning: `^`, `$`, what begins a look-ahead, or a
@@ -238,8 +238,8 @@ fn range_behind(letters: &[Letter]) -> Option<(Letter, &[Letter])>
     }
 }
 
-/// Appends the range from one character to another. Where either letter is a set, it is the union of
-/// both and `-`.
+/// Appends the range from one character to another. Where either letter is a set, it is the union
+/// of both and `-`.
 fn add_range(items: &mut Vec<Item>, first: Letter, last: Letter) -> Result<(), IRegexpErrorKind>
     ensures { Appends (range_of first last) items.old.items result items.new.items }
 {

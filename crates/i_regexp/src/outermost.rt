@@ -16,8 +16,8 @@ use crate::token::Token;
 use std::alloc::{AllocError, Global};
 use std::mem;
 
-/// What was parsed of a pattern: the outermost branches that have ended, the look-aheads of the last
-/// one, and the rest of it. While a look-ahead is open, the rest is what was parsed of that.
+/// What was parsed of a pattern: the outermost branches that have ended, the look-aheads of the
+/// last one, and the rest of it. While a look-ahead is open, the rest is what was parsed of that.
 #[derive(Drop)]
 struct Outermost {
     cases: Vec<Case>,
@@ -136,7 +136,8 @@ impl Outermost {
     }
 }
 
-/// Whether the mark, outside of groups, ends the look-ahead that is open or, if none is, the branch.
+/// Whether the mark, outside of groups, ends the look-ahead that is open or, if none is, the
+/// branch.
 fn is_last(inside: Option<bool>, mark: &Mark) -> bool
     ensures { result ≡ is_last inside (mark_of mark.now) }
 {

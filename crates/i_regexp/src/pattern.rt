@@ -1,7 +1,7 @@
 //! A parsed pattern of JSON Schema.
 ghost use Rattle.std.specs.Prelude.{◌≡◌, ◌↔◌, IsTrue};
 ghost use Rattle.std.specs.Str.{chars};
-ghost use Rattle.i_regexp.specs.Forms.{Matches};
+ghost use Rattle.marked_regexp.specs.Forms.{Matches};
 
 use crate::cases::Case;
 use crate::outermost::read_pattern;
@@ -51,8 +51,8 @@ impl SchemaPattern {
     }
 
     /// Whether the pattern matches a part of the text. A branch that begins with `^` matches only
-    /// at the beginning, and if its look-aheads hold there; one that ends with `$` only at the end. The time is at most
-    /// proportional to the product of the two sizes. It takes no memory.
+    /// at the beginning, and if its look-aheads hold there; one that ends with `$` only at the end.
+    /// The time is at most proportional to the product of the two sizes. It takes no memory.
     ///
     /// ```
     /// let mut digits = SchemaPattern::parse(alloc, "\\d{3}")?;

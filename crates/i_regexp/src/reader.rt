@@ -1,20 +1,19 @@
 //! Parses the tokens of a text into a tree.
 ghost use Rattle.std.specs.Prelude.{◌≡◌, ◌-◌, List, [], ◌∷◌, ◌<◌, IfOk, OnOk, vec_len};
-ghost use Rattle.i_regexp.specs.Forms.{AtMost};
-ghost use Rattle.i_regexp.specs.Building.{Means};
+ghost use Rattle.marked_regexp.specs.Forms.{AtMost};
+ghost use Rattle.marked_regexp.specs.Building.{Means};
 ghost use Rattle.i_regexp.specs.Fronts.{token_of};
 ghost use Rattle.i_regexp.specs.Grammar.{Branch, Piece, Atom, atom_form, regexp_form};
 ghost use Rattle.i_regexp.specs.Reading.{Reads};
 ghost use Rattle.i_regexp.specs.Levels.{Level as Read, Stands, StandsAt, fresh, settle, with_atom};
 ghost use Rattle.i_regexp.specs.Levels.{barred, regexp_of, Quantifies, Takes, IsFit, Grows};
-ghost use Rattle.i_regexp.specs.Limits.{repeated};
+ghost use Rattle.i_regexp.specs.Limits.{class_size, repeated};
 ghost use Rattle.i_regexp.specs.PatternMachine.{is_blank};
 
-use crate::build::{choice_of, one_of, repeat, sequence_of};
 use crate::error::{IRegexpError, IRegexpErrorKind};
 use crate::limits::{DEPTH, SIZE};
-use crate::marked::Node;
 use crate::token::{Token, next_token};
+use marked_regexp::{Class, Expression};
 use std::alloc::{AllocError, Global};
 use std::mem;
 
@@ -22,9 +21,9 @@ use std::mem;
 /// last one, and the atom after these, which may be repeated yet.
 #[derive(Drop)]
 pub(crate) struct Level {
-    branches: Vec<Node>,
-    pieces: Vec<Node>,
-    last: Option<Node>,
+    branches: Vec<Expression>,
+    pieces: Vec<Expression>,
+    last: Option<Expression>,
     // the size of all that was parsed up to here, with the groups around it, and that of the atom
     size: usize,
     last_size: usize,
@@ -57,7 +56,7 @@ impl Level {
     }
 
     /// Appends an atom; all that was parsed has the given size then.
-    fn put(&mut self, node: Node, size: usize) -> Result<(), AllocError>
+    fn put(&mut self, node: Expression, size: usize) -> Result<(), AllocError>
         ensures read { OnOk result ((l : Read) (a : Atom) → StandsAt self.old l
             → Means node (atom_form a) → StandsAt self.new (with_atom l a)) }
         ensures size { OnOk result (self.new.size ≡ size) }
@@ -91,18 +90,18 @@ impl Level {
     {
         self.settle()?;
         let pieces = mem::replace(&mut self.pieces, Vec::new(alloc));
-        self.branches.push(sequence_of(alloc, pieces)?)?;
+        self.branches.push(Expression::sequence_of(alloc, pieces)?)?;
         Ok(())
     }
 
     /// The tree of the whole.
-    pub(crate) fn finish(&mut self, alloc: Global) -> Result<Node, AllocError>
+    pub(crate) fn finish(&mut self, alloc: Global) -> Result<Expression, AllocError>
         ensures { IfOk result (λ n. (l : Read) → StandsAt self.old l
             → Means n (regexp_form (regexp_of l))) }
     {
         self.end_branch(alloc)?;
         let branches = mem::replace(&mut self.branches, Vec::new(alloc));
-        choice_of(alloc, branches)
+        Expression::choice_of(alloc, branches)
     }
 
     /// Whether it is still empty.
@@ -135,7 +134,7 @@ impl Level {
         let Some(size) = self.grown(more) else {
             return Err(IRegexpErrorKind::TooLarge);
         };
-        self.pieces.push(repeat(alloc, &node, least, most)?)?;
+        self.pieces.push(node.repeat(alloc, least, most)?)?;
         self.size = size;
         Ok(())
     }
@@ -151,6 +150,13 @@ fn repeated(least: usize, most: Option<usize>) -> usize
     }
 }
 
+/// The part of a class in the size of a regular expression: 1, and 1 more for each 16 of its items.
+fn size(class: &Class) -> usize
+    ensures { result ≡ class_size class.now.items.items }
+{
+    class.items.len() / 16 + 1
+}
+
 /// Accepts a token. `here` is the innermost group, and `outer` has those around it.
 pub(crate) fn take(
     alloc: Global,
@@ -163,11 +169,11 @@ pub(crate) fn take(
 {
     match token {
         Token::Characters(class) => {
-            let more = class.size();
+            let more = size(&class);
             let Some(size) = here.grown(more) else {
                 return Err(IRegexpErrorKind::TooLarge);
             };
-            here.put(one_of(class), size)?;
+            here.put(Expression::one_of(class), size)?;
             Ok(())
         }
         Token::Open => {
@@ -203,7 +209,7 @@ pub(crate) fn take(
 }
 
 /// Parses a whole text.
-pub(crate) fn read(alloc: Global, text: &[char]) -> Result<Node, IRegexpError>
+pub(crate) fn read(alloc: Global, text: &[char]) -> Result<Expression, IRegexpError>
     ensures { Reads text.now result }
 {
     let mut outer = Vec::new(alloc);

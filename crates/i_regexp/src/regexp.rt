@@ -1,13 +1,11 @@
 //! A parsed regular expression of RFC 9485.
-ghost use Rattle.std.specs.Prelude.{◌≡◌, ◌↔◌, true, IfOk, IsTrue};
+ghost use Rattle.std.specs.Prelude.{◌≡◌, ◌↔◌, IfOk, IsTrue};
 ghost use Rattle.std.specs.Str.{chars};
-ghost use Rattle.i_regexp.specs.Forms.{Matches, Searches};
-ghost use Rattle.i_regexp.specs.Marked.{is_kept};
+ghost use Rattle.marked_regexp.specs.Forms.{Matches, Searches};
 
 use crate::error::{IRegexpError, IRegexpErrorKind};
-use crate::marked::Node;
 use crate::reader::read;
-use crate::run::{matches_part, matches_whole};
+use marked_regexp::Expression;
 use std::alloc::{AllocError, Global};
 
 /// A regular expression of RFC 9485. Matching borrows it mutably, for marks that move over the
@@ -20,8 +18,7 @@ use std::alloc::{AllocError, Global};
 /// ```
 #[derive(Drop)]
 pub struct IRegexp {
-    root: Node,
-    ghost kept: { is_kept root ≡ true },
+    root: Expression,
 }
 
 impl IRegexp {
@@ -61,7 +58,7 @@ impl IRegexp {
         ensures matched { IsTrue result ↔ Matches (form_in self.old) (chars text.now) }
         ensures same { form_in self.new ≡ form_in self.old }
     {
-        matches_whole(&mut self.root, text)
+        self.root.matches(text)
     }
 
     /// Whether it matches a part of the text: some consecutive characters, or none. The time is at
@@ -75,7 +72,7 @@ impl IRegexp {
         ensures matched { IsTrue result ↔ Searches (form_in self.old) (chars text.now) }
         ensures same { form_in self.new ≡ form_in self.old }
     {
-        matches_part(&mut self.root, text)
+        self.root.searches(text)
     }
 }
 

@@ -1,12 +1,11 @@
 //! Searching a text for the outermost branches of a schema's pattern.
 ghost use Rattle.std.specs.Prelude.{◌≡◌, ◌↔◌, map, IsTrue};
 ghost use Rattle.std.specs.Str.{chars};
-ghost use Rattle.i_regexp.specs.Building.{choice};
-ghost use Rattle.i_regexp.specs.Forms.{Matches};
+ghost use Rattle.marked_regexp.specs.Building.{choice};
+ghost use Rattle.marked_regexp.specs.Forms.{Matches};
 ghost use Rattle.i_regexp.specs.PatternTexts.{look_text, case_text, AllMatch};
 
 use crate::cases::{Case, Look};
-use crate::run::matches_whole;
 
 impl Look {
     /// Whether it holds at the beginning of the text.
@@ -14,7 +13,7 @@ impl Look {
         ensures same { look_text self.new ≡ look_text self.old }
         ensures holds { IsTrue result ↔ Matches (look_text self.old) (chars text.now) }
     {
-        let found = matches_whole(&mut self.root, text);
+        let found = self.root.matches(text);
         if self.negated {
             return !found;
         }
@@ -32,7 +31,7 @@ impl Case {
         if !hold {
             return false;
         }
-        matches_whole(&mut self.root, text)
+        self.root.matches(text)
     }
 }
 

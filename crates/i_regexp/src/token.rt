@@ -1,6 +1,7 @@
 //! The tokens of a text.
-ghost use Rattle.std.specs.Prelude.{◌≡◌, ℕ, ◌<◌, ◌≤◌, [], ◌∷◌, length};
-ghost use Rattle.i_regexp.specs.Characters.{left_brace};
+ghost use Rattle.std.specs.Prelude.{◌≡◌, ℕ, ◌<◌, ◌≤◌, [], ◌∷◌, length, IfOk, true};
+ghost use Rattle.i_regexp.specs.Characters.{left_brace, line_feed, carriage_return};
+ghost use Rattle.marked_regexp.specs.declared.class.Item.TheVariants.{Range};
 ghost use Rattle.i_regexp.specs.Limits.{LargeNumber, LargeCount};
 ghost use Rattle.i_regexp.specs.Grammar.{is_normal, is_plain, is_digit, escape_of};
 ghost use Rattle.i_regexp.specs.Fronts.{Fronts, token_of, escape_front, member_front, item_front};
@@ -9,11 +10,11 @@ ghost use Rattle.i_regexp.specs.Fronts.{bracket_front, token_front, escape_token
 ghost use Rattle.i_regexp.specs.Fronts.{is_category_letter, name_front, named_front};
 ghost use Rattle.i_regexp.specs.Fronts.{begins_category, characters_front};
 
-use crate::class::{Class, Item};
 use crate::error::IRegexpErrorKind;
 use crate::limits::SIZE;
 use general_category::Category;
-use std::alloc::Global;
+use marked_regexp::{Class, Item};
+use std::alloc::{AllocError, Global};
 
 /// The smallest part of a text with a meaning.
 #[derive(Drop)]
@@ -62,7 +63,7 @@ pub(crate) fn next_token<'t>(
             rest,
         )),
         '{' => counts(rest),
-        '.' => Ok((Token::Characters(Class::dot(alloc)?), rest)),
+        '.' => Ok((Token::Characters(dot(alloc)?), rest)),
         '\\' => escape_token(alloc, rest),
         '[' => bracket(alloc, rest),
         c => {
@@ -76,6 +77,21 @@ pub(crate) fn next_token<'t>(
             }
         }
     }
+}
+
+/// The class of every character but line feed and carriage return.
+fn dot(alloc: Global) -> Result<Class, AllocError>
+    ensures negated { IfOk result (λ k. k.negated ≡ true) }
+    ensures items { IfOk result (λ k. k.items.items
+        ≡ Range line_feed line_feed ∷ Range carriage_return carriage_return ∷ []) }
+{
+    let mut items = Vec::new(alloc);
+    items.push(Item::Range('\n', '\n'))?;
+    items.push(Item::Range('\r', '\r'))?;
+    Ok(Class {
+        negated: true,
+        items,
+    })
 }
 
 /// Whether the character stands for itself.

@@ -7,7 +7,7 @@ use Rattle.i_regexp.proofs.Callers.{matched_as, searched_as, reads_matches, read
 use Rattle.i_regexp.proofs.Callers.{pattern_matches_sound, pattern_matches_complete}
 use Rattle.i_regexp.proofs.Callers.{pattern_searches_sound, pattern_searches_complete}
 use Rattle.i_regexp.specs.Deciding.{matches, searches}
-use Rattle.i_regexp.specs.Forms.{Matches, Searches}
+use Rattle.marked_regexp.specs.Forms.{Matches, Searches}
 use Rattle.i_regexp.specs.Grammar.{Regexp, IsText}
 use Rattle.i_regexp.specs.Regexps.{form_in, IsReading}
 use Rattle.i_regexp.specs.declared.regexp.IRegexp.{IRegexp}

@@ -1,8 +1,8 @@
 use Rattle.std.proofs.Common.{true, [], sym, subst}
-use Rattle.i_regexp.specs.Building.{Means}
-use Rattle.i_regexp.specs.Forms.{class}
+use Rattle.marked_regexp.specs.Building.{Means}
+use Rattle.marked_regexp.specs.Forms.{class}
 use Rattle.i_regexp.specs.PatternMachine.{open_form}
-use Rattle.i_regexp.proofs.Building.{ok_as}
+use Rattle.marked_regexp.proofs.Callers.{ok_as}
 use Rattle.i_regexp.proofs.branches.open_end.Goals as goal
 
 pub returns : goal.returns

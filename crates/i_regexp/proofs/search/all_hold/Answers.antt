@@ -2,7 +2,7 @@ use Rattle.std.proofs.Common.{◌∙◌, map, arith, refl}
 use Rattle.std.proofs.Math.Seq.{map-set_same}
 use Rattle.std.proofs.lemmas.List.{length-map}
 use Rattle.std.specs.Str.{chars}
-use Rattle.i_regexp.specs.Forms.{empty}
+use Rattle.marked_regexp.specs.Forms.{empty}
 use Rattle.i_regexp.specs.PatternTexts.{look_text}
 use Rattle.i_regexp.proofs.CaseTexts.{item_matches, not_all, all_more, all_end}
 use Rattle.i_regexp.proofs.search.all_hold.Goals as goal

@@ -2,7 +2,7 @@ use Rattle.std.proofs.Common.{◌∙◌, map, arith, refl, sym, true≢false}
 use Rattle.std.proofs.Math.Seq.{map-set_same}
 use Rattle.std.proofs.lemmas.List.{length-map}
 use Rattle.std.specs.Str.{chars}
-use Rattle.i_regexp.specs.Forms.{empty}
+use Rattle.marked_regexp.specs.Forms.{empty}
 use Rattle.i_regexp.specs.PatternTexts.{case_text}
 use Rattle.i_regexp.proofs.CaseTexts.{item_matches, one_at, none_more, none_end}
 use Rattle.i_regexp.proofs.search.any_found.Goals as goal

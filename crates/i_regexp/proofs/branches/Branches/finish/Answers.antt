@@ -1,5 +1,5 @@
 use Rattle.std.proofs.Common.{◌<◌, vec_len, ap, sym, subst}
-use Rattle.i_regexp.proofs.Building.{ok_as}
+use Rattle.marked_regexp.proofs.Callers.{ok_as}
 use Rattle.i_regexp.proofs.PatternBranches.{finished}
 use Rattle.i_regexp.proofs.branches.Branches.finish.Goals as goal
 

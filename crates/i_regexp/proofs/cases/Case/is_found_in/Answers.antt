@@ -1,9 +1,8 @@
 use Rattle.std.proofs.Common.{◌↔◌, map, IsTrue, subst}
 use Rattle.std.specs.Str.{chars}
-use Rattle.i_regexp.specs.Marked.{form_of}
+use Rattle.marked_regexp.specs.Building.{form_of}
 use Rattle.i_regexp.specs.PatternTexts.{look_text, AllMatch}
 use Rattle.i_regexp.proofs.CaseTexts.{guard_broken, guard_kept}
-use Rattle.i_regexp.proofs.Kept.{kept_from, kept_to}
 use Rattle.i_regexp.proofs.cases.Case.is_found_in.Goals as goal
 
 pub returns-then-not-hold-clause-found : goal.returns-then-not-hold-clause-found
@@ -12,15 +11,9 @@ returns-then-not-hold-clause-found c =
     (subst (λ ks. IsTrue c.all_hold-hold.result ↔ AllMatch (map look_text ks) (chars c.args.text.now)) c.as_mut_slice.ensures.value
     c.all_hold-hold.ensures.hold) c.if-not-hold.true
 
-pub matches_whole-requires : goal.matches_whole-requires
-matches_whole-requires c = kept_from c.args.self.now.root c.args.self.now.kept
-
-pub invariant_of-self-2 : goal.invariant_of-self-2
-invariant_of-self-2 c = record { kept = kept_to c.matches_whole.new.root c.matches_whole.ensures.kept }
-
 pub returns-clause-found : goal.returns-clause-found
 returns-clause-found c =
     guard_kept (map look_text c.args.self.now.looks.items) (form_of c.args.self.now.root) (chars c.args.text.now) c.all_hold-hold.result
-    c.matches_whole.result
+    c.matches.result
     (subst (λ ks. IsTrue c.all_hold-hold.result ↔ AllMatch (map look_text ks) (chars c.args.text.now)) c.as_mut_slice.ensures.value
-    c.all_hold-hold.ensures.hold) c.if-not-hold.false c.matches_whole.ensures.matched
+    c.all_hold-hold.ensures.hold) c.if-not-hold.false c.matches.ensures.matched

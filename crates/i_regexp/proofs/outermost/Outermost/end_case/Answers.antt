@@ -1,11 +1,9 @@
 use Rattle.std.proofs.Common.{refl, ap, ◌∙◌}
-use Rattle.i_regexp.proofs.OutermostCases.{case_ended, root_kept}
+use Rattle.i_regexp.proofs.OutermostCases.{case_ended}
 use Rattle.i_regexp.proofs.outermost.Outermost.end_case.Goals as goal
-
-pub invariant_of-push : goal.invariant_of-push
-invariant_of-push c = record { kept = root_kept c.args.self.now c.in_ok-root.root c.in_ok-root.ensures c.requires }
 
 pub returns : goal.returns
 returns c =
-    case_ended c.args.self.now _ _ c.in_ok-root.ensures c.replace-looks.ensures.value c.in_ok-push.ensures.items (ap (λ v. v.items) c.replace-looks.ensures.after ∙ c.new.ensures.items)
+    case_ended c.args.self.now _ _ c.in_ok-root.ensures c.replace-looks.ensures.value c.in_ok-push.ensures.items (ap (λ v. v.items)
+    c.replace-looks.ensures.after ∙ c.new.ensures.items)
     refl c.new-2.ensures

@@ -11,5 +11,6 @@ end_case-requires c =
 
 pub returns : goal.returns
 returns c =
-    closed_all c.args.self.now _ (sym c.is_some.ensures ∙ c.if-is_some.false) (λ h a. sym c.if-not-is_outermost.false ∙ c.is_outermost.ensures h a) c.end_case.new.self
+    closed_all c.args.self.now _ (sym c.is_some.ensures ∙ c.if-is_some.false) (λ h a. sym c.if-not-is_outermost.false
+    ∙ c.is_outermost.ensures h a) c.end_case.new.self
     c.in_ok-end_case.ensures (ap (λ v. v.items) c.replace.ensures.value)

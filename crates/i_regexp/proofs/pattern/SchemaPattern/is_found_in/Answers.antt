@@ -1,7 +1,7 @@
 use Rattle.std.proofs.Common.{◌↔◌, map, IsTrue, subst}
 use Rattle.std.specs.Str.{chars}
-use Rattle.i_regexp.specs.Building.{choice}
-use Rattle.i_regexp.specs.Forms.{Matches}
+use Rattle.marked_regexp.specs.Building.{choice}
+use Rattle.marked_regexp.specs.Forms.{Matches}
 use Rattle.i_regexp.specs.PatternTexts.{case_text}
 use Rattle.i_regexp.proofs.pattern.SchemaPattern.is_found_in.Goals as goal
 

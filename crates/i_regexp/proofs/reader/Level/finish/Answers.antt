@@ -1,6 +1,6 @@
 use Rattle.std.proofs.Common.{sym, subst}
-use Rattle.i_regexp.specs.Building.{AllMean}
-use Rattle.i_regexp.proofs.Building.{ok_as}
+use Rattle.marked_regexp.specs.Building.{AllMean}
+use Rattle.marked_regexp.proofs.Callers.{ok_as}
 use Rattle.i_regexp.proofs.Levels.{finished}
 use Rattle.i_regexp.proofs.reader.Level.finish.Goals as goal
 

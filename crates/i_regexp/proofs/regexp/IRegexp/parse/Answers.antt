@@ -2,13 +2,9 @@ use Rattle.std.proofs.Common.{◌∙◌, refl, subst}
 use Rattle.std.specs.Str.{chars}
 use Rattle.i_regexp.specs.Grammar.{IsText}
 use Rattle.i_regexp.specs.Reading.{Refused}
-use Rattle.i_regexp.proofs.Kept.{kept_to}
 use Rattle.i_regexp.proofs.Reading.{one_reading}
 use Rattle.i_regexp.proofs.Refusing.{refused_at_once}
 use Rattle.i_regexp.proofs.regexp.IRegexp.parse.Goals as goal
-
-pub invariant_of-result : goal.invariant_of-result
-invariant_of-result c = record { kept = kept_to c.in-Ok-read.root c.in-Ok-read.ensures.2.kept }
 
 pub returns-in-Ok-read : goal.returns-in-Ok-read
 returns-in-Ok-read c =

@@ -1,6 +1,0 @@
-use Rattle.std.proofs.Common.{refl}
-use Rattle.i_regexp.proofs.Building.{means_up_to}
-use Rattle.i_regexp.proofs.build.up_to.Goals as goal
-
-pub returns : goal.returns
-returns c = λ f same. means_up_to _ _ f c.args.most same refl refl refl

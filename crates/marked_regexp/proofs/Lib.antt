@@ -1,0 +1,5 @@
+pub mod Marking
+pub mod Running
+pub mod Kept
+pub mod Building
+pub mod Callers

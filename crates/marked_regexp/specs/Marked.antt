@@ -1,0 +1,168 @@
+-- The marked tree of a regular expression; for private contracts.
+use Rattle.std.specs.Prelude.{not, ◌≡◌, ℕ, zero, suc, nat_le, Bool, true, false, ◌&&◌, ◌||◌, cond, List, [], ◌∷◌, ◌++◌}
+use Rattle.std.specs.Prelude.{Option, Some, None, is_some, ◌⊎◌}
+use Rattle.marked_regexp.specs.declared.class.Class.{Class as ClassOf}
+use Rattle.marked_regexp.specs.declared.class.Item.{Item}
+use Rattle.marked_regexp.specs.declared.marked.Node.{Node}
+use Rattle.marked_regexp.specs.declared.marked.Node.TheVariants.{Empty, Class, Concat', Alternation', Star', UpTo}
+use Rattle.marked_regexp.specs.Forms.{Form, empty, class, concat, alternation, repetition, is_in_class, Matches}
+
+-- the regular expression of the tree
+abbrev pub tree_form : Node → Form
+tree_form Empty = empty
+tree_form (Class cl mark) = class cl.negated cl.items.items
+tree_form (Concat' p l q r le re ends m) = concat (tree_form l) (tree_form r)
+tree_form (Alternation' p l q r) = alternation (tree_form l) (tree_form r)
+tree_form (Star' p b ends) = repetition (tree_form b) 0 None
+tree_form (UpTo cl most left) = repetition (class cl.negated cl.items.items) 0 (Some most)
+
+-- it matches only the empty text
+abbrev pub is_empty : Node → Bool
+is_empty Empty = true
+is_empty (Class cl mark) = false
+is_empty (Concat' p l q r le re ends m) = false
+is_empty (Alternation' p l q r) = false
+is_empty (Star' p b ends) = false
+is_empty (UpTo cl most left) = false
+
+-- it matches the empty text
+abbrev pub skips : Node → Bool
+skips Empty = true
+skips (Class cl mark) = false
+skips (Concat' p l q r le re ends m) = skips l && skips r
+skips (Alternation' p l q r) = skips l || skips r
+skips (Star' p b ends) = true
+skips (UpTo cl most left) = true
+
+-- a text can end where the marks are
+abbrev pub ends_here : Node → Bool
+ends_here Empty = false
+ends_here (Class cl mark) = mark
+ends_here (Concat' p l q r le re ends m) = ends_here r || (ends_here l && re)
+ends_here (Alternation' p l q r) = ends_here l || ends_here r
+ends_here (Star' p b ends) = ends_here b
+ends_here (UpTo cl most left) = is_some left
+
+-- the tree has a mark, by the flags that it keeps
+abbrev pub is_marked : Node → Bool
+is_marked Empty = false
+is_marked (Class cl mark) = mark
+is_marked (Concat' p l q r le re ends m) = m
+is_marked (Alternation' p l q r) = is_marked l || is_marked r
+is_marked (Star' p b ends) = is_marked b
+is_marked (UpTo cl most left) = is_some left
+
+-- a count, if there is one, is at most so much
+abbrev pub is_within : Option ℕ → ℕ → Bool
+is_within None most = true
+is_within (Some n) most = nat_le n most
+
+-- the flags that the tree keeps are right
+abbrev pub IsKept : Node → Type 0
+IsKept Empty = Unit {0}
+IsKept (Class cl mark) = Unit {0}
+IsKept (Concat' p l q r le re ends m) =
+    (le ≡ skips l) × (re ≡ skips r) × (ends ≡ ends_here l) × IsKept l × IsKept r × (m ≡ (is_marked l || is_marked r))
+IsKept (Alternation' p l q r) = IsKept l × IsKept r
+IsKept (Star' p b ends) = (ends ≡ ends_here b) × IsKept b
+IsKept (UpTo cl most left) = is_within left most ≡ true
+
+-- The second tree is a copy of the first.
+pub record IsCopy (n m : Node) : Type 0 where
+  pub form : tree_form m ≡ tree_form n
+  pub skipped : skips m ≡ skips n
+  pub ended : ends_here m ≡ ends_here n
+  pub marked : is_marked m ≡ is_marked n
+  pub kept : IsKept n → IsKept m
+
+-- the list is empty
+abbrev pub has_none : List Item → Bool
+has_none [] = true
+has_none (i ∷ is) = false
+
+-- it is a class that has each character
+abbrev pub is_each : Node → Bool
+is_each Empty = false
+is_each (Class cl mark) = cl.negated && has_none cl.items.items
+is_each (Concat' p l q r le re ends m) = false
+is_each (Alternation' p l q r) = false
+is_each (Star' p b ends) = false
+is_each (UpTo cl most left) = false
+
+-- it is a repetition of such a class, which matches each text
+abbrev pub is_any : Node → Bool
+is_any Empty = false
+is_any (Class cl mark) = false
+is_any (Concat' p l q r le re ends m) = false
+is_any (Alternation' p l q r) = false
+is_any (Star' p b ends) = is_each b
+is_any (UpTo cl most left) = false
+
+-- what matches each text is next, or has begun
+abbrev pub is_settled : Node → Bool
+is_settled Empty = false
+is_settled (Class cl mark) = false
+is_settled (Concat' p l q r le re ends m) = is_settled r || (ends && is_any r)
+is_settled (Alternation' p l q r) = is_settled l || is_settled r
+is_settled (Star' p b ends) = ends && is_each b
+is_settled (UpTo cl most left) = false
+
+-- from some mark on the regular expression matches the text
+abbrev pub Continues : Node → List ℕ → Type 0
+Continues Empty ds = ⊥
+Continues (Class cl mark) ds = (mark ≡ true) × (ds ≡ [])
+Continues (Concat' p l q r le re ends m) ds =
+    Continues r ds ⊎ ((xs : List ℕ) × (ys : List ℕ) × (ds ≡ xs ++ ys) × Continues l xs × Matches (tree_form r) ys)
+Continues (Alternation' p l q r) ds = Continues l ds ⊎ Continues r ds
+Continues (Star' p b ends) ds =
+    (xs : List ℕ) × (ys : List ℕ) × (ds ≡ xs ++ ys) × Continues b xs × Matches (repetition (tree_form b) 0 None) ys
+Continues (UpTo cl most left) ds =
+    (n : ℕ) × (left ≡ Some n) × Matches (repetition (class cl.negated cl.items.items) 0 (Some n)) ds
+
+-- one less; none of zero
+abbrev pub less_one : ℕ → Option ℕ
+less_one zero = None
+less_one (suc n) = Some n
+
+-- how many characters of the class may follow one, if that count may begin with it
+abbrev pub fewer : ClassOf → Option ℕ → ℕ → Option ℕ
+fewer cl None c = None
+fewer cl (Some n) c = cond (is_in_class cl.negated cl.items.items c) (less_one n) None
+
+-- the tree with its marks moved over a character; with `start` a text may begin with it
+abbrev pub shifted : Bool → ℕ → Node → Node
+shifted start c Empty = Empty
+shifted start c (Class cl mark) = Class cl (start && is_in_class cl.negated cl.items.items c)
+shifted start c (Concat' p l q r le re ends m) =
+    Concat' p (shifted start c l) q (shifted (ends || (start && le)) c r) le re (ends_here (shifted start c l))
+    (is_marked (shifted start c l) || is_marked (shifted (ends || (start && le)) c r))
+shifted start c (Alternation' p l q r) = Alternation' p (shifted start c l) q (shifted start c r)
+shifted start c (Star' p b ends) = Star' p (shifted (start || ends) c b) (ends_here (shifted (start || ends) c b))
+shifted start c (UpTo cl most left) = UpTo cl most (fewer cl (cond start (Some most) left) c)
+
+-- the tree without marks
+abbrev pub cleared : Node → Node
+cleared Empty = Empty
+cleared (Class cl mark) = Class cl false
+cleared (Concat' p l q r le re ends m) = Concat' p (cleared l) q (cleared r) le re false false
+cleared (Alternation' p l q r) = Alternation' p (cleared l) q (cleared r)
+cleared (Star' p b ends) = Star' p (cleared b) false
+cleared (UpTo cl most left) = UpTo cl most None
+
+-- ---- the same as tests
+
+-- both are equal
+abbrev pub same_bool : Bool → Bool → Bool
+same_bool true b = b
+same_bool false b = not b
+
+-- the flags that the tree keeps are right
+abbrev pub is_kept : Node → Bool
+is_kept Empty = true
+is_kept (Class cl mark) = true
+is_kept (Concat' p l q r le re ends m) =
+    same_bool le (skips l) && (same_bool re (skips r) && (same_bool ends (ends_here l)
+    && (is_kept l && (is_kept r && same_bool m (is_marked l || is_marked r)))))
+is_kept (Alternation' p l q r) = is_kept l && is_kept r
+is_kept (Star' p b ends) = same_bool ends (ends_here b) && is_kept b
+is_kept (UpTo cl most left) = is_within left most

@@ -1,0 +1,60 @@
+//! A regular expression, and the texts that it matches.
+ghost use Rattle.std.specs.Prelude.{◌≡◌, ◌↔◌, IsTrue, true, false};
+ghost use Rattle.std.specs.Str.{chars};
+ghost use Rattle.marked_regexp.specs.Forms.{Matches, Searches};
+ghost use Rattle.marked_regexp.specs.Marked.{is_kept, is_marked};
+
+use crate::marked::Node;
+use crate::run::{matches_part, matches_whole};
+
+/// A regular expression as a tree. Matching borrows it mutably, for marks that move over the text.
+/// They are removed at the end.
+///
+/// ```
+/// let a = Expression::one_of(Class::single(alloc, Item::Range('a', 'a'))?);
+/// let mut few = a.repeat(alloc, 1, Some(2))?;
+/// assert!(rt; few.matches("aa"));
+/// assert!(rt; !few.matches("aaa"));
+/// ```
+#[derive(Drop)]
+pub struct Expression {
+    pub(crate) root: Node,
+    ghost kept: { is_kept root ≡ true },
+    ghost unmarked: { is_marked root ≡ false },
+}
+
+impl Expression {
+    ghost use Rattle.marked_regexp.specs.Building.{form_of};
+
+    /// Whether it matches the whole text. The time is at most proportional to the product of the
+    /// sizes of the tree and the text. It takes no memory.
+    ///
+    /// ```
+    /// let mut digit = Expression::one_of(Class::single(alloc, Item::Range('0', '9'))?);
+    /// assert!(rt; digit.matches("7"));
+    /// ```
+    pub fn matches(&mut self, text: &str) -> bool
+        ensures matched { IsTrue result ↔ Matches (form_of self.old) (chars text.now) }
+        ensures same { form_of self.new ≡ form_of self.old }
+    {
+        let found = matches_whole(&mut self.root, text);
+        self.root.clear();
+        found
+    }
+
+    /// Whether it matches a part of the text: some consecutive characters, or none. Time and memory
+    /// are those of `matches`.
+    ///
+    /// ```
+    /// let mut digit = Expression::one_of(Class::single(alloc, Item::Range('0', '9'))?);
+    /// assert!(rt; digit.searches("in 7 days"));
+    /// ```
+    pub fn searches(&mut self, text: &str) -> bool
+        ensures matched { IsTrue result ↔ Searches (form_of self.old) (chars text.now) }
+        ensures same { form_of self.new ≡ form_of self.old }
+    {
+        let found = matches_part(&mut self.root, text);
+        self.root.clear();
+        found
+    }
+}

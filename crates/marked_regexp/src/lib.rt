@@ -1,0 +1,18 @@
+//! Regular expressions that are built from smaller ones, and matched against texts. Each is a tree
+//! with marks, which move over the characters of a text.
+//!
+//! ```
+//! let digit = Expression::one_of(Class::single(alloc, Item::Range('0', '9'))?);
+//! let mut year = digit.repeat(alloc, 4, Some(4))?;
+//! let is_year = year.matches("2026");
+//! ```
+#![tactic(auto)]
+
+mod build;
+mod class;
+mod expression;
+mod marked;
+mod run;
+
+pub use class::{Class, Item};
+pub use expression::Expression;

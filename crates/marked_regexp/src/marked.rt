@@ -1,0 +1,248 @@
+//! The tree of a regular expression, with marks where the text read so far can end.
+ghost use Rattle.std.specs.Prelude.{◌≡◌, IfOk};
+ghost use Rattle.marked_regexp.specs.Marked.{IsKept, shifted, cleared, skips, is_marked, ends_here};
+ghost use Rattle.marked_regexp.specs.Marked.{is_empty, is_each, is_any, is_settled, fewer, IsCopy};
+
+use crate::class::Class;
+use std::alloc::{AllocError, Global};
+
+/// A regular expression. A class is marked if the text read so far can end with a character of it.
+/// The next character then has to follow in the regular expression.
+#[derive(Drop)]
+pub(crate) enum Node {
+    Empty,
+    Class {
+        class: Class,
+        mark: bool,
+    },
+    Concat {
+        left: Box<Node>,
+        right: Box<Node>,
+        // whether each part matches the empty text, and whether the left part can end here
+        left_empty: bool,
+        right_empty: bool,
+        left_ends: bool,
+        // whether either part has a mark
+        marked: bool,
+    },
+    Alternation {
+        left: Box<Node>,
+        right: Box<Node>,
+    },
+    Star {
+        body: Box<Node>,
+        // whether the body can end here
+        body_ends: bool,
+    },
+    // up to `most` characters of the class
+    UpTo {
+        class: Class,
+        most: usize,
+        // how many more may follow, if this is marked
+        left: Option<usize>,
+    },
+}
+
+impl Node {
+    /// Whether it is the tree that matches only the empty text.
+    pub(crate) fn is_empty(&self) -> bool
+        ensures { result ≡ is_empty self.now }
+    {
+        matches!(self, Node::Empty)
+    }
+
+    /// A copy of the tree.
+    pub(crate) fn copy(&self, alloc: Global) -> Result<Node, AllocError>
+        ensures { IfOk result (λ n. IsCopy self.now n) }
+    {
+        match self {
+            Node::Empty => Ok(Node::Empty),
+            Node::Class { class, mark } => Ok(Node::Class {
+                class: class.copy(alloc)?,
+                mark: *mark,
+            }),
+            Node::Concat {
+                left,
+                right,
+                left_empty,
+                right_empty,
+                left_ends,
+                marked,
+            } => Ok(Node::Concat {
+                left: Box::new(alloc, left.copy(alloc)?)?,
+                right: Box::new(alloc, right.copy(alloc)?)?,
+                left_empty: *left_empty,
+                right_empty: *right_empty,
+                left_ends: *left_ends,
+                marked: *marked,
+            }),
+            Node::Alternation { left, right } => Ok(Node::Alternation {
+                left: Box::new(alloc, left.copy(alloc)?)?,
+                right: Box::new(alloc, right.copy(alloc)?)?,
+            }),
+            Node::Star { body, body_ends } => Ok(Node::Star {
+                body: Box::new(alloc, body.copy(alloc)?)?,
+                body_ends: *body_ends,
+            }),
+            Node::UpTo { class, most, left } => Ok(Node::UpTo {
+                class: class.copy(alloc)?,
+                most: *most,
+                left: *left,
+            }),
+        }
+    }
+
+    /// Whether it matches the empty text.
+    pub(crate) fn skips(&self) -> bool
+        ensures { result ≡ skips self.now }
+    {
+        match self {
+            Node::Empty => true,
+            Node::Class { .. } => false,
+            Node::Concat { left, right, .. } => left.skips() && right.skips(),
+            Node::Alternation { left, right } => left.skips() || right.skips(),
+            Node::Star { .. } | Node::UpTo { .. } => true,
+        }
+    }
+
+    /// Whether it has a mark.
+    pub(crate) fn is_marked(&self) -> bool
+        ensures { result ≡ is_marked self.now }
+    {
+        match self {
+            Node::Empty => false,
+            Node::Class { mark, .. } => *mark,
+            Node::Concat { marked, .. } => *marked,
+            Node::Alternation { left, right } => left.is_marked() || right.is_marked(),
+            Node::Star { body, .. } => body.is_marked(),
+            Node::UpTo { left, .. } => left.is_some(),
+        }
+    }
+
+    /// Whether this is a class that has each character.
+    fn is_each(&self) -> bool
+        ensures { result ≡ is_each self.now }
+    {
+        match self {
+            Node::Class { class, .. } => class.negated && class.items.is_empty(),
+            _ => false,
+        }
+    }
+
+    /// Whether this matches each text, as what is behind a branch that need not end with the text.
+    fn is_any(&self) -> bool
+        ensures { result ≡ is_any self.now }
+    {
+        match self {
+            Node::Star { body, .. } => body.is_each(),
+            _ => false,
+        }
+    }
+
+    /// Whether the marks are so that the text is matched whatever follows.
+    pub(crate) fn is_settled(&self) -> bool
+        ensures { result ≡ is_settled self.now }
+    {
+        match self {
+            Node::Empty | Node::Class { .. } | Node::UpTo { .. } => false,
+            Node::Concat {
+                right,
+                left_ends,
+                ..
+            } => { right.is_settled() || (*left_ends && right.is_any()) }
+            Node::Alternation { left, right } => left.is_settled() || right.is_settled(),
+            Node::Star { body, body_ends } => *body_ends && body.is_each(),
+        }
+    }
+
+    /// Removes all marks.
+    pub(crate) fn clear(&mut self)
+        ensures { self.new ≡ cleared self.old }
+    {
+        match self {
+            Node::Empty => {}
+            Node::Class { mark, .. } => *mark = false,
+            Node::Concat {
+                left,
+                right,
+                left_ends,
+                marked,
+                ..
+            } => {
+                left.clear();
+                right.clear();
+                *left_ends = false;
+                *marked = false;
+            }
+            Node::Alternation { left, right } => {
+                left.clear();
+                right.clear();
+            }
+            Node::Star { body, body_ends } => {
+                body.clear();
+                *body_ends = false;
+            }
+            Node::UpTo { left, .. } => *left = None,
+        }
+    }
+
+    /// Moves the marks over a character, each to the classes that may follow. With `start`, the
+    /// text may also begin with this character. Returns whether the text can end after it, and
+    /// whether there is a mark.
+    pub(crate) fn shift(&mut self, start: bool, c: char) -> (bool, bool)
+        requires { IsKept self.old }
+        ensures marks { self.new ≡ shifted start c self.old }
+        ensures ends { result.0 ≡ ends_here self.new }
+        ensures marked { result.1 ≡ is_marked self.new }
+    {
+        match self {
+            Node::Empty => (false, false),
+            Node::Class { class, mark } => {
+                *mark = start && class.contains(c);
+                (*mark, *mark)
+            }
+            Node::Concat {
+                left,
+                right,
+                left_empty,
+                right_empty,
+                left_ends,
+                marked,
+            } => {
+                if !(start | *marked) {
+                    return (false, false);
+                }
+                let enters = *left_ends | (start & *left_empty);
+                let (ends, left_marked) = left.shift(start, c);
+                *left_ends = ends;
+                let (found, right_marked) = right.shift(enters, c);
+                *marked = left_marked | right_marked;
+                (found | (ends & *right_empty), *marked)
+            }
+            Node::Alternation { left, right } => {
+                let (left_ends, left_marked) = left.shift(start, c);
+                let (right_ends, right_marked) = right.shift(start, c);
+                (left_ends | right_ends, left_marked | right_marked)
+            }
+            Node::Star { body, body_ends } => {
+                let (ends, marked) = body.shift(start | *body_ends, c);
+                *body_ends = ends;
+                (ends, marked)
+            }
+            Node::UpTo { class, most, left } => {
+                *left = fewer(class, if start { Some(*most) } else { *left }, c);
+                (left.is_some(), left.is_some())
+            }
+        }
+    }
+}
+
+/// How many characters of the class may follow `c`, if `count` of them may begin with it.
+fn fewer(class: &Class, count: Option<usize>, c: char) -> Option<usize>
+    ensures { result ≡ fewer class.now count c }
+{
+    match count {
+        Some(count) if class.contains(c) => count.checked_sub(1),
+        _ => None,
+    }
+}

@@ -1,0 +1,110 @@
+//! The examples of `marked_regexp`, to the letter.
+
+use marked_regexp::{Class, Expression, Item};
+use std::test::Fail;
+
+#[test]
+fn years(rt: HostRuntime) -> Result<(), Fail> {
+    let alloc = rt.alloc();
+    let digit = Expression::one_of(Class::single(alloc, Item::Range('0', '9'))?);
+    let mut year = digit.repeat(alloc, 4, Some(4))?;
+    let is_year = year.matches("2026");
+    assert!(rt; is_year);
+    Ok(())
+}
+
+#[test]
+fn a_digit(rt: HostRuntime) -> Result<(), Fail> {
+    let alloc = rt.alloc();
+    let mut digit = Expression::one_of(Class::single(alloc, Item::Range('0', '9'))?);
+    assert!(rt; digit.matches("7"));
+    Ok(())
+}
+
+#[test]
+fn a_digit_in_a_text(rt: HostRuntime) -> Result<(), Fail> {
+    let alloc = rt.alloc();
+    let mut digit = Expression::one_of(Class::single(alloc, Item::Range('0', '9'))?);
+    assert!(rt; digit.searches("in 7 days"));
+    Ok(())
+}
+
+#[test]
+fn all_but_some_letters(rt: HostRuntime) -> Result<(), Fail> {
+    let alloc = rt.alloc();
+    let mut items = Vec::new(alloc);
+    items.push(Item::Range('a', 'z'))?;
+    let mut other = Expression::one_of(Class {
+        negated: true,
+        items,
+    });
+    assert!(rt; other.matches("A"));
+    Ok(())
+}
+
+#[test]
+fn a_class_of_one_item(rt: HostRuntime) -> Result<(), Fail> {
+    let alloc = rt.alloc();
+    let class = Class::single(alloc, Item::Range('a', 'z'))?;
+    assert!(rt; !class.negated);
+    Ok(())
+}
+
+#[test]
+fn the_empty_text(rt: HostRuntime) -> Result<(), Fail> {
+    let mut nothing = Expression::empty();
+    assert!(rt; nothing.matches(""));
+    assert!(rt; !nothing.matches("a"));
+    Ok(())
+}
+
+#[test]
+fn a_sequence_of_two(rt: HostRuntime) -> Result<(), Fail> {
+    let alloc = rt.alloc();
+    let a = Expression::one_of(Class::single(alloc, Item::Range('a', 'a'))?);
+    let b = Expression::one_of(Class::single(alloc, Item::Range('b', 'b'))?);
+    let mut both = Expression::concat(alloc, a, b)?;
+    assert!(rt; both.matches("ab"));
+    Ok(())
+}
+
+#[test]
+fn repetitions(rt: HostRuntime) -> Result<(), Fail> {
+    let alloc = rt.alloc();
+    let a = Expression::one_of(Class::single(alloc, Item::Range('a', 'a'))?);
+    let mut many = Expression::star(alloc, a)?;
+    assert!(rt; many.matches("aaa"));
+    Ok(())
+}
+
+#[test]
+fn few_repetitions(rt: HostRuntime) -> Result<(), Fail> {
+    let alloc = rt.alloc();
+    let a = Expression::one_of(Class::single(alloc, Item::Range('a', 'a'))?);
+    let mut few = a.repeat(alloc, 1, Some(2))?;
+    assert!(rt; few.matches("aa"));
+    assert!(rt; !few.matches("aaa"));
+    Ok(())
+}
+
+#[test]
+fn a_sequence(rt: HostRuntime) -> Result<(), Fail> {
+    let alloc = rt.alloc();
+    let mut parts = Vec::new(alloc);
+    parts.push(Expression::one_of(Class::single(alloc, Item::Range('a', 'a'))?))?;
+    parts.push(Expression::one_of(Class::single(alloc, Item::Range('b', 'b'))?))?;
+    let mut all = Expression::sequence_of(alloc, parts)?;
+    assert!(rt; all.matches("ab"));
+    Ok(())
+}
+
+#[test]
+fn a_choice(rt: HostRuntime) -> Result<(), Fail> {
+    let alloc = rt.alloc();
+    let mut branches = Vec::new(alloc);
+    branches.push(Expression::one_of(Class::single(alloc, Item::Range('a', 'a'))?))?;
+    branches.push(Expression::one_of(Class::single(alloc, Item::Range('b', 'b'))?))?;
+    let mut any = Expression::choice_of(alloc, branches)?;
+    assert!(rt; any.matches("b"));
+    Ok(())
+}
