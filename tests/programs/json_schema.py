@@ -867,6 +867,11 @@ FORMATS = [
     ("ipv6", ["::1", "::", "1:d6::42", "::ffff:192.168.0.1", "a:b:c:d:e:f:0:1"], ["12345::", "1:1:1:1:1:1:1:1:1", "1::d6::42", ":2:3:4:5:6:7:8", "::1%eth0", "::laptop"]),
     ("uri", ["http://foo.bar/?baz=qux#quuz", "urn:oasis:names:specification:docbook:dtd:xml:4.1.2", "ftp://[2001:db8::7]/c"], ["//foo.bar/?baz=qux#quuz", "/abc", "http:// shouldfail.com", "bar,baz:a b", "http://a/%"]),
     ("uri-reference", ["/abc", "#fragment", "//foo.bar/?baz=qux#quuz", "", "http://a/b"], ["\\\\WINDOWS\\fileshare", "#frag\\ment", "1:a"]),
+    # RFC 6570: examples of 1.2 and 3.2, and the grammar of 2.
+    ("uri-template", ["http://example.com/dictionary/{term:1}/{term}", "dictionary", "", "http://www.example.com/foo{?query,number}", "{+path:6}/here", "X{.list*}",
+                      "{;keys*}{&x,y}{#x,hello,y}{/var:1,var}", "{!a}{|b}{=c}{@d}{,e}", "{a.b_1.%41}", "{a:9999}", "%20~\u00e9\u20ac\U0001f600"],
+     ["http://example.com/dictionary/{term:1}/{term", "{", "}", "{}", "{?}", "{a}}", "{{a}}", "{a:0}", "{a:10000}", "{a:}", "{a*b}", "{a:1*}", "{a..b}", "{.}", "{a,}", "{a b}",
+      "{\u00e9}", "{a%4}", "a b", "%2", "%zz", "a\"b", "'", "<a>", "a\\b", "^", "`", "|", "\u007f", "\u0080", "\ufdd0", "\ufff0", "\U0001ffff", "\U000e0001"]),
     ("uuid", ["2EB8AA08-aa98-11EA-B4Aa-73B441D16380", "00000000-0000-0000-0000-000000000000"], ["2eb8aa08-aa98-11ea-b4aa-73b441d1638", "2eb8aa08aa9811eab4aa73b441d16380", "2eb8aa08-aa98-11ea-b4ga-73b441d16380"]),
     ("json-pointer", ["", "/foo/bar~0/baz~1/%a", "//", "/ "], ["/foo/bar~", "#", "a", "/~2", "0/a"]),
     ("relative-json-pointer", ["1", "0/foo/bar", "0#", "120/foo/bar"], ["/foo/bar", "-1/foo/bar", "01/a", "0##", "", "+1/a"]),

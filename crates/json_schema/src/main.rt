@@ -116,7 +116,8 @@ Options:
                     each *.json file below a folder: -r FOLDER
   -f, --assert-format  assert \"format\" of strings: date, time, date-time,
                     duration, email, hostname, ipv4, ipv6, uri, uri-reference,
-                    uuid, json-pointer, relative-json-pointer; report others
+                    uri-template, uuid, json-pointer, relative-json-pointer;
+                    report others
   -h, --help        print this page
   -V, --version     print the version
 

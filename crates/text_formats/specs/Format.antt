@@ -9,6 +9,7 @@ use Rattle.text_formats.specs.Form.{is_uuid}
 use Rattle.text_formats.specs.Host.{is_hostname}
 use Rattle.text_formats.specs.Ip.{is_ipv4, is_ipv6}
 use Rattle.text_formats.specs.Pointer.{is_pointer, is_relative_pointer}
+use Rattle.text_formats.specs.Template.{is_template}
 use Rattle.text_formats.specs.Uri.{is_uri, is_reference}
 use Rattle.text_formats.specs.declared.format.Format.{Format}
 use Rattle.text_formats.specs.declared.format.Format.TheVariants as at
@@ -24,6 +25,7 @@ name at.Ipv4 = codes "ipv4"
 name at.Ipv6 = codes "ipv6"
 name at.Uri = codes "uri"
 name at.UriReference = codes "uri-reference"
+name at.UriTemplate = codes "uri-template"
 name at.Uuid = codes "uuid"
 name at.JsonPointer = codes "json-pointer"
 name at.RelativeJsonPointer = codes "relative-json-pointer"
@@ -39,13 +41,14 @@ accepts at.Ipv4 = is_ipv4
 accepts at.Ipv6 = is_ipv6
 accepts at.Uri = is_uri
 accepts at.UriReference = is_reference
+accepts at.UriTemplate = is_template
 accepts at.Uuid = is_uuid
 accepts at.JsonPointer = is_pointer
 accepts at.RelativeJsonPointer = is_relative_pointer
 
 abbrev pub formats : List Format
 formats = at.DateTime ∷ at.Date ∷ at.Time ∷ at.Duration ∷ at.Email ∷ at.Hostname ∷ at.Ipv4 ∷ at.Ipv6 ∷ at.Uri ∷ at.UriReference
-    ∷ at.Uuid ∷ at.JsonPointer ∷ at.RelativeJsonPointer ∷ []
+    ∷ at.UriTemplate ∷ at.Uuid ∷ at.JsonPointer ∷ at.RelativeJsonPointer ∷ []
 
 -- the format of the name
 abbrev pub format_named : List ℕ → Option Format

@@ -33,6 +33,15 @@ is_dot c = c == 46
 abbrev pub is_bracket_end : ℕ → Bool
 is_bracket_end c = c == 93
 
+abbrev pub is_brace : ℕ → Bool
+is_brace c = c == 123
+
+abbrev pub is_brace_end : ℕ → Bool
+is_brace_end c = c == 125
+
+abbrev pub is_modifier : ℕ → Bool
+is_modifier c = (c == 58) || (c == 42)
+
 -- `unreserved` and `sub-delims` of RFC 3986, section 2
 abbrev pub is_unreserved : ℕ → Bool
 is_unreserved c = is_ascii_alphanumeric c || is_among (codes "-._~") c

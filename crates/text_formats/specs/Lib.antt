@@ -9,4 +9,5 @@ pub mod Host
 pub mod Ip
 pub mod Email
 pub mod Uri
+pub mod Template
 pub mod Format

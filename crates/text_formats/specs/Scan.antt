@@ -1,8 +1,9 @@
 -- For private contracts.
 use Rattle.std.specs.Prelude.{ℕ, Bool, ◌||◌, ◌==◌, List, codes}
 use Rattle.std.specs.Char.{is_ascii_digit, is_ascii_hexdigit}
-use Rattle.text_formats.specs.Letters.{is_not_digit, is_at_sign, is_colon, is_dot, is_bracket_end}
+use Rattle.text_formats.specs.Letters.{is_not_digit, is_at_sign, is_colon, is_dot, is_bracket_end, is_brace, is_brace_end, is_modifier}
 use Rattle.text_formats.specs.Letters.{is_uri_letter, is_label_letter, is_atom_letter, is_pointer_letter, is_unreserved, is_sub_delimiter}
+use Rattle.text_formats.specs.Template.{is_literal, is_name_letter}
 use Rattle.uri_reference.specs.Parts.{ends_path, ends_authority, ends_scheme, is_scheme_letter}
 use Rattle.uri_reference.specs.Letters.{is_number_sign}
 use Rattle.text_formats.specs.declared.letters.End.{End}
@@ -21,6 +22,9 @@ ends at.Scheme = ends_scheme
 ends at.Authority = ends_authority
 ends at.Path = ends_path
 ends at.Query = is_number_sign
+ends at.Brace = is_brace
+ends at.Expression = is_brace_end
+ends at.Name = is_modifier
 
 -- the letters of the kind
 abbrev pub passes : Letters → ℕ → List ℕ → Bool
@@ -35,3 +39,5 @@ passes of.User c cs = is_uri_letter (codes ":") c cs
 passes of.Path c cs = is_uri_letter (codes ":@/") c cs
 passes of.Query c cs = is_uri_letter (codes ":@/?") c cs
 passes of.Future c cs = is_unreserved c || (is_sub_delimiter c || (c == 58))
+passes of.Literal c cs = is_literal c cs
+passes of.Name c cs = is_name_letter c cs

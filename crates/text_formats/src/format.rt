@@ -9,6 +9,7 @@ use crate::form::is_uuid;
 use crate::host::is_hostname;
 use crate::ip::{is_ipv4, is_ipv6};
 use crate::pointer::{is_json_pointer, is_relative_json_pointer};
+use crate::template::is_uri_template;
 use crate::uri::{is_uri, is_uri_reference};
 
 /// A format that this library checks.
@@ -38,6 +39,8 @@ pub enum Format {
     Uri,
     /// A URI or a relative reference (RFC 3986).
     UriReference,
+    /// A URI template (RFC 6570).
+    UriTemplate,
     /// A UUID (RFC 4122).
     Uuid,
     /// A JSON Pointer (RFC 6901).
@@ -67,6 +70,7 @@ impl Format {
             "ipv6" => Some(Format::Ipv6),
             "uri" => Some(Format::Uri),
             "uri-reference" => Some(Format::UriReference),
+            "uri-template" => Some(Format::UriTemplate),
             "uuid" => Some(Format::Uuid),
             "json-pointer" => Some(Format::JsonPointer),
             "relative-json-pointer" => Some(Format::RelativeJsonPointer),
@@ -93,6 +97,7 @@ impl Format {
             Format::Ipv6 => "ipv6",
             Format::Uri => "uri",
             Format::UriReference => "uri-reference",
+            Format::UriTemplate => "uri-template",
             Format::Uuid => "uuid",
             Format::JsonPointer => "json-pointer",
             Format::RelativeJsonPointer => "relative-json-pointer",
@@ -118,6 +123,7 @@ impl Format {
             Format::Ipv6 => is_ipv6(text),
             Format::Uri => is_uri(text),
             Format::UriReference => is_uri_reference(text),
+            Format::UriTemplate => is_uri_template(text),
             Format::Uuid => is_uuid(text),
             Format::JsonPointer => is_json_pointer(text),
             Format::RelativeJsonPointer => is_relative_json_pointer(text),

@@ -4,6 +4,7 @@ ghost use Rattle.text_formats.specs.Letters.{each, is_unreserved, is_sub_delimit
 ghost use Rattle.text_formats.specs.Letters.{is_uri_letter, is_label_letter, is_atom_letter, is_pointer_letter};
 ghost use Rattle.text_formats.specs.Letters.{is_among};
 ghost use Rattle.text_formats.specs.Scan.{ends, passes};
+ghost use Rattle.text_formats.specs.Template.{is_literal, is_name_letter};
 ghost use Rattle.uri_reference.specs.Letters.{before, from};
 ghost use Rattle.uri_reference.specs.Parts.{is_scheme_letter};
 
@@ -19,6 +20,9 @@ pub(crate) enum End {
     Authority,
     Path,
     Query,
+    Brace,
+    Expression,
+    Name,
 }
 
 /// Letters of one kind.
@@ -35,6 +39,8 @@ pub(crate) enum Letters {
     Path,
     Query,
     Future,
+    Literal,
+    Name,
 }
 
 /// The part before the end, and the rest from there on.
@@ -70,6 +76,9 @@ fn ends(end: End, byte: u8) -> bool
         End::Authority => matches!(byte, b'/' | b'?' | b'#'),
         End::Path => matches!(byte, b'?' | b'#'),
         End::Query => byte == b'#',
+        End::Brace => byte == b'{',
+        End::Expression => byte == b'}',
+        End::Name => matches!(byte, b':' | b'*'),
     }
 }
 
@@ -103,6 +112,8 @@ fn passes(letters: Letters, c: u8, rest: &[u8]) -> bool
         Letters::Path => is_uri_letter(b":@/", c, rest),
         Letters::Query => is_uri_letter(b":@/?", c, rest),
         Letters::Future => is_unreserved(c) || is_sub_delimiter(c) || c == b':',
+        Letters::Literal => is_template_literal(c, rest),
+        Letters::Name => is_name_letter(c, rest),
     }
 }
 
@@ -140,6 +151,23 @@ fn is_uri_letter(others: &[u8], c: u8, rest: &[u8]) -> bool
         || (c == b'%' && begins_with_pair(rest))
 }
 
+/// Whether the letter may be outside of the expressions of a URI template, where the rest is after it.
+fn is_template_literal(c: u8, rest: &[u8]) -> bool
+    ensures { result ≡ is_literal c rest.now }
+{
+    if c == b'%' {
+        return begins_with_pair(rest);
+    }
+    c >= 128 || (matches!(c, b'!'..=b'~') && !is_among(b"\"'<>\\^`{|}", c))
+}
+
+/// Whether the letter may be in the name of a variable of a URI template, where the rest is after it.
+fn is_name_letter(c: u8, rest: &[u8]) -> bool
+    ensures { result ≡ is_name_letter c rest.now }
+{
+    c.is_ascii_alphanumeric() || c == b'_' || (c == b'%' && begins_with_pair(rest))
+}
+
 fn is_unreserved(c: u8) -> bool
     ensures { result ≡ is_unreserved c }
 {
@@ -161,7 +189,7 @@ fn begins_with_pair(text: &[u8]) -> bool
     }
 }
 
-fn is_among(letters: &[u8], c: u8) -> bool
+pub(crate) fn is_among(letters: &[u8], c: u8) -> bool
     ensures { result ≡ is_among letters.now c }
 {
     letters.iter().any(|d| *d == c)

@@ -15,6 +15,7 @@ mod host;
 mod ip;
 mod letters;
 mod pointer;
+mod template;
 mod uri;
 
 pub use date::{is_date, is_date_time, is_time};
@@ -25,4 +26,5 @@ pub use format::Format;
 pub use host::is_hostname;
 pub use ip::{is_ipv4, is_ipv6};
 pub use pointer::{is_json_pointer, is_relative_json_pointer};
+pub use template::is_uri_template;
 pub use uri::{is_uri, is_uri_reference};

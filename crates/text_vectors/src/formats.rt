@@ -3,7 +3,8 @@
 use std::test::Fail;
 use text_formats::{
     Format, is_date, is_date_time, is_duration, is_email, is_hostname, is_ipv4, is_ipv6,
-    is_json_pointer, is_relative_json_pointer, is_time, is_uri, is_uri_reference, is_uuid,
+    is_json_pointer, is_relative_json_pointer, is_time, is_uri, is_uri_reference, is_uri_template,
+    is_uuid,
 };
 
 #[test]
@@ -44,6 +45,8 @@ fn the_examples(rt: HostRuntime) -> Result<(), Fail> {
     assert!(rt; !is_uri("//example.com/a"));
     assert!(rt; is_uri_reference("../a%20b#c"));
     assert!(rt; !is_uri_reference("a b"));
+    assert!(rt; is_uri_template("/dictionary/{term:1}/{term}{?page,lang*}"));
+    assert!(rt; !is_uri_template("/dictionary/{term"));
     Ok(())
 }
 

@@ -1,0 +1,12 @@
+use Rattle.std.proofs.Common.{rules, tests}
+use Rattle.std.proofs.lemmas.Iterator.Search.{all_from_yields_List}
+use Rattle.std.proofs.lemmas.Iterator.Splits.{YieldsList-from_slice_split}
+use Rattle.text_formats.specs.Letters.{is_brace}
+use Rattle.text_formats.specs.Template.{is_piece}
+use Rattle.text_formats.proofs.template.are_split_pieces.Goals as goal
+
+pub returns : goal.returns
+returns c = all_from_yields_List is_piece _ _ c.all.result c.all.ensures.ran
+    (YieldsList-from_slice_split _ is_brace c.args.text.now c.split.ensures.rest c.split.ensures.done
+    c.split.ensures.closure (λ x b q k. search (rules, tests)))
+    (λ x b q k. search (rules, tests))
