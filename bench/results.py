@@ -12,8 +12,9 @@ import pictures
 from pictures import mean
 
 HERE = pathlib.Path(__file__).resolve().parent
-# What is below this heading was written by hand, and stays.
+# What is below this heading was written by hand, and stays; the section of programs before it is written apart.
 KEPT = "\n## Measured apart\n"
+PROGRAMS = "\n## Programs\n"
 # The programs of which the page says how their time grows.
 GROWN = ("original", "jsonnorm", "documents", "values")
 
@@ -92,12 +93,18 @@ def processor():
     return platform.machine()
 
 
+def measured_at():
+    return (
+        f"{datetime.date.today():%-d %B %Y}, at {first_line(['git', 'rev-parse', '--short', 'HEAD'])},"
+        f" with {first_line(['rt', 'version'])}; {processor()}, {os.cpu_count()} processors,"
+        f" load {os.getloadavg()[0]:.1f} at the end."
+    )
+
+
 def heading(runs):
     return "\n".join(
         [
-            f"{datetime.date.today():%-d %B %Y}, at {first_line(['git', 'rev-parse', '--short', 'HEAD'])},"
-            f" with {first_line(['rt', 'version'])}; {processor()}, {os.cpu_count()} processors,"
-            f" load {os.getloadavg()[0]:.1f} at the end.",
+            measured_at(),
             "",
             f"Programs read a text and write it. Each cell has how many times as fast as the original crate's program one is"
             f" (processor time, the least of {runs} runs in turn), and its peak memory over the original's, from some 9 MB on."
@@ -144,8 +151,22 @@ def document(tables, names, runs):
     return "\n\n".join(wrapped(part) for part in parts) + "\n"
 
 
+def parts_of(page):
+    """The page as `write` wrote it, the section of programs, and what was written by hand."""
+    written, heading_kept, kept = page.partition(KEPT)
+    tables, heading_programs, rows = written.partition(PROGRAMS)
+    return tables, heading_programs + rows, heading_kept + kept
+
+
 def write(tables, names, runs):
     page = HERE / "results.md"
-    _written, heading_kept, kept = page.read_text().partition(KEPT)
-    page.write_text(document(tables, names, runs) + heading_kept + kept)
+    _tables, section, kept = parts_of(page.read_text())
+    page.write_text(document(tables, names, runs) + section + kept)
     pictures.draw(HERE)
+
+
+def write_programs(section):
+    """Puts the section of programs in the place of the one that stands."""
+    page = HERE / "results.md"
+    tables, _section, kept = parts_of(page.read_text())
+    page.write_text(f"{tables.rstrip()}\n\n{section}{kept}")
