@@ -8,9 +8,10 @@ use Rattle.tinyjson_grammar.specs.Syntax.{Syntax, Elements, Pairs, last_element,
 use Rattle.tinyjson_grammar.specs.Syntax.{pairs_text}
 use Rattle.tinyjson_grammar.specs.Syntax.{AreWhite, IsSpelled, AreElements, ArePairs, IsStrict, PairsAreStrict, is_key, tree_of}
 use Rattle.tinyjson_grammar.specs.Tree.{key_of}
-use Rattle.tinyjson_places.specs.Spots.{Spot, further, nth_spot, if_key, or_else, last_member}
+use Rattle.tinyjson_places.specs.Spots.{Spot, further, nth_spot, if_key, or_else, MemberSpot}
 use Rattle.tinyjson_places.specs.private.Scan.{after_comma, after_colon, after_commas, without_white}
 use Rattle.tinyjson_places.specs.private.Parts.{begun}
+use Rattle.tinyjson_places.specs.private.Keys.{Begun, both, begun_member, further_member, last_with}
 use Rattle.tinyjson_places.proofs.Scanning.{part_passes}
 
 pub white_off : (w xs : List ℕ) → AreWhite w → Begins xs → without_white (w ++ xs) ≡ xs
@@ -58,9 +59,9 @@ item_within (suc i) (element v s w es) h =
 
 -- ---- members
 
-abbrev pub first_of : Option (List ℕ) → Option (List ℕ) → Option (List ℕ)
-first_of (Some x) o = Some x
-first_of None o = o
+-- what begins with a member's key, and with its value, behind which is z
+abbrev pub member_begun : Syntax → List ℕ → List ℕ → Syntax → List ℕ → Begun
+member_begun k b c s z = both (text k ++ (b ++ 58 ∷ (c ++ (text s ++ z)))) (text s ++ z)
 
 -- the end of the object, or a comma and these members
 abbrev pub IsTail : List ℕ → Option Pairs → List ℕ → Type 0
@@ -84,20 +85,20 @@ pub record MemberOf (key r : List ℕ) (ps : Pairs) : Type 0 where
   pub spelled : IsSpelled value
   pub more : Option Pairs
   pub is_more : IsTail r more tail
-  pub answer : option_map (begun (125 ∷ r)) (last_member key ps)
-      ≡ first_of (option_map (begun (125 ∷ r)) (option_and_then (last_member key) more))
-      (cond (bytes_eq key (key_of (tree_of name))) (Some (text value ++ (behind_value ++ tail))) None)
+  pub answer : option_map (begun_member (125 ∷ r)) (last_with key ps)
+      ≡ or_else (option_map (begun_member (125 ∷ r)) (option_and_then (last_with key) more))
+      (if_key key name (member_begun name behind_name before_value value (behind_value ++ tail)))
 
-if_key_begun : (key r : List ℕ) (k : Syntax) (p : Spot)
-    → option_map (begun r) (if_key key k p) ≡ cond (bytes_eq key (key_of (tree_of k))) (Some (begun r p)) None
-if_key_begun key r k p = by (bytes_eq key (key_of (tree_of k)))
+if_key_begun : (key r : List ℕ) (k : Syntax) (m : MemberSpot)
+    → option_map (begun_member r) (if_key key k m) ≡ if_key key k (begun_member r m)
+if_key_begun key r k m = by (bytes_eq key (key_of (tree_of k)))
   where
-    by : (b : Bool) → option_map (begun r) (cond b (Some p) None) ≡ cond b (Some (begun r p)) None
+    by : (b : Bool) → option_map (begun_member r) (cond b (Some m) None) ≡ cond b (Some (begun_member r m)) None
     by true = refl
     by false = refl
 
-or_else_begun : (r b : List ℕ) (o q : Option Spot) → option_map (begun r) (or_else (option_map (further b) o) q)
-    ≡ first_of (option_map (begun r) o) (option_map (begun r) q)
+or_else_begun : (r b : List ℕ) (o q : Option MemberSpot) → option_map (begun_member r) (or_else (option_map (further_member b) o) q)
+    ≡ or_else (option_map (begun_member r) o) (option_map (begun_member r) q)
 or_else_begun r b (Some p) q = refl
 or_else_begun r b None q = refl
 
@@ -134,10 +135,10 @@ member_of key r (pair a k b c s d ps) h z = record {
   spelled = h.4;
   more = Some ps;
   is_more = (refl, h.6, z.3);
-  answer = or_else_begun (125 ∷ r) _ (last_member key ps) _
-      ∙ ap (first_of (option_map (begun (125 ∷ r)) (last_member key ps)))
+  answer = or_else_begun (125 ∷ r) _ (last_with key ps) _
+      ∙ ap (or_else (option_map (begun_member (125 ∷ r)) (last_with key ps)))
       (if_key_begun key (125 ∷ r) k _
-      ∙ ap (λ xs. cond (bytes_eq key (key_of (tree_of k))) (Some (text s ++ xs)) None) (append_assoc d (44 ∷ pairs_text ps) (125 ∷ r)));
+      ∙ ap (λ xs. if_key key k (member_begun k b c s xs)) (append_assoc d (44 ∷ pairs_text ps) (125 ∷ r)));
 }
 
 -- where the value begins
@@ -150,6 +151,12 @@ value_begins key r ps m = ap after_colon m.whole
 pub value_without_white : (key r : List ℕ) (ps : Pairs) (m : MemberOf key r ps)
     → without_white (m.before_value ++ (text m.value ++ (m.behind_value ++ m.tail))) ≡ text m.value ++ (m.behind_value ++ m.tail)
 value_without_white key r ps m = white_off m.before_value _ m.white.2 (begins_append (text m.value) _ (text_begins m.value m.spelled))
+
+pub key_without_white : (key r : List ℕ) (ps : Pairs) (m : MemberOf key r ps)
+    → without_white (pairs_text ps ++ 125 ∷ r)
+    ≡ text m.name ++ (m.behind_name ++ 58 ∷ (m.before_value ++ (text m.value ++ (m.behind_value ++ m.tail))))
+key_without_white key r ps m =
+    ap without_white m.whole ∙ white_off m.before _ m.white.0 (begins_append (text m.name) _ (text_begins m.name m.spelled_name))
 
 -- what follows the value's comma
 abbrev pub after_member : List ℕ → Option Pairs → Option (List ℕ)

@@ -4,4 +4,7 @@ pub mod Finding
 pub mod Members
 pub mod Parts
 pub mod Walking
+pub mod Keys
+pub mod Keyed
 pub mod Placing
+pub mod KeyPlacing

@@ -11,32 +11,33 @@ use Rattle.tinyjson_grammar.specs.Grammar.{IsText}
 use Rattle.tinyjson_grammar.specs.Syntax.{Syntax, Pairs, null, boolean, number, string, empty_array, array, empty_object, object, text}
 use Rattle.tinyjson_grammar.specs.Syntax.{pairs_text, ArePairs, PairsAreStrict, is_key, tree_of}
 use Rattle.tinyjson_grammar.specs.Tree as tree
-use Rattle.tinyjson_places.specs.Spots.{last_member}
+use Rattle.tinyjson_places.specs.Spots.{or_else, if_key}
 use Rattle.tinyjson_places.specs.declared.scan.Scan.TheVariants.{Outside}
 use Rattle.tinyjson_places.specs.private.Scan.{after_comma, after_colon, without_white}
-use Rattle.tinyjson_places.specs.private.Parts.{begun}
-use Rattle.tinyjson_places.proofs.Finding.{first_of, IsTail, MemberOf, member_of, value_begins, value_without_white}
-use Rattle.tinyjson_places.proofs.Finding.{after_member, member_passed}
+use Rattle.tinyjson_places.specs.private.Keys.{Begun, both, begun_member, last_with, without_whites}
+use Rattle.tinyjson_places.proofs.Finding.{member_begun, IsTail, MemberOf, member_of, value_begins, value_without_white}
+use Rattle.tinyjson_places.proofs.Finding.{key_without_white, after_member, member_passed}
 use Rattle.tinyjson_places.proofs.Splitting.{after_splits}
 
 -- The characters are those of some last members, behind which is r. What is found among all is found among these,
 -- or it was found before.
-pub record Left (key r : List ℕ) (all : Pairs) (found : Option (List ℕ)) (xs : List ℕ) : Type 0 where
+pub record Left (key r : List ℕ) (all : Pairs) (found : Option Begun) (xs : List ℕ) : Type 0 where
   pub pairs : Pairs
   pub are : ArePairs pairs
   pub strict : PairsAreStrict pairs
   pub left : xs ≡ pairs_text pairs ++ 125 ∷ r
-  pub answer : option_map (begun (125 ∷ r)) (last_member key all) ≡ first_of (option_map (begun (125 ∷ r)) (last_member key pairs)) found
+  pub answer : option_map (begun_member (125 ∷ r)) (last_with key all)
+      ≡ or_else (option_map (begun_member (125 ∷ r)) (last_with key pairs)) found
 
-first_none : (o : Option (List ℕ)) → first_of o None ≡ o
+first_none : (o : Option Begun) → or_else o None ≡ o
 first_none None = refl
 first_none (Some x) = refl
 
-first_assoc : (o p q : Option (List ℕ)) → first_of (first_of o p) q ≡ first_of o (first_of p q)
+first_assoc : (o p q : Option Begun) → or_else (or_else o p) q ≡ or_else o (or_else p q)
 first_assoc None p q = refl
 first_assoc (Some x) p q = refl
 
-first_if : (b : Bool) (x : List ℕ) (o : Option (List ℕ)) → first_of (cond b (Some x) None) o ≡ cond b (Some x) o
+first_if : (b : Bool) (x : Begun) (o : Option Begun) → or_else (cond b (Some x) None) o ≡ cond b (Some x) o
 first_if true x o = refl
 first_if false x o = refl
 
@@ -46,11 +47,11 @@ left_begins key r xs ps h z e = record {
   are = h;
   strict = z;
   left = e;
-  answer = sym (first_none (option_map (begun (125 ∷ r)) (last_member key ps)));
+  answer = sym (first_none (option_map (begun_member (125 ∷ r)) (last_with key ps)));
 }
 
 -- a member follows
-pub left_colon : (key r xs : List ℕ) (all : Pairs) (found : Option (List ℕ)) → Left key r all found xs → after_colon xs ≡ None → ⊥
+pub left_colon : (key r xs : List ℕ) (all : Pairs) (found : Option Begun) → Left key r all found xs → after_colon xs ≡ None → ⊥
 left_colon key r xs all found l h =
     let e = value_begins key r l.pairs (member_of key r l.pairs l.are l.strict) in
     let n : after_colon xs ≡ after_colon (pairs_text l.pairs ++ 125 ∷ r) = ap after_colon l.left in
@@ -60,7 +61,7 @@ left_colon key r xs all found l h =
     none_some ys h = cc
 
 -- what a key is
-key_tree : (k : Syntax) → IsTrue (is_key k) → tree_of k ≡ tree.string (tree.key_of (tree_of k))
+pub key_tree : (k : Syntax) → IsTrue (is_key k) → tree_of k ≡ tree.string (tree.key_of (tree_of k))
 key_tree (string ps) h = refl
 key_tree null h = cc
 key_tree (boolean b) h = cc
@@ -70,17 +71,17 @@ key_tree (array es) h = cc
 key_tree (empty_object w) h = cc
 key_tree (object ps) h = cc
 
-abbrev member_at : (key r xs : List ℕ) (all : Pairs) (found : Option (List ℕ)) (l : Left key r all found xs) → MemberOf key r l.pairs
+abbrev member_at : (key r xs : List ℕ) (all : Pairs) (found : Option Begun) (l : Left key r all found xs) → MemberOf key r l.pairs
 member_at key r xs all found l = member_of key r l.pairs l.are l.strict
 
-abbrev key_at : (key r xs : List ℕ) (all : Pairs) (found : Option (List ℕ)) → Left key r all found xs → List ℕ
+abbrev key_at : (key r xs : List ℕ) (all : Pairs) (found : Option Begun) → Left key r all found xs → List ℕ
 key_at key r xs all found l = tree.key_of (tree_of (member_at key r xs all found l).name)
 
 some_same : (xs ys : List ℕ) → Some xs ≡ Some ys → xs ≡ ys
 some_same xs ys h = cc
 
 -- what follows the colon
-value_is : (key r xs value : List ℕ) (all : Pairs) (found : Option (List ℕ)) (l : Left key r all found xs) → after_colon xs ≡ Some value
+value_is : (key r xs value : List ℕ) (all : Pairs) (found : Option Begun) (l : Left key r all found xs) → after_colon xs ≡ Some value
     → value ≡ (let m = member_at key r xs all found l in m.before_value ++ (text m.value ++ (m.behind_value ++ m.tail)))
 value_is key r xs value all found l h =
     some_same _ _ (sym h ∙ (ap after_colon l.left ∙ value_begins key r l.pairs (member_at key r xs all found l)))
@@ -89,7 +90,7 @@ regroup : (a k b v : List ℕ) → a ++ (k ++ (b ++ 58 ∷ v)) ≡ (a ++ (k ++ b
 regroup a k b v = simp append_assoc
 
 -- what precedes the colon is the text of the key
-pub name_text : (key r xs name value : List ℕ) (all : Pairs) (found : Option (List ℕ)) (l : Left key r all found xs)
+pub name_text : (key r xs name value : List ℕ) (all : Pairs) (found : Option Begun) (l : Left key r all found xs)
     → after_colon xs ≡ Some value → xs ≡ name ++ 58 ∷ value → IsText None name (tree.string (key_at key r xs all found l))
 name_text key r xs name value all found l h e =
     let m = member_at key r xs all found l in
@@ -113,36 +114,41 @@ name_text key r xs name value all found l h e =
     }
 
 -- the walk goes on after this member, or it was the last one
-abbrev pub Goes : (key r : List ℕ) → Pairs → Option (List ℕ) → Option (List ℕ) → Type 0
-Goes key r all found None = option_map (begun (125 ∷ r)) (last_member key all) ≡ found
+abbrev pub Goes : (key r : List ℕ) → Pairs → Option Begun → Option (List ℕ) → Type 0
+Goes key r all found None = option_map (begun_member (125 ∷ r)) (last_with key all) ≡ found
 Goes key r all found (Some next) = Left key r all found next
 
-goes_more : (key r : List ℕ) (all : Pairs) (more : Option Pairs) (tail : List ℕ) (found : Option (List ℕ)) → IsTail r more tail
-    → option_map (begun (125 ∷ r)) (last_member key all)
-    ≡ first_of (option_map (begun (125 ∷ r)) (option_and_then (last_member key) more)) found
+goes_more : (key r : List ℕ) (all : Pairs) (more : Option Pairs) (tail : List ℕ) (found : Option Begun) → IsTail r more tail
+    → option_map (begun_member (125 ∷ r)) (last_with key all)
+    ≡ or_else (option_map (begun_member (125 ∷ r)) (option_and_then (last_with key) more)) found
     → Goes key r all found (after_member r more)
 goes_more key r all None tail found t h = h
 goes_more key r all (Some ps) tail found t h = record { pairs = ps; are = t.1; strict = t.2; left = refl; answer = h }
 
-pub member_step : (key r xs name value : List ℕ) (all : Pairs) (found : Option (List ℕ)) (l : Left key r all found xs) (b : Bool)
+both_same : (a b c d : List ℕ) → a ≡ c → b ≡ d → both a b ≡ both c d
+both_same a b c d h k = ap (λ x. both x b) h ∙ ap (both c) k
+
+pub member_step : (key r xs name value : List ℕ) (all : Pairs) (found : Option Begun) (l : Left key r all found xs) (b : Bool)
     → after_colon xs ≡ Some value → b ≡ bytes_eq key (key_at key r xs all found l)
-    → Goes key r all (cond b (Some (without_white value)) found) (after_comma value)
+    → Goes key r all (cond b (Some (without_whites xs value)) found) (after_comma value)
 member_step key r xs name value all found l b h is =
     let m = member_at key r xs all found l in
     let v = m.before_value ++ (text m.value ++ (m.behind_value ++ m.tail)) in
-    let w = text m.value ++ (m.behind_value ++ m.tail) in
+    let new = member_begun m.name m.behind_name m.before_value m.value (m.behind_value ++ m.tail) in
     let at : value ≡ v = value_is key r xs value all found l h in
-    let new : without_white value ≡ w = ap without_white at ∙ value_without_white key r l.pairs m in
-    let more = option_map (begun (125 ∷ r)) (option_and_then (last_member key) m.more) in
+    let key_new : without_white xs ≡ new.key = ap without_white l.left ∙ key_without_white key r l.pairs m in
+    let value_new : without_white value ≡ new.value = ap without_white at ∙ value_without_white key r l.pairs m in
+    let begun : new ≡ without_whites xs value = both_same _ _ _ _ (sym key_new) (sym value_new) in
+    let more = option_map (begun_member (125 ∷ r)) (option_and_then (last_with key) m.more) in
     let passed : after_comma value ≡ after_member r m.more = ap after_comma at ∙ member_passed key r l.pairs m in
-    let now : first_of (option_map (begun (125 ∷ r)) (last_member key l.pairs)) found
-    ≡ first_of more (cond b (Some (without_white value)) found) =
-    ap (λ o. first_of o found) m.answer
-    ∙ (first_assoc more (cond (bytes_eq key (key_at key r xs all found l)) (Some w) None) found
-    ∙ ap (first_of more) (first_if (bytes_eq key (key_at key r xs all found l)) w found
-    ∙ (ap (λ c. cond c (Some w) found) (sym is) ∙ ap (λ ys. cond b (Some ys) found) (sym new)))) in
-    subst (Goes key r all (cond b (Some (without_white value)) found)) (sym passed)
-    (goes_more key r all m.more m.tail (cond b (Some (without_white value)) found) m.is_more (l.answer ∙ now))
+    let now : or_else (option_map (begun_member (125 ∷ r)) (last_with key l.pairs)) found
+    ≡ or_else more (cond b (Some (without_whites xs value)) found) =
+    ap (λ o. or_else o found) m.answer
+    ∙ (first_assoc more (if_key key m.name new) found
+    ∙ ap (or_else more) (first_if (bytes_eq key (key_at key r xs all found l)) new found
+    ∙ (ap (λ c. cond c (Some new) found) (sym is) ∙ ap (λ x. cond b (Some x) found) begun))) in
+    subst (Goes key r all (cond b (Some (without_whites xs value)) found)) (sym passed)
+    (goes_more key r all m.more m.tail (cond b (Some (without_whites xs value)) found) m.is_more (l.answer ∙ now))
 
 -- each step takes some characters
 pub step_shorter : (xs value next name : List ℕ) → xs ≡ name ++ 58 ∷ value → after_comma value ≡ Some next → length next < length xs

@@ -68,10 +68,10 @@ if_has xs key k p h = by (bytes_eq key (tree.key_of (tree_of k)))
     by true = h
     by false = tt
 
-pair_whole : (a k b c t d : List ℕ) → a ++ (k ++ (b ++ 58 ∷ (c ++ (t ++ d)))) ≡ (a ++ (k ++ (b ++ 58 ∷ c))) ++ (t ++ d)
+pub pair_whole : (a k b c t d : List ℕ) → a ++ (k ++ (b ++ 58 ∷ (c ++ (t ++ d)))) ≡ (a ++ (k ++ (b ++ 58 ∷ c))) ++ (t ++ d)
 pair_whole a k b c t d = simp append_assoc
 
-pair_front : (f t d ps : List ℕ) → (f ++ (t ++ (d ++ 44 ∷ []))) ++ ps ≡ f ++ (t ++ (d ++ 44 ∷ ps))
+pub pair_front : (f t d ps : List ℕ) → (f ++ (t ++ (d ++ 44 ∷ []))) ++ ps ≡ f ++ (t ++ (d ++ 44 ∷ ps))
 pair_front f t d ps = simp append_assoc
 
 member_has : (key : List ℕ) (ps : Pairs) → ArePairs ps → PairsAreStrict ps → Has (pairs_text ps) (last_member key ps)
@@ -183,7 +183,7 @@ unfolding first_tree
 first_last None = refl
 first_last (Some t) = refl
 
-child_tree : (s : Syntax) (k : List ℕ) → option_map spot_tree (child s k) ≡ step (tree_of s) k
+pub child_tree : (s : Syntax) (k : List ℕ) → option_map spot_tree (child s k) ≡ step (tree_of s) k
 child_tree (array es) k = within_tree (91 ∷ []) (93 ∷ []) (item_spot es (index_of k)) ∙ item_tree es (index_of k)
 child_tree (object ps) k = within_tree (123 ∷ []) (125 ∷ []) (last_member k ps)
     ∙ (first_last (option_map spot_tree (last_member k ps)) ∙ member_tree k ps tree.no_members)

@@ -1,4 +1,4 @@
--- Where the part that a pointer names begins in a text.
+-- Where the part that a pointer names begins in a text, or the key of a member.
 use Rattle.std.specs.Prelude.{◌≡◌, ℕ, List, [], ◌∷◌, ◌++◌, length, take, Option, Some, None, option_map, option_and_then}
 use Rattle.std.specs.Prelude.{encode_utf8_all, Result, Ok, Err, MatchOption}
 use Rattle.tinyjson.specs.Error.{error_kind}
@@ -7,11 +7,13 @@ use Rattle.tinyjson.specs.declared.parser.error.JsonParseError.{JsonParseError}
 use Rattle.tinyjson_grammar.specs.Characters.{begin_array, begin_object, end_array, end_object}
 use Rattle.tinyjson_grammar.specs.Grammar.{IsLoose, IsAccepted}
 use Rattle.tinyjson_grammar.specs.Position.{position_at, origin, advance}
-use Rattle.tinyjson_grammar.specs.Syntax.{Syntax, array, object, text, IsStrict, tree_of}
+use Rattle.tinyjson_grammar.specs.Syntax.{Syntax, array, object, text, AreWhite, IsSpelled, IsStrict, tree_of}
+use Rattle.tinyjson_grammar.specs.Tree.{Members, find, string as string_tree, object as object_tree}
 use Rattle.tinyjson_grammar.specs.declared.error.JsonParseErrorKind.TheVariants as kind
 use Rattle.tinyjson_pointer.specs.Index.{index_of}
+use Rattle.tinyjson_pointer.specs.Siblings.{container_at, child_name}
 use Rattle.tinyjson_pointer.specs.Walk.{part_at}
-use Rattle.tinyjson_places.specs.Spots.{Spot, spot, within, item_spot, last_member}
+use Rattle.tinyjson_places.specs.Spots.{Spot, spot, within, item_spot, last_member, MemberSpot, value_spot, from_key}
 use Rattle.tinyjson_places.specs.declared.place.Place.{Place}
 
 -- the part that one token names, as `step` of `tinyjson_pointer` names one of a tree
@@ -44,3 +46,26 @@ abbrev pub Locates : List ℕ → List (List ℕ) → Result (Option Place) Json
 Locates xs ks (Ok o) = IsAccepted None xs × ((l : IsLoose None xs) → IsStrict l.value →
     MatchOption o (HasNone xs l ks) (λ place. (p : Spot) × IsPlaceOf xs l ks place p))
 Locates xs ks (Err e) = ¬ (error_kind e ≡ kind.OutOfMemory) → ChecksText None xs (Err e)
+
+-- The place is where the key of the member m begins in the text xs, whose value is spelled as l says.
+pub record IsKeyPlaceOf (xs : List ℕ) (l : IsLoose None xs) (ks : List (List ℕ)) (place : Place) (m : MemberSpot) : Type 0 where
+  -- the tokens name its value; the last one is its key
+  pub named : named l.value ks ≡ Some (value_spot m)
+  pub tree : part_at (tree_of l.value) ks ≡ Some (tree_of m.value)
+  pub key : tree_of m.key ≡ string_tree (child_name ks)
+  pub spelled : IsSpelled m.key
+  pub white : AreWhite m.before_colon × AreWhite m.before_value
+  pub whole : xs ≡ (l.before ++ m.before) ++ from_key l.after m
+  pub offset : place.offset ≡ length (encode_utf8_all (l.before ++ m.before))
+  pub position : position_at place.line place.column ≡ advance origin ((l.before ++ m.before) ++ take 1 (text m.key))
+
+-- The container is no object with that key.
+abbrev pub HasNoMember : (xs : List ℕ) → IsLoose None xs → List (List ℕ) → Type 0
+HasNoMember xs l ks = (ms : Members) → container_at (tree_of l.value) ks ≡ Some (object_tree ms)
+    → find (child_name ks) ms ≡ None
+
+-- What `key_place_of` returns for a text of these characters and these tokens.
+abbrev pub LocatesKey : List ℕ → List (List ℕ) → Result (Option Place) JsonParseError → Type 0
+LocatesKey xs ks (Ok o) = IsAccepted None xs × ((l : IsLoose None xs) → IsStrict l.value →
+    MatchOption o (HasNoMember xs l ks) (λ place. (m : MemberSpot) × IsKeyPlaceOf xs l ks place m))
+LocatesKey xs ks (Err e) = ¬ (error_kind e ≡ kind.OutOfMemory) → ChecksText None xs (Err e)

@@ -32,11 +32,11 @@ abbrev pub item_spot : Elements → Option ℕ → Option Spot
 item_spot es None = None
 item_spot es (Some i) = nth_spot es i
 
-abbrev pub or_else : Option Spot → Option Spot → Option Spot
+abbrev pub or_else : {A : Type 0} → Option A → Option A → Option A
 or_else (Some p) o = Some p
 or_else None o = o
 
-abbrev pub if_key : List ℕ → Syntax → Spot → Option Spot
+abbrev pub if_key : {A : Type 0} → List ℕ → Syntax → A → Option A
 if_key key k p = cond (bytes_eq key (key_of (tree_of k))) (Some p) None
 
 -- up to the value of a member
@@ -49,3 +49,24 @@ last_member key (last_pair a k b c s d) = if_key key k (spot (key_front a k b c)
 last_member key (pair a k b c s d ps) = or_else
     (option_map (further (key_front a k b c ++ (text s ++ (d ++ value_separator ∷ [])))) (last_member key ps))
     (if_key key k (spot (key_front a k b c) s (d ++ value_separator ∷ pairs_text ps)))
+
+-- A member of a spelled object: the characters before it, its key, the white space before its colon and before its
+-- value, the value, and the characters behind it.
+pub record MemberSpot : Type 0 where
+  pub before : List ℕ
+  pub key : Syntax
+  pub before_colon : List ℕ
+  pub before_value : List ℕ
+  pub value : Syntax
+  pub behind : List ℕ
+
+abbrev pub member_spot : List ℕ → Syntax → List ℕ → List ℕ → Syntax → List ℕ → MemberSpot
+member_spot a k b c s d = record { before = a; key = k; before_colon = b; before_value = c; value = s; behind = d }
+
+-- the spot of its value
+abbrev pub value_spot : MemberSpot → Spot
+value_spot m = spot (key_front m.before m.key m.before_colon m.before_value) m.value m.behind
+
+-- what begins with its key, where r is behind all
+abbrev pub from_key : List ℕ → MemberSpot → List ℕ
+from_key r m = text m.key ++ (m.before_colon ++ name_separator ∷ (m.before_value ++ (text m.value ++ (m.behind ++ r))))

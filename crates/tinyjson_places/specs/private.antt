@@ -1,3 +1,4 @@
 -- What only private contracts cite.
+pub mod Keys
 pub mod Parts
 pub mod Scan

@@ -1,25 +1,24 @@
 //! Finds the part of an accepted text that tokens name, without building a value.
-ghost use Rattle.std.specs.Prelude.{◌≡◌, ◌∷◌, ◌++◌, ℕ, List, None, Some, cond, MatchResult, map};
+ghost use Rattle.std.specs.Prelude.{◌≡◌, ◌∷◌, ◌++◌, ℕ, List, map};
 ghost use Rattle.std.specs.Prelude.{option_map};
-ghost use Rattle.std.specs.Str.{bytes_eq, chars};
-ghost use Rattle.tinyjson.specs.Grammar.{IsText};
+ghost use Rattle.std.specs.Str.{chars};
 ghost use Rattle.tinyjson.specs.Syntax.{Syntax, Elements, Pairs, text as spelled, elements_text};
 ghost use Rattle.tinyjson.specs.Syntax.{pairs_text};
 ghost use Rattle.tinyjson.specs.Syntax.{AreElements, ArePairs, IsSpelled, IsStrict};
 ghost use Rattle.tinyjson.specs.Syntax.{PairsAreStrict};
-ghost use Rattle.tinyjson.specs.Tree.{string};
 ghost use Rattle.tinyjson.specs.Characters.{end_array, end_object};
 ghost use Rattle.tinyjson_pointer.specs.Index.{index_of};
-ghost use Rattle.tinyjson_places.specs.private.Scan.{after_commas, without_white};
+ghost use Rattle.tinyjson_places.specs.private.Scan.{after_commas};
 ghost use Rattle.tinyjson.specs.View.{text};
 ghost use Rattle.tinyjson_places.specs.Places.{child, named};
 ghost use Rattle.tinyjson_places.specs.Spots.{item_spot, last_member};
-ghost use Rattle.tinyjson_places.specs.private.Parts.{FindsFrom, IsExhausted, Steps, begun};
+ghost use Rattle.tinyjson_places.specs.private.Parts.{FindsFrom, Steps, begun};
 
-use crate::scan::{after, split};
+use crate::member::last_member;
+use crate::scan::after;
 use crate::text::{after_white, first, is_closed};
 use std::alloc::Global;
-use tinyjson::{JsonParseError, JsonValue};
+use tinyjson::JsonParseError;
 use tinyjson_pointer::index;
 
 /// What begins with the part that the tokens name, in what begins with a value.
@@ -69,7 +68,7 @@ fn child<'t>(alloc: Global, value: &'t str, token: &str) -> Result<Option<&'t st
     }
     match opening {
         '[' => Ok(item(inside, token)),
-        '{' => member(alloc, inside, token),
+        '{' => member_value(alloc, inside, token),
         _ => Ok(None),
     }
 }
@@ -99,44 +98,18 @@ fn after_commas(text: &str, count: usize) -> Option<&str>
 }
 
 /// What begins with the value of the last member with the key, in what begins with members.
-fn member<'t>(alloc: Global, inside: &'t str, key: &str) -> Result<Option<&'t str>, JsonParseError>
+fn member_value<'t>(
+    alloc: Global,
+    inside: &'t str,
+    key: &str,
+) -> Result<Option<&'t str>, JsonParseError>
     ensures { (ps : Pairs) (r : List ℕ) → ArePairs ps → PairsAreStrict ps →
         chars inside.now ≡ pairs_text ps ++ end_object ∷ r →
         FindsFrom (end_object ∷ r) (last_member (chars key.now) ps) result }
 {
-    let mut found = None;
-    let mut members = inside;
-    while let Some((name, value)) = split(members, ':') {
-        found = newest(is_key(alloc, name, key)?, value, found);
-        let Some(next) = after(value, ',') else {
-            return Ok(found);
-        };
-        members = next;
-    }
-    Ok(found)
-}
-
-/// The value, without the white space before it, if it is one of the key; else what was found before.
-fn newest<'t>(has_key: bool, value: &'t str, found: Option<&'t str>) -> Option<&'t str>
-    ensures { option_map (λ s. chars s.now) result
-        ≡ cond has_key (Some (without_white (chars value.now)))
-        (option_map (λ s. chars s.now) found.entry) }
-{
-    if has_key {
-        Some(after_white(value))
-    } else {
-        found
-    }
-}
-
-/// Whether the text, which is that of a string, is one of the key.
-fn is_key(alloc: Global, text: &str, key: &str) -> Result<bool, JsonParseError>
-    ensures { (k : List ℕ) → IsText None (chars text.now) (string k) →
-        MatchResult result (λ b. b ≡ bytes_eq (chars key.now) k) IsExhausted }
-{
-    let name = JsonValue::from_str(alloc, text)?;
-    match &name {
-        JsonValue::String(name) => Ok(key == name.as_str()),
-        _ => Ok(false),
-    }
+    let found = last_member(alloc, inside, key)?;
+    let Some(member) = found else {
+        return Ok(None);
+    };
+    Ok(Some(member.value))
 }

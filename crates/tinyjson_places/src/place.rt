@@ -49,7 +49,7 @@ pub fn place_of(
 }
 
 /// The place at which the end of a text begins.
-fn place_at(text: &str, end: &str) -> Place
+pub(crate) fn place_at(text: &str, end: &str) -> Place
     requires { EndsWith (chars text.now) (chars end.now) }
     ensures { (front : List ℕ) → chars text.now ≡ front ++ chars end.now → IsBefore front result }
 {

@@ -24,5 +24,5 @@ returns-in-123 c = λ s r h z e.
     let is : c.in-Some.opening ≡ 123 = grind (arith, nat_tests) in
     let begins : 123 ∷ xs ≡ text s ++ r = ap (λ x. x ∷ xs) (sym is) ∙ (sym c.in-Some.ensures.0 ∙ e) in
     let a = opened_object s r xs h begins (sym c.is_closed.ensures ∙ c.if-is_closed.false) in
-    object_found s a.0 (chars c.args.token.now) r c.member.result a.1
-    (c.member.ensures a.0 r (subst IsSpelled a.1 h) (subst IsStrict a.1 z) a.2)
+    object_found s a.0 (chars c.args.token.now) r c.member_value.result a.1
+    (c.member_value.ensures a.0 r (subst IsSpelled a.1 h) (subst IsStrict a.1 z) a.2)

@@ -1,17 +1,16 @@
-use Rattle.std.proofs.Common.{◌∷◌, List, ℕ, Some, cond, option_map, Bor, sym, subst, ◌∙◌}
+use Rattle.std.proofs.Common.{◌∷◌, Some, cond, option_map, sym, subst, ◌∙◌}
 use Rattle.std.specs.Str.{chars}
-use Rattle.tinyjson_places.specs.Spots.{last_member}
-use Rattle.tinyjson_places.specs.private.Scan.{without_white}
+use Rattle.tinyjson_places.specs.private.Keys.{last_with, member_chars, without_whites}
 use Rattle.tinyjson_places.proofs.Members.{Left, Goes, left_colon, name_text, member_step, step_shorter}
-use Rattle.tinyjson_places.proofs.Walking.{exhausted_back}
-use Rattle.tinyjson_places.proofs.part.member.Goals as goal
+use Rattle.tinyjson_places.proofs.Keyed.{exhausted_member}
+use Rattle.tinyjson_places.proofs.member.last_member.Goals as goal
 
 pub returns-in_err-is_key : goal.returns-in_err-is_key
 returns-in_err-is_key c = λ ps r h z e.
     let key = chars c.args.key.now in
-    let found = option_map (λ (s : Bor (List ℕ)). chars s.now) c.loop-name.found in
+    let found = option_map member_chars c.loop-name.found in
     let left = c.loop-name.invariant.1 ps r h z e in
-    exhausted_back (125 ∷ r) (last_member key ps) c.from_residual.result c.in_err-is_key.field-0.0 c.from_residual.ensures.1
+    exhausted_member (125 ∷ r) (last_with key ps) c.from_residual.result c.in_err-is_key.field-0.0 c.from_residual.ensures.1
     (c.in_err-is_key.ensures _ (name_text key r (chars c.loop-name.members.now) (chars c.in-Some.name.now)
     (chars c.in-Some.value.now) ps found left c.in-Some.ensures.0 c.in-Some.ensures.1))
 
@@ -21,11 +20,11 @@ returns-in_default-after c = λ ps r h z e.
     let xs = chars c.loop-name.members.now in
     let name = chars c.in-Some.name.now in
     let value = chars c.in-Some.value.now in
-    let found = option_map (λ (s : Bor (List ℕ)). chars s.now) c.loop-name.found in
+    let found = option_map member_chars c.loop-name.found in
     let left = c.loop-name.invariant.1 ps r h z e in
     let is = c.in_ok-is_key.ensures _ (name_text key r xs name value ps found left c.in-Some.ensures.0 c.in-Some.ensures.1) in
     let step = member_step key r xs name value ps found left c.in_ok-is_key.field-0 c.in-Some.ensures.0 is in
-    let newest = cond c.in_ok-is_key.field-0 (Some (without_white value)) found in
+    let newest = cond c.in_ok-is_key.field-0 (Some (without_whites xs value)) found in
     c.newest-found.ensures ∙ sym (subst (Goes key r ps newest) (sym c.in_default-after.ensures.finds) step)
 
 pub loop-name-smaller : goal.loop-name-smaller
@@ -42,17 +41,17 @@ loop-name-preserved c = (
       let name = chars c.in-Some.name.now in
       let value = chars c.in-Some.value.now in
       let next = chars c.in-Some-after.next.now in
-      let found = option_map (λ (s : Bor (List ℕ)). chars s.now) c.loop-name.found in
+      let found = option_map member_chars c.loop-name.found in
       let left = c.loop-name.invariant.1 ps r h z e in
       let is = c.in_ok-is_key.ensures _ (name_text key r xs name value ps found left c.in-Some.ensures.0 c.in-Some.ensures.1) in
       let step = member_step key r xs name value ps found left c.in_ok-is_key.field-0 c.in-Some.ensures.0 is in
-      let newest = cond c.in_ok-is_key.field-0 (Some (without_white value)) found in
+      let newest = cond c.in_ok-is_key.field-0 (Some (without_whites xs value)) found in
       subst (λ o. Left key r ps o next) (sym c.newest-found.ensures)
       (subst (Goes key r ps newest) (sym c.in-Some-after.ensures.finds) step),
 )
 
 pub returns : goal.returns
 returns c = λ ps r h z e.
-    let found = option_map (λ (s : Bor (List ℕ)). chars s.now) c.loop-name.found in
+    let found = option_map member_chars c.loop-name.found in
     absurd (left_colon (chars c.args.key.now) r (chars c.loop-name.members.now) ps found (c.loop-name.invariant.1 ps r h z e)
     c.in_default.ensures)

@@ -3,13 +3,14 @@ use denote.Text.{Utf8}
 use denote.Shadow.{shadow}
 use Rattle.std.specs.Str.{chars}
 use Rattle.tinyjson_grammar.specs.Syntax.{Pairs, pairs_text, ArePairs, PairsAreStrict}
+use Rattle.tinyjson_places.specs.private.Keys.{member_chars}
 use Rattle.tinyjson_places.proofs.Members.{Left}
-use Rattle.tinyjson_places.proofs.part.member.Given as goal
+use Rattle.tinyjson_places.proofs.member.last_member.Given as goal
 
 abbrev pub invariant-loop-name : goal.invariant-loop-name
 invariant-loop-name l = shadow (Utf8 l.members)
     × ((ps : Pairs) (r : List ℕ) → ArePairs ps → PairsAreStrict ps → chars l.fn.inside ≡ pairs_text ps ++ 125 ∷ r
-    → Left (chars l.fn.key) r ps (option_map (λ s. chars s.now) l.found) (chars l.members))
+    → Left (chars l.fn.key) r ps (option_map member_chars l.found) (chars l.members))
 
 abbrev pub decreases-loop-name : goal.decreases-loop-name
 decreases-loop-name l = length (chars l.members)

@@ -4,7 +4,7 @@ use Rattle.tinyjson.proofs.Callers.{accepted_text, only_tree, no_string, view_St
 use Rattle.tinyjson.specs.View.{view, text}
 use Rattle.tinyjson_grammar.specs.Tree.{string}
 use Rattle.tinyjson_places.proofs.Members.{same_chars}
-use Rattle.tinyjson_places.proofs.part.is_key.Goals as goal
+use Rattle.tinyjson_places.proofs.member.is_key.Goals as goal
 
 same_text : (xs ys : List ℕ) → string xs ≡ string ys → xs ≡ ys
 same_text xs ys h = cc
