@@ -1,14 +1,14 @@
 -- The schemas that evaluate for one that asks, one after the other.
-use Rattle.std.proofs.Common.{◌≡◌, ◌∷◌, [], ◌++◌, ℕ, zero, suc, ◌<◌, ◌≤◌, ◌+◌, Bool, true, false, not, ◌&&◌, ◌||◌, List, Some, None}
-use Rattle.std.proofs.Common.{Option, Result, Ok, Err, Vec, Global, is_some, length, get_or, drop}
+use Rattle.std.proofs.Common.{◌≡◌, ◌≢◌, ◌∷◌, [], ◌++◌, ℕ, zero, suc, ◌<◌, ◌≤◌, ◌+◌, Bool, true, false, not, ◌&&◌, ◌||◌, List, Some, None}
+use Rattle.std.proofs.Common.{Option, Result, Ok, Err, is_some, length, get_or, drop}
 use Rattle.std.proofs.Common.{refl, sym, ap, ◌∙◌, subst, arith, add-one}
 use Rattle.std.specs.Option.{option_map_or}
-use Rattle.tinyjson.proofs.Callers.{no_object, no_array}
-use Rattle.tinyjson.specs.Access.{JsonMap}
+use Rattle.tinyjson.specs.JsonKind.TheVariants as kind
+use Rattle.tinyjson.specs.Kind.{kind_of}
 use Rattle.tinyjson.specs.Tree.{Tree, array, object, Items, no_items, item, Members, no_members, member}
-use Rattle.tinyjson.specs.View.{view, items_view}
-use Rattle.tinyjson.specs.declared.value.JsonValue.{JsonValue}
-use Rattle.tinyjson.specs.declared.value.JsonValue.TheVariants as is
+use Rattle.tinyjson.specs.View.{view}
+use Rattle.tinyjson_view.specs.Views.{tree_of, trees_of}
+use Rattle.tinyjson_view.specs.declared.view.ValueView.{ValueView}
 use Rattle.tinyjson_schema_keywords.specs.Applied.{schema_at, schemas_at, schema_map_at, branch}
 use Rattle.tinyjson_schema_keywords.specs.Names.{name}
 use Rattle.tinyjson_schema_keywords.specs.References.{referenced}
@@ -191,15 +191,15 @@ member_applied s k (Some p) h = sym (ap is_some h.0)
 
 -- ---- items, one after the other
 
-pub left_turn : (q : Child → Bool) (vs : List JsonValue) (i : ℕ) (x : JsonValue) → i < length vs → x ≡ get_or vs i x
-    → q (item_at i (view x)) ≡ true → items_pass q i (items_view (drop i vs)) ≡ items_pass q 0 (items_view vs)
-    → items_pass q (i + 1) (items_view (drop (i + 1) vs)) ≡ items_pass q 0 (items_view vs)
-left_turn q vs i x h e good left = rw add-one (sym (ap (λ b. b && items_pass q (suc i) (items_view (drop (suc i) vs))) good)
-    ∙ (sym (ap (λ xs. items_pass q i (items_view xs)) (drop_suc vs i x h e)) ∙ left))
+pub left_turn : (q : Child → Bool) (vs : List ValueView) (i : ℕ) (x : ValueView) → i < length vs → x ≡ get_or vs i x
+    → q (item_at i (tree_of x)) ≡ true → items_pass q i (trees_of (drop i vs)) ≡ items_pass q 0 (trees_of vs)
+    → items_pass q (i + 1) (trees_of (drop (i + 1) vs)) ≡ items_pass q 0 (trees_of vs)
+left_turn q vs i x h e good left = rw add-one (sym (ap (λ b. b && items_pass q (suc i) (trees_of (drop (suc i) vs))) good)
+    ∙ (sym (ap (λ xs. items_pass q i (trees_of xs)) (drop_suc vs i x h e)) ∙ left))
 
-pub left_end : (q : Child → Bool) (vs : List JsonValue) (i : ℕ) → length vs ≤ i
-    → items_pass q i (items_view (drop i vs)) ≡ items_pass q 0 (items_view vs) → items_pass q 0 (items_view vs) ≡ true
-left_end q vs i h left = sym left ∙ ap (λ xs. items_pass q i (items_view xs)) (drop_end vs i h)
+pub left_end : (q : Child → Bool) (vs : List ValueView) (i : ℕ) → length vs ≤ i
+    → items_pass q i (trees_of (drop i vs)) ≡ items_pass q 0 (trees_of vs) → items_pass q 0 (trees_of vs) ≡ true
+left_end q vs i h left = sym left ∙ ap (λ xs. items_pass q i (trees_of xs)) (drop_end vs i h)
 
 -- ---- what is left for the schema for the rest
 
@@ -233,14 +233,11 @@ no_item_rest root a s us n = items_same (rest_accepts root a s (array us)) (λ c
     (λ i u. ap (λ o. option_map_or (λ r. others_evaluate root a s (array us) (item_at i u) || a.accepts r u) o true) (sym n)) 0 us
     ∙ items_all 0 us
 
-pub no_rest : (root : Tree) (a : Answers) (s : Tree) (v : JsonValue) → ((m : JsonMap) → v ≡ is.Object m → ⊥)
-    → ((l : Vec JsonValue Global) → v ≡ is.Array l → ⊥) → rest_accepted root a s (view v) ≡ true
-no_rest root a s v other_object other_array = by (view v) (no_object v other_object) (no_array v other_array)
-  where
-    by : (t : Tree) → ((ms : Members) → t ≡ object ms → ⊥) → ((ts : Items) → t ≡ array ts → ⊥) → rest_accepted root a s t ≡ true
-    by (object ms) n o = absurd (n ms refl)
-    by (array ts) n o = absurd (o ts refl)
-    by _ n o = refl
+pub no_rest : (root : Tree) (a : Answers) (s t : Tree) → kind.Object ≢ kind_of t → kind.Array ≢ kind_of t
+    → rest_accepted root a s t ≡ true
+no_rest root a s (object ms) n o = absurd (n refl)
+no_rest root a s (array ts) n o = absurd (o refl)
+no_rest root a s _ n o = refl
 
 -- such a place is one of the schema that asks
 rest_place : (w : Walk) (s t r : Tree) (xs : List Source) (a : Keyword) (v : Violation)

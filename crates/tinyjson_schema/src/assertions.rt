@@ -2,14 +2,15 @@
 ghost use Rattle.std.specs.Prelude.{◌≡◌, IfOk};
 ghost use Rattle.std.specs.Option.{option_map_or};
 ghost use Rattle.tinyjson.specs.View.{view};
+ghost use Rattle.tinyjson_view.specs.Views.{tree_of};
 ghost use Rattle.tinyjson_schema_assertions.specs.Assertions.{meets, IsUnmetAmong, assertions};
 
 use crate::applied::Applied;
 use crate::walk::Walk;
 use std::alloc::AllocError;
-use tinyjson::JsonValue;
 use tinyjson_schema_assertions::accepts;
 use tinyjson_schema_keywords::Keyword;
+use tinyjson_view::ValueView;
 
 /// The assertions, in the order in which they are checked. `format` is one only if the caller asks for it.
 const ASSERTIONS: [Keyword; 19] = [
@@ -51,11 +52,11 @@ pub fn assertions(formats: bool) -> &'static [Keyword]
 pub fn unmet(
     keywords: &[Keyword],
     here: Applied<'_>,
-    value: &JsonValue,
+    value: &ValueView<'_>,
     walk: Walk<'_, '_>,
 ) -> Result<Option<Keyword>, AllocError>
     ensures { IfOk result
-        (λ found. IsUnmetAmong keywords.now (view here.entry.schema.now) (view value.now) found) }
+        (λ found. IsUnmetAmong keywords.now (view here.entry.schema.now) (tree_of value.now) found) }
 {
     for keyword in keywords {
         let is_met = meets(*keyword, here, value, walk)?;
@@ -69,10 +70,10 @@ pub fn unmet(
 fn meets(
     keyword: Keyword,
     here: Applied<'_>,
-    value: &JsonValue,
+    value: &ValueView<'_>,
     walk: Walk<'_, '_>,
 ) -> Result<bool, AllocError>
-    ensures { IfOk result (λ is. is ≡ meets keyword (view here.entry.schema.now) (view value.now)) }
+    ensures { IfOk result (λ is. is ≡ meets keyword (view here.entry.schema.now) (tree_of value.now)) }
 {
     match here.schema_at(keyword) {
         Some(operand) => accepts(keyword, operand, value, walk.following()),

@@ -15,6 +15,7 @@ use tinyjson::{JsonValue, sorted_members};
 use tinyjson_compare::are_distinct;
 use tinyjson_schema_assertions::is_among;
 use tinyjson_schema_keywords::{Document, is_plain_name, is_some_item};
+use tinyjson_view::ValueView;
 
 /// Whether it is a plain name, but not the first one that the document has twice.
 pub fn is_own_name(value: &JsonValue, document: Document<'_, '_>) -> bool
@@ -112,7 +113,7 @@ fn are_type_names(names: &[JsonValue]) -> bool
 {
     let mut rest = names;
     while let Some((name, more)) = rest.split_first() {
-        if !is_type_name(name) || is_among(more, name) {
+        if !is_type_name(name) || is_among(more, &ValueView::InValue(name)) {
             return false;
         }
         rest = more;

@@ -14,6 +14,7 @@ use tinyjson_pointer::Pointer;
 use tinyjson_schema_keywords::{
     Budget, CheckError, Document, KeptPatterns, Whole, anchors_of, repeated,
 };
+use tinyjson_view::AsView;
 
 /// A schema that can be applied. Each keyword in it is applied or is an annotation, and its value has the
 /// standard's form. Each reference leads to a schema in it, and not in a circle.
@@ -116,14 +117,14 @@ impl<'s> Schema<'s> {
     /// ```
     /// let place = schema.invalid_place(&value, 200, alloc)?;
     /// ```
-    pub fn invalid_place(
+    pub fn invalid_place<'v, V: AsView<'v>>(
         &self,
-        value: &JsonValue,
+        value: V,
         steps: usize,
         alloc: Global,
     ) -> Result<Option<Violation>, CheckError>
-        ensures judged { Validates steps (tree_of self.now) (view value.now) result }
-        ensures only { IfOk result (λ found. Agrees (tree_of self.now) (view value.now) found) }
+        ensures judged { Validates steps (tree_of self.now) (V.tree value) result }
+        ensures only { IfOk result (λ found. Agrees (tree_of self.now) (V.tree value) found) }
     {
         let limits = Limits {
             nested: steps,
@@ -139,14 +140,14 @@ impl<'s> Schema<'s> {
     /// let limits = Limits { nested: 200, steps: 1_000_000 };
     /// let place = schema.invalid_place_within(&value, limits, alloc)?;
     /// ```
-    pub fn invalid_place_within(
+    pub fn invalid_place_within<'v, V: AsView<'v>>(
         &self,
-        value: &JsonValue,
+        value: V,
         limits: Limits,
         alloc: Global,
     ) -> Result<Option<Violation>, CheckError>
-        ensures judged { Validates limits.nested (tree_of self.now) (view value.now) result }
-        ensures only { IfOk result (λ found. Agrees (tree_of self.now) (view value.now) found) }
+        ensures judged { Validates limits.nested (tree_of self.now) (V.tree value) result }
+        ensures only { IfOk result (λ found. Agrees (tree_of self.now) (V.tree value) found) }
     {
         let checks = Checks {
             limits,
@@ -161,16 +162,16 @@ impl<'s> Schema<'s> {
     /// let checks = Checks { limits, formats: true };
     /// let place = schema.invalid_place_by(&value, checks, alloc)?;
     /// ```
-    pub fn invalid_place_by(
+    pub fn invalid_place_by<'v, V: AsView<'v>>(
         &self,
-        value: &JsonValue,
+        value: V,
         checks: Checks,
         alloc: Global,
     ) -> Result<Option<Violation>, CheckError>
         ensures judged { ValidatesIn checks.limits.nested (root_in self.now checks.formats)
-            (view value.now) result }
+            (V.tree value) result }
         ensures only { IfOk result
-            (λ found. AgreesIn (root_in self.now checks.formats) (view value.now) found) }
+            (λ found. AgreesIn (root_in self.now checks.formats) (V.tree value) found) }
     {
         self.whole.budget.renew(checks.limits.steps);
         let ground = Ground {
@@ -182,6 +183,6 @@ impl<'s> Schema<'s> {
             steps: checks.limits.nested,
             alloc,
         };
-        find_violation(value, walk)
+        find_violation(&value.as_view(), walk)
     }
 }

@@ -1,7 +1,9 @@
 //! What a value violates of a schema.
-ghost use Rattle.std.specs.Prelude.{◌≡◌, IfOk, true};
+ghost use Rattle.std.specs.Prelude.{◌≡◌, IfOk, is_some, true};
+ghost use Rattle.tinyjson.specs.Index.{tree_at_key};
 ghost use Rattle.tinyjson.specs.Tree.{array, object};
 ghost use Rattle.tinyjson.specs.View.{view, items_view, members_listed};
+ghost use Rattle.tinyjson_view.specs.Views.{tree_of, trees_of, members_of};
 ghost use Rattle.tinyjson.specs.Soundness.{IsSorted};
 ghost use Rattle.std.specs.Str.{chars};
 ghost use Rattle.tinyjson_schema_keywords.specs.Applied.{members_in, schemas_at};
@@ -23,8 +25,10 @@ use crate::validate::tested::unmet_test;
 use crate::validate::unevaluated::in_rest;
 use crate::violation::Violation;
 use crate::walk::Walk;
-use tinyjson::{JsonValue, sorted_members};
-use tinyjson_schema_keywords::{CheckError, Keyword, branch, has_key, listed_members};
+use tinyjson::{JsonKind, JsonValue};
+use tinyjson_document::JsonView;
+use tinyjson_schema_keywords::{CheckError, Keyword, branch};
+use tinyjson_view::{MemberView, ValueView};
 
 /// What the value violates of the whole schema, if it violates it; `None` means that the value is valid. Nested
 /// schemas are applied, by keywords and by references, up to the steps that the walk has left; for more the error
@@ -36,11 +40,11 @@ use tinyjson_schema_keywords::{CheckError, Keyword, branch, has_key, listed_memb
 /// let violation = find_violation(&value, walk)?;
 /// ```
 pub fn find_violation(
-    value: &JsonValue,
+    value: &ValueView<'_>,
     walk: Walk<'_, '_>,
 ) -> Result<Option<Violation>, CheckError>
-    ensures judged { ValidatesIn walk.entry.steps (root_of walk.entry) (view value.now) result }
-    ensures only { IfOk result (λ found. AgreesIn (root_of walk.entry) (view value.now) found) }
+    ensures judged { ValidatesIn walk.entry.steps (root_of walk.entry) (tree_of value.now) result }
+    ensures only { IfOk result (λ found. AgreesIn (root_of walk.entry) (tree_of value.now) found) }
 {
     violation_in(value, walk.ground.whole.root, walk)
 }
@@ -48,11 +52,11 @@ pub fn find_violation(
 /// `find_violation` for a subschema of the whole schema.
 #[cycle(validate)]
 fn violation_in(
-    value: &JsonValue,
+    value: &ValueView<'_>,
     schema: &JsonValue,
     walk: Walk<'_, '_>,
 ) -> Result<Option<Violation>, CheckError>
-    ensures { Judges walk.entry (view schema.now) (view value.now) result }
+    ensures { Judges walk.entry (view schema.now) (tree_of value.now) result }
 {
     let inner = walk.entered()?;
     if refuses_all(schema) {
@@ -99,15 +103,22 @@ fn refuses_all(schema: &JsonValue) -> bool
     }
 }
 
+/// Whether the value is an object that has the key.
+fn has_key(value: &ValueView<'_>, key: &str) -> bool
+    ensures { result ≡ is_some (tree_at_key (tree_of value.now) (chars key.now)) }
+{
+    value.member(key).is_some()
+}
+
 /// Whether the schema accepts the value.
 #[cycle(validate)]
 fn is_accepted(
-    value: &JsonValue,
+    value: &ValueView<'_>,
     schema: &JsonValue,
     walk: Walk<'_, '_>,
 ) -> Result<bool, CheckError>
     ensures { IfOk result
-        (λ is. Follows walk.entry is (λ f. f (view schema.now) (view value.now))) }
+        (λ is. Follows walk.entry is (λ f. f (view schema.now) (tree_of value.now))) }
 {
     let found = violation_in(value, schema, walk)?;
     Ok(found.is_none())
@@ -116,13 +127,13 @@ fn is_accepted(
 /// What the value violates of a schema of `allOf`.
 #[cycle(validate)]
 fn in_all_of(
-    value: &JsonValue,
+    value: &ValueView<'_>,
     here: Applied<'_>,
     walk: Walk<'_, '_>,
 ) -> Result<Option<Violation>, CheckError>
     ensures { Finds walk.entry
-        (λ f. applies f kw.AllOf (view here.entry.schema.now) (view value.now))
-        (view here.entry.schema.now) (view value.now) result }
+        (λ f. applies f kw.AllOf (view here.entry.schema.now) (tree_of value.now))
+        (view here.entry.schema.now) (tree_of value.now) result }
 {
     let parts = here.schemas_at(Keyword::AllOf);
     for (index, part) in parts.iter().enumerate() {
@@ -137,12 +148,12 @@ fn in_all_of(
 /// What the value violates of the schema that `if` chooses.
 #[cycle(validate)]
 fn in_branch(
-    value: &JsonValue,
+    value: &ValueView<'_>,
     here: Applied<'_>,
     walk: Walk<'_, '_>,
 ) -> Result<Option<Violation>, CheckError>
-    ensures { Finds walk.entry (λ f. applies f kw.If (view here.entry.schema.now) (view value.now))
-        (view here.entry.schema.now) (view value.now) result }
+    ensures { Finds walk.entry (λ f. applies f kw.If (view here.entry.schema.now) (tree_of value.now))
+        (view here.entry.schema.now) (tree_of value.now) result }
 {
     let Some(test) = here.schema_at(Keyword::If) else {
         return Ok(None);
@@ -162,13 +173,13 @@ fn in_branch(
 /// What the value violates of a schema of `dependentSchemas` whose key it has.
 #[cycle(validate)]
 fn in_dependents(
-    value: &JsonValue,
+    value: &ValueView<'_>,
     here: Applied<'_>,
     walk: Walk<'_, '_>,
 ) -> Result<Option<Violation>, CheckError>
     ensures { Finds walk.entry
-        (λ f. applies f kw.DependentSchemas (view here.entry.schema.now) (view value.now))
-        (view here.entry.schema.now) (view value.now) result }
+        (λ f. applies f kw.DependentSchemas (view here.entry.schema.now) (tree_of value.now))
+        (view here.entry.schema.now) (tree_of value.now) result }
 {
     let listed = here.schema_map_at(Keyword::DependentSchemas, walk.alloc)?;
     let dependents = listed.as_slice();
@@ -188,13 +199,13 @@ fn in_dependents(
 #[cycle(validate)]
 #[inline(never)]
 fn in_patterned(
-    value: &JsonValue,
+    value: &ValueView<'_>,
     here: Applied<'_>,
     walk: Walk<'_, '_>,
 ) -> Result<Option<Violation>, CheckError>
     ensures { Finds walk.entry
-        (λ f. applies f kw.PatternProperties (view here.entry.schema.now) (view value.now))
-        (view here.entry.schema.now) (view value.now) result }
+        (λ f. applies f kw.PatternProperties (view here.entry.schema.now) (tree_of value.now))
+        (view here.entry.schema.now) (tree_of value.now) result }
 {
     let listed = here.schema_map_at(Keyword::PatternProperties, walk.alloc)?;
     let patterns = listed.as_slice();
@@ -212,21 +223,21 @@ fn in_patterned(
 #[cycle(validate)]
 #[inline(never)]
 fn in_found(
-    value: &JsonValue,
+    value: &ValueView<'_>,
     pattern: &str,
     schema: &JsonValue,
     walk: Walk<'_, '_>,
 ) -> Result<Option<Violation>, CheckError>
     ensures { FindsFound walk.entry (chars pattern.now) (view schema.now)
-        (members_in (view value.now)) result }
+        (members_in (tree_of value.now)) result }
 {
-    let listed = listed_members(value, walk.alloc)?;
+    let listed = value.members(walk.alloc)?;
     let members = listed.as_slice();
-    for &(key, member) in members {
-        let is_found = walk.is_found(pattern, key.as_str())?;
+    for member in members {
+        let is_found = walk.is_found(pattern, member.key)?;
         if is_found {
-            if let Some(mut found) = violation_in(member, schema, walk)? {
-                found.enter_value(walk.alloc, key.as_str())?;
+            if let Some(mut found) = violation_in(&member.value, schema, walk)? {
+                found.enter_value(walk.alloc, member.key)?;
                 return Ok(Some(found));
             }
         }
@@ -237,14 +248,14 @@ fn in_found(
 /// What the value violates of the schemas to which `$ref` and `$dynamicRef` lead.
 #[cycle(validate)]
 fn in_reference(
-    value: &JsonValue,
+    value: &ValueView<'_>,
     here: Applied<'_>,
     walk: Walk<'_, '_>,
 ) -> Result<Option<Violation>, CheckError>
     ensures { Finds walk.entry
         (λ f. reference_accepts (view walk.entry.ground.now.whole.now.root.now) f (view here.entry.schema.now)
-        (view value.now))
-        (view here.entry.schema.now) (view value.now) result }
+        (tree_of value.now))
+        (view here.entry.schema.now) (tree_of value.now) result }
 {
     if let Some(found) = in_target(value, here, Keyword::Ref, walk)? {
         return Ok(Some(found));
@@ -256,15 +267,15 @@ fn in_reference(
 #[cycle(validate)]
 #[inline(never)]
 fn in_target(
-    value: &JsonValue,
+    value: &ValueView<'_>,
     here: Applied<'_>,
     keyword: Keyword,
     walk: Walk<'_, '_>,
 ) -> Result<Option<Violation>, CheckError>
     requires { is_reference keyword ≡ true }
     ensures { Finds walk.entry (λ f. target_accepts (view walk.entry.ground.now.whole.now.root.now) keyword f
-        (view here.entry.schema.now) (view value.now))
-        (view here.entry.schema.now) (view value.now) result }
+        (view here.entry.schema.now) (tree_of value.now))
+        (view here.entry.schema.now) (tree_of value.now) result }
 {
     let Some(part) = here.referenced(keyword, walk)? else {
         return Ok(None);
@@ -279,38 +290,41 @@ fn in_target(
 /// What a member or an item violates of the schema for it.
 #[cycle(validate)]
 fn in_parts(
-    value: &JsonValue,
+    value: &ValueView<'_>,
     here: Applied<'_>,
     walk: Walk<'_, '_>,
 ) -> Result<Option<Violation>, CheckError>
-    ensures { Finds walk.entry (λ f. parts_accepted f (view here.entry.schema.now) (view value.now))
-        (view here.entry.schema.now) (view value.now) result }
+    ensures { Finds walk.entry (λ f. parts_accepted f (view here.entry.schema.now) (tree_of value.now))
+        (view here.entry.schema.now) (tree_of value.now) result }
 {
-    match value {
-        JsonValue::Object(members) => {
-            let sorted = sorted_members(walk.alloc, members)?;
-            in_members(sorted.as_slice(), here, walk)
+    match value.kind() {
+        JsonKind::Object => {
+            let members = value.members(walk.alloc)?;
+            in_members(members.as_slice(), here, walk)
         }
-        JsonValue::Array(items) => in_items(items.as_slice(), here, walk),
+        JsonKind::Array => {
+            let items = value.items(walk.alloc)?;
+            in_items(items.as_slice(), here, walk)
+        }
         _ => Ok(None),
     }
 }
 
 #[cycle(validate)]
 fn in_members(
-    members: &[(&String, &JsonValue)],
+    members: &[MemberView<'_>],
     here: Applied<'_>,
     walk: Walk<'_, '_>,
 ) -> Result<Option<Violation>, CheckError>
-    requires { IsSorted (members_listed members.now) }
+    requires { IsSorted (members_of members.now) }
     ensures { Finds walk.entry
-        (λ f. members_accepted f (view here.entry.schema.now) (members_listed members.now))
-        (view here.entry.schema.now) (object (members_listed members.now)) result }
+        (λ f. members_accepted f (view here.entry.schema.now) (members_of members.now))
+        (view here.entry.schema.now) (object (members_of members.now)) result }
 {
-    for &(key, member) in members {
-        if let Some(part) = member_part(here, key.as_str(), walk)? {
-            if let Some(mut found) = violation_in(member, part.schema, walk)? {
-                found.enter_member(walk.alloc, part.applicator, key.as_str())?;
+    for member in members {
+        if let Some(part) = member_part(here, member.key, walk)? {
+            if let Some(mut found) = violation_in(&member.value, part.schema, walk)? {
+                found.enter_member(walk.alloc, part.applicator, member.key)?;
                 return Ok(Some(found));
             }
         }
@@ -320,13 +334,13 @@ fn in_members(
 
 #[cycle(validate)]
 fn in_items(
-    items: &[JsonValue],
+    items: &[ValueView<'_>],
     here: Applied<'_>,
     walk: Walk<'_, '_>,
 ) -> Result<Option<Violation>, CheckError>
     ensures { Finds walk.entry
-        (λ f. items_accepted f (view here.entry.schema.now) 0 (items_view items.now))
-        (view here.entry.schema.now) (array (items_view items.now)) result }
+        (λ f. items_accepted f (view here.entry.schema.now) 0 (trees_of items.now))
+        (view here.entry.schema.now) (array (trees_of items.now)) result }
 {
     for (index, item) in items.iter().enumerate() {
         if let Some(part) = item_part(here, index) {

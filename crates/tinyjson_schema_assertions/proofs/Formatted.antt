@@ -4,7 +4,9 @@ use Rattle.std.proofs.Common.{length, get_or, bytes_eq, drop, string_bytes, refl
 use Rattle.std.specs.BTreeSet as sorted
 use Rattle.std.specs.BTreeSet.{BTreeSet}
 use Rattle.std.specs.Option.{option_map_or}
+use Rattle.std.proofs.lemmas.Str.{encodes-chars}
 use Rattle.std.specs.Prelude.{encode_utf8_all}
+use Rattle.std.specs.Str.{IsUtf8, chars}
 use Rattle.text_formats.specs.Format as format
 use Rattle.text_formats.specs.declared.format.Format.{Format}
 use Rattle.tinyjson.proofs.Callers.{view_String}
@@ -22,12 +24,12 @@ use Rattle.tinyjson_schema_assertions.specs.Formats.{unknown_name, unknown_in, f
 -- ---- texts
 
 -- the bytes of a text have the format that the bytes of its name name
-pub formatted : (name t : String Global) (bs cs : List ℕ) (o : Option Format) → bs ≡ string_bytes name → cs ≡ string_bytes t
+pub formatted : (name : String Global) (bs cs : List ℕ) (o : Option Format) → bs ≡ string_bytes name → IsUtf8 cs
     → o ≡ format.format_named bs
-    → option_map_or (λ f. format.accepts f cs) o true ≡ has_format (string (text name)) (string (text t))
-formatted name t bs cs o b c h =
+    → option_map_or (λ f. format.accepts f cs) o true ≡ has_format (string (text name)) (string (chars cs))
+formatted name bs cs o b u h =
     ap (λ x. option_map_or (λ f. format.accepts f cs) x true) (h ∙ ap format.format_named (text_bytes name bs b))
-    ∙ ap (λ xs. option_map_or (λ f. format.accepts f xs) (format.format_named (encode_utf8_all (text name))) true) (text_bytes t cs c)
+    ∙ ap (λ xs. option_map_or (λ f. format.accepts f xs) (format.format_named (encode_utf8_all (text name))) true) (sym (encodes-chars cs u))
 
 -- ---- names
 

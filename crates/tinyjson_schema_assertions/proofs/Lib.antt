@@ -1,3 +1,5 @@
+pub mod Counted
 pub mod Formatted
 pub mod Operands
 pub mod Patterns
+pub mod SeenTexts

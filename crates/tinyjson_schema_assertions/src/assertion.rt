@@ -1,8 +1,11 @@
 //! Assertions: the keywords that constrain a value itself, not its parts.
-ghost use Rattle.std.specs.Prelude.{◌≡◌, IfOk};
+ghost use Rattle.std.specs.Prelude.{◌≡◌, IfOk, int_le, is_some, length, pos};
+ghost use Rattle.std.specs.Str.{chars};
 ghost use Rattle.tinyjson.specs.Kind.{kind_of, kind_name};
-ghost use Rattle.tinyjson.specs.Tree.{number, string};
-ghost use Rattle.tinyjson.specs.View.{view, text, items_view, members_view, members_listed};
+ghost use Rattle.tinyjson.specs.Tree.{find, number, string};
+ghost use Rattle.tinyjson.specs.View.{view, text, items_view, members_listed};
+ghost use Rattle.tinyjson_document.specs.Parts.{members_in};
+ghost use Rattle.tinyjson_view.specs.Views.{tree_of};
 ghost use Rattle.tinyjson_schema_assertions.specs.Assertions.{accepts, count};
 ghost use Rattle.tinyjson_schema_assertions.specs.Assertions.{is_whole, is_type, has_some_type, has_type};
 ghost use Rattle.tinyjson_schema_assertions.specs.Assertions.{is_among, is_in, are_ordered, are_apart};
@@ -16,11 +19,12 @@ ghost use Rattle.tinyjson_schema_assertions.specs.Assertions.{has_pattern, has_f
 use crate::multiple::are_multiple;
 use crate::unique::are_unique;
 use std::alloc::{AllocError, Global};
-use std::collections::HashMap;
 use text_formats::Format;
-use tinyjson::{JsonNumber, JsonValue, sorted_members};
+use tinyjson::{JsonKind, JsonNumber, JsonValue, sorted_members};
 use tinyjson_compare::is_at_most;
+use tinyjson_document::JsonView;
 use tinyjson_schema_keywords::{Keyword, Walk};
+use tinyjson_view::ValueView;
 
 /// Whether the value meets the keyword with this value of its own; true for a keyword that is no assertion. Patterns and
 /// the values of `enum` take steps of the walk's budget. The only error is out of memory.
@@ -31,29 +35,30 @@ use tinyjson_schema_keywords::{Keyword, Walk};
 pub fn accepts(
     keyword: Keyword,
     operand: &JsonValue,
-    value: &JsonValue,
+    value: &ValueView<'_>,
     walk: Walk<'_, '_>,
 ) -> Result<bool, AllocError>
-    ensures { IfOk result (λ is. is ≡ accepts keyword (view operand.now) (view value.now)) }
+    ensures { IfOk result (λ is. is ≡ accepts keyword (view operand.now) (tree_of value.now)) }
 {
     let alloc = walk.alloc;
+    let limit = ValueView::InValue(operand);
     match keyword {
         Keyword::Type => Ok(has_type(operand, value)),
         Keyword::Enum => Ok(is_in(operand, value, walk)),
-        Keyword::Const => Ok(value == operand),
+        Keyword::Const => Ok(value.equals_value(operand)),
         Keyword::MultipleOf => Ok(are_multiple(value, operand)),
-        Keyword::Maximum => Ok(are_ordered(value, operand)),
-        Keyword::ExclusiveMaximum => Ok(are_apart(value, operand)),
-        Keyword::Minimum => Ok(are_ordered(operand, value)),
-        Keyword::ExclusiveMinimum => Ok(are_apart(operand, value)),
+        Keyword::Maximum => Ok(are_ordered(value, &limit)),
+        Keyword::ExclusiveMaximum => Ok(are_apart(value, &limit)),
+        Keyword::Minimum => Ok(are_ordered(&limit, value)),
+        Keyword::ExclusiveMinimum => Ok(are_apart(&limit, value)),
         Keyword::MaxLength => is_count_at_most(length(value), operand, alloc),
         Keyword::MinLength => is_count_at_least(length(value), operand, alloc),
         Keyword::Pattern => has_pattern(operand, value, walk),
         Keyword::MaxItems => is_count_at_most(item_count(value), operand, alloc),
         Keyword::MinItems => is_count_at_least(item_count(value), operand, alloc),
         Keyword::UniqueItems => are_unique(operand, value, alloc),
-        Keyword::MaxProperties => is_count_at_most(member_count(value, alloc)?, operand, alloc),
-        Keyword::MinProperties => is_count_at_least(member_count(value, alloc)?, operand, alloc),
+        Keyword::MaxProperties => is_count_at_most(member_count(value), operand, alloc),
+        Keyword::MinProperties => is_count_at_least(member_count(value), operand, alloc),
         Keyword::Required => Ok(has_required(operand, value)),
         Keyword::DependentRequired => has_dependent_required(operand, value, alloc),
         Keyword::Format => Ok(has_format(operand, value)),
@@ -61,8 +66,8 @@ pub fn accepts(
     }
 }
 
-fn has_type(types: &JsonValue, value: &JsonValue) -> bool
-    ensures { result ≡ has_type (view types.now) (view value.now) }
+fn has_type(types: &JsonValue, value: &ValueView<'_>) -> bool
+    ensures { result ≡ has_type (view types.now) (tree_of value.now) }
 {
     match types {
         JsonValue::Array(names) => has_some_type(names.as_slice(), value),
@@ -70,8 +75,8 @@ fn has_type(types: &JsonValue, value: &JsonValue) -> bool
     }
 }
 
-fn has_some_type(names: &[JsonValue], value: &JsonValue) -> bool
-    ensures { result ≡ has_some_type (items_view names.now) (view value.now) }
+fn has_some_type(names: &[JsonValue], value: &ValueView<'_>) -> bool
+    ensures { result ≡ has_some_type (items_view names.now) (tree_of value.now) }
 {
     for name in names {
         if is_type(name, value) {
@@ -81,8 +86,8 @@ fn has_some_type(names: &[JsonValue], value: &JsonValue) -> bool
     false
 }
 
-fn is_type(name: &JsonValue, value: &JsonValue) -> bool
-    ensures { result ≡ is_type (view name.now) (view value.now) }
+fn is_type(name: &JsonValue, value: &ValueView<'_>) -> bool
+    ensures { result ≡ is_type (view name.now) (tree_of value.now) }
 {
     let JsonValue::String(name) = name else {
         return false;
@@ -94,32 +99,38 @@ fn is_type(name: &JsonValue, value: &JsonValue) -> bool
 }
 
 /// The name that `type` has for the value's type.
-fn kind_name(value: &JsonValue) -> &'static str
-    ensures { result.now ≡ kind_name (kind_of (view value.now)) }
+fn kind_name(value: &ValueView<'_>) -> &'static str
+    ensures { result.now ≡ kind_name (kind_of (tree_of value.now)) }
 {
-    match value {
-        JsonValue::Null => "null",
-        JsonValue::Boolean(_) => "boolean",
-        JsonValue::Number(_) => "number",
-        JsonValue::String(_) => "string",
-        JsonValue::Array(_) => "array",
-        JsonValue::Object(_) => "object",
+    match value.kind() {
+        JsonKind::Null => "null",
+        JsonKind::Boolean => "boolean",
+        JsonKind::Number => "number",
+        JsonKind::String => "string",
+        JsonKind::Array => "array",
+        JsonKind::Object => "object",
     }
 }
 
 /// Whether the value is a number without a fraction.
-fn is_whole(value: &JsonValue) -> bool
-    ensures { result ≡ is_whole (view value.now) }
+fn is_whole(value: &ValueView<'_>) -> bool
+    ensures { result ≡ is_whole (tree_of value.now) }
 {
-    match value {
-        JsonValue::Number(number) => number.power() >= 0,
-        _ => false,
+    match value.number() {
+        Some(number) => has_no_fraction(number.as_number()),
+        None => false,
     }
 }
 
+fn has_no_fraction(number: &JsonNumber) -> bool
+    ensures { result ≡ int_le (pos 0) number.now.decimal.power }
+{
+    number.power() >= 0
+}
+
 /// Whether the value is one of an array. It takes a step for each of them.
-fn is_in(values: &JsonValue, value: &JsonValue, walk: Walk<'_, '_>) -> bool
-    ensures { result ≡ is_in (view values.now) (view value.now) }
+fn is_in(values: &JsonValue, value: &ValueView<'_>, walk: Walk<'_, '_>) -> bool
+    ensures { result ≡ is_in (view values.now) (tree_of value.now) }
 {
     match values {
         JsonValue::Array(values) => {
@@ -130,11 +141,11 @@ fn is_in(values: &JsonValue, value: &JsonValue, walk: Walk<'_, '_>) -> bool
     }
 }
 
-pub fn is_among(values: &[JsonValue], value: &JsonValue) -> bool
-    ensures { result ≡ is_among (items_view values.now) (view value.now) }
+pub fn is_among(values: &[JsonValue], value: &ValueView<'_>) -> bool
+    ensures { result ≡ is_among (items_view values.now) (tree_of value.now) }
 {
     for one in values {
-        if value == one {
+        if value.equals_value(one) {
             return true;
         }
     }
@@ -142,92 +153,108 @@ pub fn is_among(values: &[JsonValue], value: &JsonValue) -> bool
 }
 
 /// Whether the first number is at most the second; true if one is no number.
-fn are_ordered(number: &JsonValue, other: &JsonValue) -> bool
-    ensures { result ≡ are_ordered (view number.now) (view other.now) }
+fn are_ordered(number: &ValueView<'_>, other: &ValueView<'_>) -> bool
+    ensures { result ≡ are_ordered (tree_of number.now) (tree_of other.now) }
 {
-    match (number, other) {
-        (JsonValue::Number(number), JsonValue::Number(other)) => is_at_most(number, other),
-        _ => true,
-    }
+    let Some(number) = number.number() else {
+        return true;
+    };
+    let Some(other) = other.number() else {
+        return true;
+    };
+    is_at_most(number.as_number(), other.as_number())
 }
 
 /// Whether the first number is less than the second; true if one is no number.
-fn are_apart(number: &JsonValue, other: &JsonValue) -> bool
-    ensures { result ≡ are_apart (view number.now) (view other.now) }
+fn are_apart(number: &ValueView<'_>, other: &ValueView<'_>) -> bool
+    ensures { result ≡ are_apart (tree_of number.now) (tree_of other.now) }
 {
-    match (number, other) {
-        (JsonValue::Number(number), JsonValue::Number(other)) => !is_at_most(other, number),
-        _ => true,
-    }
+    let Some(number) = number.number() else {
+        return true;
+    };
+    let Some(other) = other.number() else {
+        return true;
+    };
+    !is_at_most(other.as_number(), number.as_number())
 }
 
 /// The number of characters of a string; `None` for another value.
-fn length(value: &JsonValue) -> Option<usize>
-    ensures { result ≡ length_of (view value.now) }
+fn length(value: &ValueView<'_>) -> Option<usize>
+    ensures { result ≡ length_of (tree_of value.now) }
 {
-    match value {
-        JsonValue::String(text) => Some(text.as_str().chars().count()),
-        _ => None,
+    match value.string() {
+        Some(text) => Some(character_count(text)),
+        None => None,
     }
+}
+
+fn character_count(text: &str) -> usize
+    ensures { result ≡ length (chars text.now) }
+{
+    text.chars().count()
 }
 
 /// Whether the pattern matches somewhere in the string; true for other values.
 fn has_pattern(
     pattern: &JsonValue,
-    value: &JsonValue,
+    value: &ValueView<'_>,
     walk: Walk<'_, '_>,
 ) -> Result<bool, AllocError>
-    ensures { IfOk result (λ has. has ≡ has_pattern (view pattern.now) (view value.now)) }
+    ensures { IfOk result (λ has. has ≡ has_pattern (view pattern.now) (tree_of value.now)) }
 {
-    match (pattern, value) {
-        (JsonValue::String(pattern), JsonValue::String(text)) => {
-            walk.whole
-                .budget
-                .charge(pattern.len().saturating_add(text.len()) / 32);
-            walk.whole
-                .patterns
-                .is_found(pattern.as_str(), text.as_str(), walk.alloc)
-        }
-        _ => Ok(true),
-    }
+    let JsonValue::String(pattern) = pattern else {
+        return Ok(true);
+    };
+    let Some(text) = value.string() else {
+        return Ok(true);
+    };
+    walk.whole
+        .budget
+        .charge(pattern.len().saturating_add(text.len()) / 32);
+    walk.whole
+        .patterns
+        .is_found(pattern.as_str(), text, walk.alloc)
 }
 
 /// Whether the string has the format with that name; true for other values, and if the name is not known.
-fn has_format(format: &JsonValue, value: &JsonValue) -> bool
-    ensures { result ≡ has_format (view format.now) (view value.now) }
+fn has_format(format: &JsonValue, value: &ValueView<'_>) -> bool
+    ensures { result ≡ has_format (view format.now) (tree_of value.now) }
 {
-    match (format, value) {
-        (JsonValue::String(name), JsonValue::String(text)) => is_formatted(name, text),
-        _ => true,
-    }
+    let JsonValue::String(name) = format else {
+        return true;
+    };
+    let Some(text) = value.string() else {
+        return true;
+    };
+    is_formatted(name, text)
 }
 
-fn is_formatted(name: &String, value: &String) -> bool
-    ensures { result ≡ has_format (string (text name.now)) (string (text value.now)) }
+fn is_formatted(name: &String, value: &str) -> bool
+    ensures { result ≡ has_format (string (text name.now)) (string (chars value.now)) }
 {
     match Format::from_name(name.as_str()) {
-        Some(format) => format.accepts(value.as_str()),
+        Some(format) => format.accepts(value),
         None => true,
     }
 }
 
 /// The number of items of an array; `None` for another value.
-fn item_count(value: &JsonValue) -> Option<usize>
-    ensures { result ≡ items_count_of (view value.now) }
+fn item_count(value: &ValueView<'_>) -> Option<usize>
+    ensures { result ≡ items_count_of (tree_of value.now) }
 {
-    match value {
-        JsonValue::Array(items) => Some(items.len()),
+    match value.kind() {
+        JsonKind::Array => Some(value.len()),
         _ => None,
     }
 }
 
 /// The number of members of an object; `None` for another value.
-fn member_count(value: &JsonValue, alloc: Global) -> Result<Option<usize>, AllocError>
-    ensures { IfOk result (λ n. n ≡ members_count_of (view value.now)) }
+fn member_count(value: &ValueView<'_>) -> Option<usize>
+    ensures { result ≡ members_count_of (tree_of value.now) }
 {
-    match value {
-        JsonValue::Object(members) => Ok(Some(sorted_members(alloc, members)?.len())),
-        _ => Ok(None),
+    match value.kind() {
+        JsonKind::Object => Some(value.len()),
+        _ => None,
     }
 }
 
@@ -240,7 +267,10 @@ pub fn is_count_at_most(
     ensures { IfOk result (λ is. is ≡ is_count_at_most found (view limit.now)) }
 {
     match found {
-        Some(found) => Ok(are_ordered(&number_of(found, alloc)?, limit)),
+        Some(found) => {
+            let found = number_of(found, alloc)?;
+            Ok(are_ordered(&ValueView::InValue(&found), &ValueView::InValue(limit)))
+        }
         None => Ok(true),
     }
 }
@@ -254,7 +284,10 @@ pub fn is_count_at_least(
     ensures { IfOk result (λ is. is ≡ is_count_at_least found (view limit.now)) }
 {
     match found {
-        Some(found) => Ok(are_ordered(limit, &number_of(found, alloc)?)),
+        Some(found) => {
+            let found = number_of(found, alloc)?;
+            Ok(are_ordered(&ValueView::InValue(limit), &ValueView::InValue(&found)))
+        }
         None => Ok(true),
     }
 }
@@ -265,83 +298,90 @@ fn number_of(found: usize, alloc: Global) -> Result<JsonValue, AllocError>
     Ok(JsonValue::Number(JsonNumber::from_u64(alloc, found as u64)?))
 }
 
-fn has_required(keys: &JsonValue, value: &JsonValue) -> bool
-    ensures { result ≡ has_required (view keys.now) (view value.now) }
+fn has_required(keys: &JsonValue, value: &ValueView<'_>) -> bool
+    ensures { result ≡ has_required (view keys.now) (tree_of value.now) }
 {
-    match value {
-        JsonValue::Object(members) => has_keys(keys, members),
+    match value.kind() {
+        JsonKind::Object => has_keys(keys, value),
         _ => true,
     }
 }
 
-fn has_keys(keys: &JsonValue, members: &HashMap<String, JsonValue>) -> bool
-    ensures { result ≡ has_keys (view keys.now) (members_view members.now.entries) }
+/// Whether the object has each of the keys.
+fn has_keys(keys: &JsonValue, value: &ValueView<'_>) -> bool
+    ensures { result ≡ has_keys (view keys.now) (members_in (tree_of value.now)) }
 {
     match keys {
-        JsonValue::Array(keys) => are_present(keys.as_slice(), members),
+        JsonValue::Array(keys) => are_present(keys.as_slice(), value),
         _ => true,
     }
 }
 
-fn are_present(keys: &[JsonValue], members: &HashMap<String, JsonValue>) -> bool
-    ensures { result ≡ are_present (items_view keys.now) (members_view members.now.entries) }
+fn are_present(keys: &[JsonValue], value: &ValueView<'_>) -> bool
+    ensures { result ≡ are_present (items_view keys.now) (members_in (tree_of value.now)) }
 {
     for key in keys {
-        if !is_present(key, members) {
+        if !is_present(key, value) {
             return false;
         }
     }
     true
 }
 
-fn is_present(key: &JsonValue, members: &HashMap<String, JsonValue>) -> bool
-    ensures { result ≡ is_present (view key.now) (members_view members.now.entries) }
+fn is_present(key: &JsonValue, value: &ValueView<'_>) -> bool
+    ensures { result ≡ is_present (view key.now) (members_in (tree_of value.now)) }
 {
     match key {
-        JsonValue::String(key) => members.contains_key(key.as_str()),
+        JsonValue::String(key) => has_key(key, value),
         _ => true,
     }
 }
 
+fn has_key(key: &String, value: &ValueView<'_>) -> bool
+    ensures { result ≡ is_some (find (text key.now) (members_in (tree_of value.now))) }
+{
+    value.member(key.as_str()).is_some()
+}
+
 fn has_dependent_required(
     dependents: &JsonValue,
-    value: &JsonValue,
+    value: &ValueView<'_>,
     alloc: Global,
 ) -> Result<bool, AllocError>
     ensures { IfOk result
-        (λ is. is ≡ has_dependent_required (view dependents.now) (view value.now)) }
+        (λ is. is ≡ has_dependent_required (view dependents.now) (tree_of value.now)) }
 {
-    match (dependents, value) {
-        (JsonValue::Object(dependents), JsonValue::Object(members)) => {
+    let JsonValue::Object(dependents) = dependents else {
+        return Ok(true);
+    };
+    match value.kind() {
+        JsonKind::Object => {
             let sorted = sorted_members(alloc, dependents)?;
-            Ok(has_dependents(sorted.as_slice(), members))
+            Ok(has_dependents(sorted.as_slice(), value))
         }
         _ => Ok(true),
     }
 }
 
-/// Whether the value has, for each key that it has, the keys that this key requires.
-fn has_dependents(
-    dependents: &[(&String, &JsonValue)],
-    members: &HashMap<String, JsonValue>,
-) -> bool
+/// Whether the object has, for each key that it has, the keys that this key requires.
+fn has_dependents(dependents: &[(&String, &JsonValue)], value: &ValueView<'_>) -> bool
     ensures { result
-        ≡ has_dependents (members_listed dependents.now) (members_view members.now.entries) }
+        ≡ has_dependents (members_listed dependents.now) (members_in (tree_of value.now)) }
 {
     for &(key, keys) in dependents {
-        if !has_dependents_of(key, keys, members) {
+        if !has_dependents_of(key, keys, value) {
             return false;
         }
     }
     true
 }
 
-fn has_dependents_of(key: &String, keys: &JsonValue, members: &HashMap<String, JsonValue>) -> bool
+fn has_dependents_of(key: &String, keys: &JsonValue, value: &ValueView<'_>) -> bool
     ensures { result ≡ has_dependents_of (text key.now) (view keys.now)
-        (members_view members.now.entries) }
+        (members_in (tree_of value.now)) }
 {
-    if !members.contains_key(key.as_str()) {
+    if !has_key(key, value) {
         return true;
     }
-    has_keys(keys, members)
+    has_keys(keys, value)
 }

@@ -1,15 +1,15 @@
 //! What a value violates of a schema, with the words.
 ghost use Rattle.std.specs.Prelude.{◌≡◌, Ok, Some};
-ghost use Rattle.tinyjson.specs.View.{view};
+ghost use Rattle.tinyjson_view.specs.Views.{tree_of as value_tree};
 ghost use Rattle.tinyjson_schema.specs.Reading.{tree_of, root_in};
 ghost use Rattle.tinyjson_schema.specs.Valid.{ValidatesIn};
 ghost use Rattle.tinyjson_schema_report.specs.Finds.{Finds, FindsIn};
 
 use std::alloc::Global;
-use tinyjson::JsonValue;
 use tinyjson_schema::{CheckError, Checks, Limits, Schema, Violation};
 use tinyjson_schema_keywords::Walk;
 use tinyjson_schema_words::{Places, words};
+use tinyjson_view::{AsView, ValueView};
 
 /// What a value violates of a schema.
 #[derive(Drop)]
@@ -50,13 +50,13 @@ pub fn limits_of(length: usize) -> Limits
 /// ```
 /// let found = find(&schema, &value, limits_of(text.len()), alloc)?;
 /// ```
-pub fn find(
+pub fn find<'v, V: AsView<'v>>(
     schema: &Schema<'_>,
-    value: &JsonValue,
+    value: V,
     limits: Limits,
     alloc: Global,
 ) -> Result<Option<Finding>, CheckError>
-    ensures { Finds limits.nested (tree_of schema.now) (view value.now) result }
+    ensures { Finds limits.nested (tree_of schema.now) (V.tree value) result }
 {
     let checks = Checks {
         limits,
@@ -71,18 +71,19 @@ pub fn find(
 /// let checks = Checks { limits: limits_of(text.len()), formats: true };
 /// let found = find_by(&schema, &value, checks, alloc)?;
 /// ```
-pub fn find_by(
+pub fn find_by<'v, V: AsView<'v>>(
     schema: &Schema<'_>,
-    value: &JsonValue,
+    value: V,
     checks: Checks,
     alloc: Global,
 ) -> Result<Option<Finding>, CheckError>
-    ensures { FindsIn checks.limits.nested (root_in schema.now checks.formats) (view value.now)
+    ensures { FindsIn checks.limits.nested (root_in schema.now checks.formats) (V.tree value)
         result }
 {
+    let value = value.as_view();
     match schema.invalid_place_by(value, checks, alloc) {
         Ok(None) => Ok(None),
-        Ok(Some(violation)) => with_words(schema, value, violation, checks, alloc),
+        Ok(Some(violation)) => with_words(schema, &value, violation, checks, alloc),
         Err(error) => Err(error),
     }
 }
@@ -90,14 +91,14 @@ pub fn find_by(
 /// The violation with its words.
 fn with_words(
     schema: &Schema<'_>,
-    value: &JsonValue,
+    value: &ValueView<'_>,
     violation: Violation,
     checks: Checks,
     alloc: Global,
 ) -> Result<Option<Finding>, CheckError>
     requires { ValidatesIn checks.limits.nested (root_in schema.now checks.formats)
-        (view value.now) (Ok (Some violation)) }
-    ensures { FindsIn checks.limits.nested (root_in schema.now checks.formats) (view value.now)
+        (value_tree value.now) (Ok (Some violation)) }
+    ensures { FindsIn checks.limits.nested (root_in schema.now checks.formats) (value_tree value.now)
         result }
 {
     let places = Places {

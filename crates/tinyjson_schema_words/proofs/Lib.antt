@@ -5,3 +5,4 @@ mod Leading
 mod Needing
 mod Refusing
 mod Telling
+mod Viewing

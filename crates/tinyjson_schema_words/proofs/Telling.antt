@@ -1,12 +1,16 @@
 -- The words of strings, counts and names.
-use Rattle.std.proofs.Common.{◌≡◌, ℕ, suc, List, [], ◌∷◌, ◌++◌, Option, Some, None, String, Vec, Global, Bor, string_bytes, length, codes}
+use Rattle.std.proofs.Common.{◌≡◌, ◌≢◌, ℕ, suc, List, [], ◌∷◌, ◌++◌, Option, Some, None, is_some, option_map, String, Global, string_bytes}
+use Rattle.std.proofs.Common.{codes}
 use Rattle.std.proofs.Common.{refl, sym, ap, ap₂, ◌∙◌}
 use Rattle.std.specs.Prelude.{option_and_then}
 use Rattle.std.specs.Option.{option_map_or}
-use Rattle.tinyjson.proofs.Callers.{view_Array, view_Object, view_String, item_count_view}
-use Rattle.tinyjson.specs.Access.{JsonMap}
-use Rattle.tinyjson.specs.Tree.{Tree}
-use Rattle.tinyjson.specs.View.{view, text, members_view, members_listed}
+use Rattle.tinyjson.proofs.Callers.{view_String}
+use Rattle.tinyjson.specs.JsonKind.TheVariants as kind
+use Rattle.tinyjson.specs.Kind.{kind_of}
+use Rattle.tinyjson.specs.Tree.{Tree, string, array, object, Members, no_members, member}
+use Rattle.tinyjson.specs.View.{view}
+use Rattle.tinyjson_document.specs.Parts as part
+use Rattle.tinyjson_document.specs.Parts.{size, string_in}
 use Rattle.tinyjson.specs.declared.value.JsonValue.{JsonValue}
 use Rattle.tinyjson.specs.declared.value.JsonValue.TheVariants as is
 use Rattle.tinyjson_pointer.specs.Walk.{part_at, step}
@@ -25,24 +29,35 @@ string_type v s bs e b = ap with_article (text_bytes s bs b) ∙ ap type_name (s
 
 -- ---- counts
 
-pub characters_counted : (v : JsonValue) (s : String Global) (n : ℕ) → v ≡ is.String s → n ≡ length (text s)
-    → Some n ≡ length_of (view v)
-characters_counted v s n e h = ap Some h ∙ ap length_of (sym (ap view e ∙ view_String s))
+same_count : (ms : Members) → part.member_count ms ≡ member_count ms
+same_count no_members = refl
+same_count (member k t ms) = ap suc (same_count ms)
 
-pub items_counted : (v : JsonValue) (l : Vec JsonValue Global) (n : ℕ) → v ≡ is.Array l → n ≡ length l.items
-    → Some n ≡ items_count_of (view v)
-items_counted v l n e h = ap Some (h ∙ sym (item_count_view l.items)) ∙ ap items_count_of (sym (ap view e ∙ view_Array l))
+pub items_counted : (t : Tree) → kind.Array ≡ kind_of t → Some (size t) ≡ items_count_of t
+items_counted (array ts) k = refl
+items_counted _ k = absurd cc
 
-listed_count : (ps : List (Bor (String Global) × Bor JsonValue)) → member_count (members_listed ps) ≡ length ps
-listed_count [] = refl
-listed_count (p ∷ ps) = ap suc (listed_count ps)
+pub no_items_counted : (t : Tree) → kind.Array ≢ kind_of t → None ≡ items_count_of t
+no_items_counted (array ts) n = absurd (n refl)
+no_items_counted _ n = refl
 
-pub members_counted : (v : JsonValue) (m : JsonMap) (ps : List (Bor (String Global) × Bor JsonValue)) (n : ℕ) → v ≡ is.Object m
-    → members_listed ps ≡ members_view m.entries → n ≡ length ps → Some n ≡ members_count_of (view v)
-members_counted v m ps n e h g =
-    ap Some (g ∙ (sym (listed_count ps) ∙ ap member_count h)) ∙ ap members_count_of (sym (ap view e ∙ view_Object m))
+pub members_counted : (t : Tree) → kind.Object ≡ kind_of t → Some (size t) ≡ members_count_of t
+members_counted (object ms) k = ap Some (same_count ms)
+members_counted _ k = absurd cc
+
+pub no_members_counted : (t : Tree) → kind.Object ≢ kind_of t → None ≡ members_count_of t
+no_members_counted (object ms) n = absurd (n refl)
+no_members_counted _ n = refl
+
+pub no_length : (t : Tree) → None ≡ string_in t → None ≡ length_of t
+no_length (string cs) h = absurd cc
+no_length _ h = refl
 
 -- ---- names
+
+pub some_mapped : {A B : Type 0} (f : A → B) (o : Option A) → is_some o ≡ is_some (option_map f o)
+some_mapped f None = refl
+some_mapped f (Some x) = refl
 
 pub none_missing : (w t : Tree) → None ≡ missing (items_in w) t → [] ≡ required_words w t
 none_missing w t h = ap (λ o. option_map_or (λ k. brief k ++ codes " is required") o []) h

@@ -3,10 +3,12 @@ ghost use Rattle.std.specs.Prelude.{◌≡◌, IfOk};
 ghost use Rattle.std.specs.Str.{chars};
 ghost use Rattle.std.specs.String.{string_bytes};
 ghost use Rattle.tinyjson.specs.View.{view, items_view};
+ghost use Rattle.tinyjson_view.specs.Views.{tree_of};
 ghost use Rattle.tinyjson_schema_words.specs.Brief.{cut, brief, listed, brief_list, written};
 
 use std::alloc::{AllocError, Global};
 use tinyjson::JsonValue;
+use tinyjson_view::ValueView;
 
 /// How many characters of a text are shown.
 const SHOWN: usize = 60;
@@ -32,6 +34,13 @@ fn cut(text: &str, alloc: Global) -> Result<String, AllocError>
 pub fn brief(value: &JsonValue, alloc: Global) -> Result<String, AllocError>
     ensures { IfOk result (λ s. string_bytes s ≡ brief (view value.now)) }
 {
+    brief_of(&ValueView::InValue(value), alloc)
+}
+
+/// The text of a value that is checked, cut.
+pub fn brief_of(value: &ValueView<'_>, alloc: Global) -> Result<String, AllocError>
+    ensures { IfOk result (λ s. string_bytes s ≡ brief (tree_of value.now)) }
+{
     let text = written(value, alloc)?;
     cut(text.as_str(), alloc)
 }
@@ -50,9 +59,9 @@ fn listed(values: &[JsonValue], alloc: Global) -> Result<String, AllocError>
     let Some((first, more)) = values.split_first() else {
         return Ok(String::new(alloc));
     };
-    let mut text = written(first, alloc)?;
+    let mut text = written(&ValueView::InValue(first), alloc)?;
     for value in more {
-        let one = written(value, alloc)?;
+        let one = written(&ValueView::InValue(value), alloc)?;
         text.push_str(", ")?;
         text.push_str(one.as_str())?;
     }
@@ -60,8 +69,8 @@ fn listed(values: &[JsonValue], alloc: Global) -> Result<String, AllocError>
 }
 
 /// The compact text of a value.
-fn written(value: &JsonValue, alloc: Global) -> Result<String, AllocError>
-    ensures { IfOk result (λ s. string_bytes s ≡ written (view value.now)) }
+fn written(value: &ValueView<'_>, alloc: Global) -> Result<String, AllocError>
+    ensures { IfOk result (λ s. string_bytes s ≡ written (tree_of value.now)) }
 {
     match value.stringify(alloc) {
         Ok(text) => Ok(text),

@@ -1,15 +1,19 @@
 //! What is counted of a value.
-ghost use Rattle.std.specs.Prelude.{◌≡◌, IfOk};
+ghost use Rattle.std.specs.Prelude.{◌≡◌, IfOk, length};
+ghost use Rattle.std.specs.Str.{chars};
 ghost use Rattle.std.specs.Option.{option_map_or};
 ghost use Rattle.std.specs.String.{string_bytes};
 ghost use Rattle.tinyjson.specs.View.{view};
+ghost use Rattle.tinyjson_view.specs.Views.{tree_of};
 ghost use Rattle.tinyjson_schema_words.specs.Counts.{length_of, items_count_of, members_count_of};
 ghost use Rattle.tinyjson_schema_words.specs.Counts.{counted, count_words, contained_words};
 ghost use Rattle.tinyjson_schema_words.specs.Counts.{plural};
 
 use crate::brief::brief;
 use std::alloc::{AllocError, Global};
-use tinyjson::{JsonValue, sorted_members};
+use tinyjson::{JsonKind, JsonValue};
+use tinyjson_document::JsonView;
+use tinyjson_view::ValueView;
 
 /// What is counted, and how many were wanted.
 #[derive(Clone, Copy)]
@@ -71,31 +75,37 @@ fn plural(limit: &str) -> &'static str
 }
 
 /// The number of characters of a string; `None` for another value.
-pub fn length(value: &JsonValue) -> Option<usize>
-    ensures { result ≡ length_of (view value.now) }
+pub fn length(value: &ValueView<'_>) -> Option<usize>
+    ensures { result ≡ length_of (tree_of value.now) }
 {
-    match value {
-        JsonValue::String(text) => Some(text.as_str().chars().count()),
-        _ => None,
+    match value.string() {
+        Some(text) => Some(character_count(text)),
+        None => None,
     }
 }
 
-/// The number of items of an array; `None` for another value.
-pub fn item_count(value: &JsonValue) -> Option<usize>
-    ensures { result ≡ items_count_of (view value.now) }
+fn character_count(text: &str) -> usize
+    ensures { result ≡ length (chars text.now) }
 {
-    match value {
-        JsonValue::Array(items) => Some(items.len()),
+    text.chars().count()
+}
+
+/// The number of items of an array; `None` for another value.
+pub fn item_count(value: &ValueView<'_>) -> Option<usize>
+    ensures { result ≡ items_count_of (tree_of value.now) }
+{
+    match value.kind() {
+        JsonKind::Array => Some(value.len()),
         _ => None,
     }
 }
 
 /// The number of members of an object; `None` for another value.
-pub fn member_count(value: &JsonValue, alloc: Global) -> Result<Option<usize>, AllocError>
-    ensures { IfOk result (λ n. n ≡ members_count_of (view value.now)) }
+pub fn member_count(value: &ValueView<'_>) -> Option<usize>
+    ensures { result ≡ members_count_of (tree_of value.now) }
 {
-    match value {
-        JsonValue::Object(members) => Ok(Some(sorted_members(alloc, members)?.len())),
-        _ => Ok(None),
+    match value.kind() {
+        JsonKind::Object => Some(value.len()),
+        _ => None,
     }
 }

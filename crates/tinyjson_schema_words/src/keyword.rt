@@ -2,26 +2,28 @@
 ghost use Rattle.std.specs.Prelude.{◌≡◌, IfOk};
 ghost use Rattle.std.specs.String.{string_bytes};
 ghost use Rattle.tinyjson.specs.View.{view};
+ghost use Rattle.tinyjson_view.specs.Views.{tree_of};
 ghost use Rattle.tinyjson_schema_words.specs.Words.{keyword_words, compared, one_of, fixed};
 ghost use Rattle.tinyjson_schema_words.specs.Words.{at_most, at_least, format_words};
 
-use crate::brief::{brief, brief_list};
+use crate::brief::{brief, brief_list, brief_of};
 use crate::count::{Count, contained_words, count_words, item_count, length, member_count};
 use crate::kind::{type_name, type_words};
 use crate::missing::required_words;
 use std::alloc::{AllocError, Global};
 use tinyjson::JsonValue;
 use tinyjson_schema_keywords::{Keyword, items_in};
+use tinyjson_view::ValueView;
 
 /// What the value lacks that does not meet the keyword with this value of its own.
 pub fn keyword_words(
     keyword: Keyword,
     operand: &JsonValue,
-    value: &JsonValue,
+    value: &ValueView<'_>,
     alloc: Global,
 ) -> Result<String, AllocError>
     ensures { IfOk result (λ s. string_bytes s
-        ≡ keyword_words keyword (view operand.now) (view value.now)) }
+        ≡ keyword_words keyword (view operand.now) (tree_of value.now)) }
 {
     match keyword {
         Keyword::Type => type_words(operand, value, alloc),
@@ -39,8 +41,8 @@ pub fn keyword_words(
         Keyword::MinItems => at_least(operand, " item", item_count(value), alloc),
         Keyword::MaxContains => contained_words("must have at most ", operand, alloc),
         Keyword::MinContains => contained_words("must have at least ", operand, alloc),
-        Keyword::MaxProperties => at_most(operand, " member", member_count(value, alloc)?, alloc),
-        Keyword::MinProperties => at_least(operand, " member", member_count(value, alloc)?, alloc),
+        Keyword::MaxProperties => at_most(operand, " member", member_count(value), alloc),
+        Keyword::MinProperties => at_least(operand, " member", member_count(value), alloc),
         Keyword::Required => required_words(operand, value, alloc),
         Keyword::Format => format_words(operand, value, alloc),
         _ => String::from_str(alloc, fixed(keyword)),
@@ -51,24 +53,28 @@ pub fn keyword_words(
 fn compared(
     wanted: &str,
     operand: &JsonValue,
-    value: &JsonValue,
+    value: &ValueView<'_>,
     alloc: Global,
 ) -> Result<String, AllocError>
     ensures { IfOk result (λ s. string_bytes s
-        ≡ compared wanted.now (view operand.now) (view value.now)) }
+        ≡ compared wanted.now (view operand.now) (tree_of value.now)) }
 {
     let bound = brief(operand, alloc)?;
-    let found = brief(value, alloc)?;
+    let found = brief_of(value, alloc)?;
     format!(in alloc; "{wanted}{}, is {}", bound.as_str(), found.as_str())
 }
 
 /// The format that is wanted, and what the value is.
-fn format_words(format: &JsonValue, value: &JsonValue, alloc: Global) -> Result<String, AllocError>
+fn format_words(
+    format: &JsonValue,
+    value: &ValueView<'_>,
+    alloc: Global,
+) -> Result<String, AllocError>
     ensures { IfOk result
-        (λ s. string_bytes s ≡ format_words (view format.now) (view value.now)) }
+        (λ s. string_bytes s ≡ format_words (view format.now) (tree_of value.now)) }
 {
     let wanted = type_name(format, alloc)?;
-    let found = brief(value, alloc)?;
+    let found = brief_of(value, alloc)?;
     format!(in alloc; "must be {wanted}, is {found}")
 }
 

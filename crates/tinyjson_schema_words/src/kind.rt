@@ -2,16 +2,23 @@
 ghost use Rattle.std.specs.Prelude.{◌≡◌, IfOk};
 ghost use Rattle.std.specs.String.{string_bytes};
 ghost use Rattle.tinyjson.specs.View.{view, items_view};
+ghost use Rattle.tinyjson_view.specs.Views.{tree_of};
 ghost use Rattle.tinyjson_schema_words.specs.Kinds.{article, with_article, type_words};
 ghost use Rattle.tinyjson_schema_words.specs.Kinds.{types, type_name, type_list, kind_words};
 
 use std::alloc::{AllocError, Global};
 use tinyjson::JsonValue;
+use tinyjson_document::JsonView;
+use tinyjson_view::ValueView;
 
 /// The types that the keyword `type` names, and what the value is.
-pub fn type_words(types: &JsonValue, value: &JsonValue, alloc: Global) -> Result<String, AllocError>
+pub fn type_words(
+    types: &JsonValue,
+    value: &ValueView<'_>,
+    alloc: Global,
+) -> Result<String, AllocError>
     ensures { IfOk result
-        (λ s. string_bytes s ≡ type_words (view types.now) (view value.now)) }
+        (λ s. string_bytes s ≡ type_words (view types.now) (tree_of value.now)) }
 {
     let wanted = wanted_types(types, alloc)?;
     let found = kind_words(value, alloc)?;
@@ -54,8 +61,8 @@ pub fn type_name(name: &JsonValue, alloc: Global) -> Result<String, AllocError>
 }
 
 /// The kind of the value with its article.
-fn kind_words(value: &JsonValue, alloc: Global) -> Result<String, AllocError>
-    ensures { IfOk result (λ s. string_bytes s ≡ kind_words (view value.now)) }
+fn kind_words(value: &ValueView<'_>, alloc: Global) -> Result<String, AllocError>
+    ensures { IfOk result (λ s. string_bytes s ≡ kind_words (tree_of value.now)) }
 {
     let kind = value.kind().to_string(alloc)?;
     with_article(kind.as_str(), alloc)

@@ -1,7 +1,7 @@
 //! What a value lacks that violates a JSON Schema, and why a schema can't be applied, in words.
 //!
 //! ```
-//! let words = words(violated, &value, walk)?; // must be at most 10, is 12
+//! let words = words(violated, &value.as_view(), walk)?; // must be at most 10, is 12
 //! ```
 #![tactic(auto)]
 

@@ -1,22 +1,27 @@
 //! The names that an object lacks.
-ghost use Rattle.std.specs.Prelude.{◌≡◌, IfOk, option_map};
+ghost use Rattle.std.specs.Prelude.{◌≡◌, IfOk, is_some, option_map};
+ghost use Rattle.std.specs.Str.{chars};
 ghost use Rattle.std.specs.String.{string_bytes};
+ghost use Rattle.tinyjson.specs.Index.{tree_at_key};
 ghost use Rattle.tinyjson.specs.View.{view, items_view};
+ghost use Rattle.tinyjson_view.specs.Views.{tree_of};
 ghost use Rattle.tinyjson_schema_words.specs.Missing.{is_there, missing, required_words};
 
 use crate::brief::brief;
 use std::alloc::{AllocError, Global};
 use tinyjson::JsonValue;
-use tinyjson_schema_keywords::{has_key, items_in};
+use tinyjson_document::JsonView;
+use tinyjson_schema_keywords::items_in;
+use tinyjson_view::ValueView;
 
 /// The first of the names that the object lacks.
 pub fn required_words(
     names: &JsonValue,
-    value: &JsonValue,
+    value: &ValueView<'_>,
     alloc: Global,
 ) -> Result<String, AllocError>
     ensures { IfOk result
-        (λ s. string_bytes s ≡ required_words (view names.now) (view value.now)) }
+        (λ s. string_bytes s ≡ required_words (view names.now) (tree_of value.now)) }
 {
     let Some(name) = missing(items_in(names), value) else {
         return Ok(String::new(alloc));
@@ -26,9 +31,9 @@ pub fn required_words(
 }
 
 /// The first of the names that is no key of the value.
-fn missing<'s>(names: &'s [JsonValue], value: &JsonValue) -> Option<&'s JsonValue>
+fn missing<'s>(names: &'s [JsonValue], value: &ValueView<'_>) -> Option<&'s JsonValue>
     ensures { option_map (λ x. view x.now) result
-        ≡ missing (items_view names.now) (view value.now) }
+        ≡ missing (items_view names.now) (tree_of value.now) }
 {
     for name in names {
         if !is_there(name, value) {
@@ -38,11 +43,17 @@ fn missing<'s>(names: &'s [JsonValue], value: &JsonValue) -> Option<&'s JsonValu
     None
 }
 
-fn is_there(name: &JsonValue, value: &JsonValue) -> bool
-    ensures { result ≡ is_there (view name.now) (view value.now) }
+fn is_there(name: &JsonValue, value: &ValueView<'_>) -> bool
+    ensures { result ≡ is_there (view name.now) (tree_of value.now) }
 {
     match name {
         JsonValue::String(name) => has_key(value, name.as_str()),
         _ => true,
     }
+}
+
+fn has_key(value: &ValueView<'_>, key: &str) -> bool
+    ensures { result ≡ is_some (tree_at_key (tree_of value.now) (chars key.now)) }
+{
+    value.member(key).is_some()
 }

@@ -2,15 +2,16 @@
 ghost use Rattle.std.specs.Prelude.{◌≡◌, IfOk};
 ghost use Rattle.std.specs.String.{string_bytes};
 ghost use Rattle.tinyjson.specs.View.{view};
+ghost use Rattle.tinyjson_view.specs.Views.{tree_of};
 ghost use Rattle.tinyjson_pointer.specs.Tokens.{tokens_of};
 ghost use Rattle.tinyjson_schema_words.specs.Words.{words};
 
 use crate::ending::ending;
 use crate::keyword::keyword_words;
 use std::alloc::AllocError;
-use tinyjson::JsonValue;
 use tinyjson_pointer::Pointer;
 use tinyjson_schema_keywords::Walk;
+use tinyjson_view::ValueView;
 
 /// The place in the schema and the place in the value of a violation.
 #[derive(Clone, Copy)]
@@ -24,25 +25,25 @@ pub struct Places<'p> {
 /// What the part of the value lacks that violates the keyword, as `must be at most 10, is 12`.
 ///
 /// ```
-/// let words = words(places, &value, walk)?;
+/// let words = words(places, &value.as_view(), walk)?;
 /// ```
 pub fn words(
     places: Places<'_>,
-    value: &JsonValue,
+    value: &ValueView<'_>,
     walk: Walk<'_, '_>,
 ) -> Result<String, AllocError>
     ensures { IfOk result (λ s. string_bytes s ≡ words (view walk.entry.whole.now.root.now)
-        (view value.now) (tokens_of places.entry.keyword.now)
+        (tree_of value.now) (tokens_of places.entry.keyword.now)
         (tokens_of places.entry.instance.now)) }
 {
     let Some(end) = ending(places.keyword.tokens(), walk)? else {
         return String::from_str(walk.alloc, UNMET);
     };
-    let Some(part) = places.instance.find(value) else {
+    let Some(part) = places.instance.find_part(*value) else {
         return String::from_str(walk.alloc, UNMET);
     };
     match end.keyword {
-        Some(keyword) => keyword_words(keyword, end.value, part, walk.alloc),
+        Some(keyword) => keyword_words(keyword, end.value, &part, walk.alloc),
         None => String::from_str(walk.alloc, "is not allowed"),
     }
 }

@@ -1,7 +1,10 @@
 //! Keywords that count or combine the results of their subschemas. These tests are not inlined, so that a level of
 //! the recursion over schemas takes less than a kilobyte of stack.
-ghost use Rattle.std.specs.Prelude.{IfOk};
-ghost use Rattle.tinyjson.specs.View.{view, items_view, members_listed};
+ghost use Rattle.std.specs.Prelude.{◌≡◌, IfOk};
+ghost use Rattle.std.specs.Str.{chars};
+ghost use Rattle.tinyjson.specs.Tree.{string};
+ghost use Rattle.tinyjson.specs.View.{view, items_view};
+ghost use Rattle.tinyjson_view.specs.Views.{tree_of, trees_of, members_of};
 ghost use Rattle.tinyjson_schema_keywords.specs.declared.keyword.Keyword.TheVariants as kw;
 ghost use Rattle.tinyjson_schema.specs.Applicators.{any_of, some_accepts, one_of, accepting};
 ghost use Rattle.tinyjson_schema.specs.Applicators.{applies, keys_pass, passing, contained, tests};
@@ -12,19 +15,22 @@ use crate::applied::Applied;
 use crate::contains::{contains_at_least, contains_at_most, contains_some};
 use crate::validate::is_accepted;
 use crate::walk::Walk;
-use tinyjson::JsonValue;
-use tinyjson_schema_keywords::{CheckError, Keyword, is_some_item, listed_members, name_of};
+use std::alloc::{AllocError, Global};
+use tinyjson::{JsonKind, JsonValue};
+use tinyjson_document::JsonView;
+use tinyjson_schema_keywords::{CheckError, Keyword, is_some_item};
+use tinyjson_view::{MemberView, ValueView};
 
 /// One of these keywords that the value violates, if there is one.
 #[cycle(validate)]
 #[inline(never)]
 pub fn unmet_test(
-    value: &JsonValue,
+    value: &ValueView<'_>,
     here: Applied<'_>,
     walk: Walk<'_, '_>,
 ) -> Result<Option<Keyword>, CheckError>
     ensures { IfOk result
-        (λ found. IsUnapplied walk.entry tests (view here.entry.schema.now) (view value.now)
+        (λ found. IsUnapplied walk.entry tests (view here.entry.schema.now) (tree_of value.now)
         found) }
 {
     let any = is_any_met(value, here.schemas_at(Keyword::AnyOf), walk)?;
@@ -50,12 +56,12 @@ pub fn unmet_test(
 #[cycle(validate)]
 #[inline(never)]
 fn unmet_count(
-    value: &JsonValue,
+    value: &ValueView<'_>,
     here: Applied<'_>,
     walk: Walk<'_, '_>,
 ) -> Result<Option<Keyword>, CheckError>
     ensures { IfOk result
-        (λ found. IsUnapplied walk.entry counts (view here.entry.schema.now) (view value.now)
+        (λ found. IsUnapplied walk.entry counts (view here.entry.schema.now) (tree_of value.now)
         found) }
 {
     let count = contained(value, here, walk)?;
@@ -78,13 +84,13 @@ fn unmet_count(
 #[cycle(validate)]
 #[inline(never)]
 fn is_any_met(
-    value: &JsonValue,
+    value: &ValueView<'_>,
     schemas: &[JsonValue],
     walk: Walk<'_, '_>,
 ) -> Result<bool, CheckError>
     ensures { IfOk result
         (λ is. Follows walk.entry is
-        (λ f. any_of f (items_view schemas.now) (view value.now))) }
+        (λ f. any_of f (items_view schemas.now) (tree_of value.now))) }
 {
     if !is_some_item(schemas) {
         return Ok(true);
@@ -96,13 +102,13 @@ fn is_any_met(
 #[cycle(validate)]
 #[inline(never)]
 fn is_some_met(
-    value: &JsonValue,
+    value: &ValueView<'_>,
     schemas: &[JsonValue],
     walk: Walk<'_, '_>,
 ) -> Result<bool, CheckError>
     ensures { IfOk result
         (λ is. Follows walk.entry is
-        (λ f. some_accepts f (items_view schemas.now) (view value.now))) }
+        (λ f. some_accepts f (items_view schemas.now) (tree_of value.now))) }
 {
     for schema in schemas {
         let accepted = is_accepted(value, schema, walk)?;
@@ -117,13 +123,13 @@ fn is_some_met(
 #[cycle(validate)]
 #[inline(never)]
 fn is_one_met(
-    value: &JsonValue,
+    value: &ValueView<'_>,
     schemas: &[JsonValue],
     walk: Walk<'_, '_>,
 ) -> Result<bool, CheckError>
     ensures { IfOk result
         (λ is. Follows walk.entry is
-        (λ f. one_of f (items_view schemas.now) (view value.now))) }
+        (λ f. one_of f (items_view schemas.now) (tree_of value.now))) }
 {
     if !is_some_item(schemas) {
         return Ok(true);
@@ -135,13 +141,13 @@ fn is_one_met(
 /// How many schemas of the list accept the value.
 #[cycle(validate)]
 fn count_accepting(
-    value: &JsonValue,
+    value: &ValueView<'_>,
     schemas: &[JsonValue],
     walk: Walk<'_, '_>,
 ) -> Result<usize, CheckError>
     ensures { IfOk result
         (λ count. Follows walk.entry count
-        (λ f. accepting f (items_view schemas.now) (view value.now))) }
+        (λ f. accepting f (items_view schemas.now) (tree_of value.now))) }
 {
     let mut count = 0;
     for schema in schemas {
@@ -156,10 +162,14 @@ fn count_accepting(
 /// Whether the schema of `not` does not accept the value.
 #[cycle(validate)]
 #[inline(never)]
-fn is_not_met(value: &JsonValue, here: Applied<'_>, walk: Walk<'_, '_>) -> Result<bool, CheckError>
+fn is_not_met(
+    value: &ValueView<'_>,
+    here: Applied<'_>,
+    walk: Walk<'_, '_>,
+) -> Result<bool, CheckError>
     ensures { IfOk result
         (λ is. Follows walk.entry is
-        (λ f. applies f kw.Not (view here.entry.schema.now) (view value.now))) }
+        (λ f. applies f kw.Not (view here.entry.schema.now) (tree_of value.now))) }
 {
     match here.schema_at(Keyword::Not) {
         Some(part) => {
@@ -174,17 +184,17 @@ fn is_not_met(value: &JsonValue, here: Applied<'_>, walk: Walk<'_, '_>) -> Resul
 #[cycle(validate)]
 #[inline(never)]
 fn are_names_met(
-    value: &JsonValue,
+    value: &ValueView<'_>,
     here: Applied<'_>,
     walk: Walk<'_, '_>,
 ) -> Result<bool, CheckError>
     ensures { IfOk result
         (λ is. Follows walk.entry is
-        (λ f. applies f kw.PropertyNames (view here.entry.schema.now) (view value.now))) }
+        (λ f. applies f kw.PropertyNames (view here.entry.schema.now) (tree_of value.now))) }
 {
     match here.schema_at(Keyword::PropertyNames) {
         Some(part) => {
-            let members = listed_members(value, walk.alloc)?;
+            let members = value.members(walk.alloc)?;
             let accepted = are_keys_met(members.as_slice(), part, walk)?;
             Ok(accepted)
         }
@@ -195,17 +205,17 @@ fn are_names_met(
 #[cycle(validate)]
 #[inline(never)]
 fn are_keys_met(
-    members: &[(&String, &JsonValue)],
+    members: &[MemberView<'_>],
     schema: &JsonValue,
     walk: Walk<'_, '_>,
 ) -> Result<bool, CheckError>
     ensures { IfOk result
         (λ is. Follows walk.entry is
-        (λ f. keys_pass (f (view schema.now)) (members_listed members.now))) }
+        (λ f. keys_pass (f (view schema.now)) (members_of members.now))) }
 {
-    for &(key, _) in members {
-        let name = name_of(key, walk.alloc)?;
-        let accepted = is_accepted(&name, schema, walk)?;
+    for member in members {
+        let name = name_of(member.key, walk.alloc)?;
+        let accepted = is_accepted(&ValueView::InValue(&name), schema, walk)?;
         if !accepted {
             return Ok(false);
         }
@@ -213,23 +223,32 @@ fn are_keys_met(
     Ok(true)
 }
 
+/// The key as a string value.
+fn name_of(key: &str, alloc: Global) -> Result<JsonValue, AllocError>
+    ensures { IfOk result (λ name. view name ≡ string (chars key.now)) }
+{
+    let text = String::from_str(alloc, key)?;
+    Ok(JsonValue::String(text))
+}
+
 /// How many items of an array the schema of `contains` accepts; `None` without one, or if the value is no array.
 #[cycle(validate)]
 #[inline(never)]
 fn contained(
-    value: &JsonValue,
+    value: &ValueView<'_>,
     here: Applied<'_>,
     walk: Walk<'_, '_>,
 ) -> Result<Option<usize>, CheckError>
     ensures { IfOk result
         (λ count. Follows walk.entry count
-        (λ f. contained f (view here.entry.schema.now) (view value.now))) }
+        (λ f. contained f (view here.entry.schema.now) (tree_of value.now))) }
 {
     let Some(part) = here.schema_at(Keyword::Contains) else {
         return Ok(None);
     };
-    match value {
-        JsonValue::Array(items) => {
+    match value.kind() {
+        JsonKind::Array => {
+            let items = value.items(walk.alloc)?;
             let count = count_passing(items.as_slice(), part, walk)?;
             Ok(Some(count))
         }
@@ -239,13 +258,13 @@ fn contained(
 
 #[cycle(validate)]
 fn count_passing(
-    items: &[JsonValue],
+    items: &[ValueView<'_>],
     schema: &JsonValue,
     walk: Walk<'_, '_>,
 ) -> Result<usize, CheckError>
     ensures { IfOk result
         (λ count. Follows walk.entry count
-        (λ f. passing (f (view schema.now)) (items_view items.now))) }
+        (λ f. passing (f (view schema.now)) (trees_of items.now))) }
 {
     let mut count = 0;
     for item in items {

@@ -7,7 +7,8 @@ ghost use Rattle.std.specs.Prelude.{◌≡◌, ◌&&◌, ◌||◌, IfOk, OnOk, i
 ghost use Rattle.std.specs.Str.{chars};
 ghost use Rattle.tinyjson.specs.Index.{tree_at_key};
 ghost use Rattle.tinyjson.specs.Tree.{array, object, Tree};
-ghost use Rattle.tinyjson.specs.View.{view, items_view, members_listed};
+ghost use Rattle.tinyjson.specs.View.{view, items_view};
+ghost use Rattle.tinyjson_view.specs.Views.{tree_of, trees_of, members_of};
 ghost use Rattle.tinyjson.specs.Soundness.{IsSorted};
 ghost use Rattle.tinyjson_schema_keywords.specs.Applied.{schema_at, schema_map_at};
 ghost use Rattle.tinyjson_schema_keywords.specs.declared.keyword.Keyword.TheVariants as kw;
@@ -22,12 +23,14 @@ ghost use Rattle.tinyjson_schema.specs.Valid.{Follows, FindsRest, answers_in};
 
 use crate::applied::{Applied, marks_of};
 use crate::part::{is_patterned, item_part, member_part};
-use crate::validate::{is_accepted, violation_in};
+use crate::validate::{has_key, is_accepted, violation_in};
 use crate::violation::Violation;
 use crate::walk::Walk;
 use std::alloc::AllocError;
-use tinyjson::{JsonValue, sorted_members};
-use tinyjson_schema_keywords::{CheckError, Keyword, branch, has_key};
+use tinyjson::{JsonKind, JsonValue};
+use tinyjson_document::JsonView;
+use tinyjson_schema_keywords::{CheckError, Keyword, branch};
+use tinyjson_view::{MemberView, ValueView};
 
 /// A schema whose keywords evaluate members and items, and the walk in it.
 #[derive(Clone, Copy)]
@@ -42,26 +45,27 @@ pub struct Source<'d, 's> {
 #[cycle(validate)]
 #[inline(never)]
 pub fn in_rest(
-    value: &JsonValue,
+    value: &ValueView<'_>,
     here: Applied<'_>,
     walk: Walk<'_, '_>,
 ) -> Result<Option<Violation>, CheckError>
-    ensures { FindsRest walk.entry (view here.entry.schema.now) (view value.now) result }
+    ensures { FindsRest walk.entry (view here.entry.schema.now) (tree_of value.now) result }
 {
-    match value {
-        JsonValue::Object(members) => {
+    match value.kind() {
+        JsonKind::Object => {
             let Some(rest) = here.schema_at(Keyword::UnevaluatedProperties) else {
                 return Ok(None);
             };
             let sources = sources_of(value, here, walk)?;
-            let sorted = sorted_members(walk.alloc, members)?;
-            in_members_left(sorted.as_slice(), rest, sources.as_slice(), walk)
+            let members = value.members(walk.alloc)?;
+            in_members_left(members.as_slice(), rest, sources.as_slice(), walk)
         }
-        JsonValue::Array(items) => {
+        JsonKind::Array => {
             let Some(rest) = here.schema_at(Keyword::UnevaluatedItems) else {
                 return Ok(None);
             };
             let sources = sources_of(value, here, walk)?;
+            let items = value.items(walk.alloc)?;
             in_items_left(items.as_slice(), rest, sources.as_slice(), walk)
         }
         _ => Ok(None),
@@ -72,20 +76,20 @@ pub fn in_rest(
 #[cycle(validate)]
 #[inline(never)]
 fn in_members_left(
-    members: &[(&String, &JsonValue)],
+    members: &[MemberView<'_>],
     rest: &JsonValue,
     sources: &[Source<'_, '_>],
     walk: Walk<'_, '_>,
 ) -> Result<Option<Violation>, CheckError>
-    requires { IsSorted (members_listed members.now) }
+    requires { IsSorted (members_of members.now) }
     ensures { FindsLeft walk.entry kw.UnevaluatedProperties sources.now (view rest.now)
-        (object (members_listed members.now)) result }
+        (object (members_of members.now)) result }
 {
-    for &(key, member) in members {
-        let evaluated = is_member_evaluated(key.as_str(), sources)?;
+    for member in members {
+        let evaluated = is_member_evaluated(member.key, sources)?;
         if !evaluated {
-            if let Some(mut found) = violation_in(member, rest, walk)? {
-                found.enter_member(walk.alloc, Keyword::UnevaluatedProperties, key.as_str())?;
+            if let Some(mut found) = violation_in(&member.value, rest, walk)? {
+                found.enter_member(walk.alloc, Keyword::UnevaluatedProperties, member.key)?;
                 return Ok(Some(found));
             }
         }
@@ -97,14 +101,14 @@ fn in_members_left(
 #[cycle(validate)]
 #[inline(never)]
 fn in_items_left(
-    items: &[JsonValue],
+    items: &[ValueView<'_>],
     rest: &JsonValue,
     sources: &[Source<'_, '_>],
     walk: Walk<'_, '_>,
 ) -> Result<Option<Violation>, CheckError>
     requires { AreWithin walk.steps sources.now }
     ensures { FindsLeft walk.entry kw.UnevaluatedItems sources.now (view rest.now)
-        (array (items_view items.now)) result }
+        (array (trees_of items.now)) result }
 {
     for (index, item) in items.iter().enumerate() {
         let evaluated = is_item_evaluated(index, item, sources, walk)?;
@@ -164,13 +168,13 @@ fn counts_rest(source: &Source<'_, '_>, keyword: Keyword) -> bool
 #[inline(never)]
 fn is_item_evaluated(
     index: usize,
-    item: &JsonValue,
+    item: &ValueView<'_>,
     sources: &[Source<'_, '_>],
     walk: Walk<'_, '_>,
 ) -> Result<bool, CheckError>
     requires { AreWithin walk.steps sources.now }
     ensures { IfOk result (λ is. (g : Answers) →
-        is ≡ sources_evaluate g sources.now (item_at index (view item.now))) }
+        is ≡ sources_evaluate g sources.now (item_at index (tree_of item.now))) }
 {
     for source in sources {
         let evaluates = evaluates_item(source, index, item)?;
@@ -186,10 +190,10 @@ fn is_item_evaluated(
 fn evaluates_item(
     source: &Source<'_, '_>,
     index: usize,
-    item: &JsonValue,
+    item: &ValueView<'_>,
 ) -> Result<bool, CheckError>
     ensures { IfOk result (λ is. (g : Answers) →
-        is ≡ source_evaluates g source.now (item_at index (view item.now))) }
+        is ≡ source_evaluates g source.now (item_at index (tree_of item.now))) }
 {
     let has_rest = counts_rest(source, Keyword::UnevaluatedItems);
     if has_rest {
@@ -210,14 +214,14 @@ fn evaluates_item(
 #[cycle(validate)]
 #[inline(never)]
 fn sources_of<'d, 's>(
-    value: &JsonValue,
+    value: &ValueView<'_>,
     here: Applied<'s>,
     walk: Walk<'d, 's>,
 ) -> Result<Vec<Source<'d, 's>>, CheckError>
     ensures evaluated { IfOk result (λ sources. (g : Answers) (c : Child) →
         sources_evaluate g sources.items c
         ≡ others_evaluate (view walk.entry.ground.now.whole.now.root.now) (answers_in walk.entry g)
-        (view here.entry.schema.now) (view value.now) c) }
+        (view here.entry.schema.now) (tree_of value.now) c) }
     ensures within { IfOk result (λ sources. AreWithin walk.entry.steps sources.items) }
 {
     let mut sources = Vec::new(walk.alloc);
@@ -234,13 +238,13 @@ fn sources_of<'d, 's>(
 #[cycle(validate)]
 #[inline(never)]
 fn add_schema<'d, 's>(
-    value: &JsonValue,
+    value: &ValueView<'_>,
     schema: &'s JsonValue,
     walk: Walk<'d, 's>,
     sources: &mut Vec<Source<'d, 's>>,
 ) -> Result<(), CheckError>
     ensures evaluated { OnOk result (Adds walk.entry
-        (λ a c. a.evaluates (view schema.now) (view value.now) c)
+        (λ a c. a.evaluates (view schema.now) (tree_of value.now) c)
         sources.old.items sources.new.items) }
     ensures within { OnOk result (StaysWithin walk.entry sources.old.items sources.new.items) }
 {
@@ -262,14 +266,14 @@ fn add_schema<'d, 's>(
 #[cycle(validate)]
 #[inline(never)]
 fn add_inner<'d, 's>(
-    value: &JsonValue,
+    value: &ValueView<'_>,
     here: Applied<'s>,
     walk: Walk<'d, 's>,
     sources: &mut Vec<Source<'d, 's>>,
 ) -> Result<(), CheckError>
     ensures evaluated { OnOk result (Adds walk.entry
         (λ a c. inner_evaluate (view walk.entry.ground.now.whole.now.root.now) a (view here.entry.schema.now)
-        (view value.now) c)
+        (tree_of value.now) c)
         sources.old.items sources.new.items) }
     ensures within { OnOk result (StaysWithin walk.entry sources.old.items sources.new.items) }
 {
@@ -289,13 +293,13 @@ fn add_inner<'d, 's>(
 #[cycle(validate)]
 #[inline(never)]
 fn add_listed<'d, 's>(
-    value: &JsonValue,
+    value: &ValueView<'_>,
     schemas: &'s [JsonValue],
     walk: Walk<'d, 's>,
     sources: &mut Vec<Source<'d, 's>>,
 ) -> Result<(), CheckError>
     ensures evaluated { OnOk result (Adds walk.entry
-        (λ a c. some_evaluate a (items_view schemas.now) (view value.now) c)
+        (λ a c. some_evaluate a (items_view schemas.now) (tree_of value.now) c)
         sources.old.items sources.new.items) }
     ensures within { OnOk result (StaysWithin walk.entry sources.old.items sources.new.items) }
 {
@@ -309,13 +313,13 @@ fn add_listed<'d, 's>(
 #[cycle(validate)]
 #[inline(never)]
 fn add_accepting<'d, 's>(
-    value: &JsonValue,
+    value: &ValueView<'_>,
     schemas: &'s [JsonValue],
     walk: Walk<'d, 's>,
     sources: &mut Vec<Source<'d, 's>>,
 ) -> Result<(), CheckError>
     ensures evaluated { OnOk result (Adds walk.entry
-        (λ a c. accepting_evaluate a (items_view schemas.now) (view value.now) c)
+        (λ a c. accepting_evaluate a (items_view schemas.now) (tree_of value.now) c)
         sources.old.items sources.new.items) }
     ensures within { OnOk result (StaysWithin walk.entry sources.old.items sources.new.items) }
 {
@@ -329,16 +333,16 @@ fn add_accepting<'d, 's>(
 #[cycle(validate)]
 #[inline(never)]
 fn add_if_accepting<'d, 's>(
-    value: &JsonValue,
+    value: &ValueView<'_>,
     schema: &'s JsonValue,
     walk: Walk<'d, 's>,
     sources: &mut Vec<Source<'d, 's>>,
 ) -> Result<bool, CheckError>
     ensures accepted { IfOk result (λ is. Follows walk.entry is
-        (λ f. f (view schema.now) (view value.now))) }
+        (λ f. f (view schema.now) (tree_of value.now))) }
     ensures evaluated { IfOk result (λ is. Adds walk.entry
-        (λ a c. a.accepts (view schema.now) (view value.now)
-        && a.evaluates (view schema.now) (view value.now) c)
+        (λ a c. a.accepts (view schema.now) (tree_of value.now)
+        && a.evaluates (view schema.now) (tree_of value.now) c)
         sources.old.items sources.new.items) }
     ensures within { IfOk result (λ is.
         StaysWithin walk.entry sources.old.items sources.new.items) }
@@ -355,13 +359,13 @@ fn add_if_accepting<'d, 's>(
 #[cycle(validate)]
 #[inline(never)]
 fn add_branch<'d, 's>(
-    value: &JsonValue,
+    value: &ValueView<'_>,
     here: Applied<'s>,
     walk: Walk<'d, 's>,
     sources: &mut Vec<Source<'d, 's>>,
 ) -> Result<(), CheckError>
     ensures evaluated { OnOk result (Adds walk.entry
-        (λ a c. branch_evaluates a (view here.entry.schema.now) (view value.now) c)
+        (λ a c. branch_evaluates a (view here.entry.schema.now) (tree_of value.now) c)
         sources.old.items sources.new.items) }
     ensures within { OnOk result (StaysWithin walk.entry sources.old.items sources.new.items) }
 {
@@ -381,7 +385,7 @@ fn add_branch<'d, 's>(
 #[cycle(validate)]
 #[inline(never)]
 fn add_dependents<'d, 's>(
-    value: &JsonValue,
+    value: &ValueView<'_>,
     here: Applied<'s>,
     walk: Walk<'d, 's>,
     sources: &mut Vec<Source<'d, 's>>,
@@ -389,7 +393,7 @@ fn add_dependents<'d, 's>(
     ensures evaluated { OnOk result (Adds walk.entry
         (λ a c. dependents_evaluate a
         (schema_map_at (view here.entry.schema.now) kw.DependentSchemas)
-        (view value.now) c)
+        (tree_of value.now) c)
         sources.old.items sources.new.items) }
     ensures within { OnOk result (StaysWithin walk.entry sources.old.items sources.new.items) }
 {
@@ -405,15 +409,15 @@ fn add_dependents<'d, 's>(
 #[cycle(validate)]
 #[inline(never)]
 fn add_dependent<'d, 's>(
-    value: &JsonValue,
+    value: &ValueView<'_>,
     key: &str,
     schema: &'s JsonValue,
     walk: Walk<'d, 's>,
     sources: &mut Vec<Source<'d, 's>>,
 ) -> Result<(), CheckError>
     ensures evaluated { OnOk result (Adds walk.entry
-        (λ a c. is_some (tree_at_key (view value.now) (chars key.now))
-        && a.evaluates (view schema.now) (view value.now) c)
+        (λ a c. is_some (tree_at_key (tree_of value.now) (chars key.now))
+        && a.evaluates (view schema.now) (tree_of value.now) c)
         sources.old.items sources.new.items) }
     ensures within { OnOk result (StaysWithin walk.entry sources.old.items sources.new.items) }
 {
@@ -428,14 +432,14 @@ fn add_dependent<'d, 's>(
 #[cycle(validate)]
 #[inline(never)]
 fn add_reference<'d, 's>(
-    value: &JsonValue,
+    value: &ValueView<'_>,
     here: Applied<'s>,
     walk: Walk<'d, 's>,
     sources: &mut Vec<Source<'d, 's>>,
 ) -> Result<(), CheckError>
     ensures evaluated { OnOk result (Adds walk.entry
         (λ a c. reference_evaluates (view walk.entry.ground.now.whole.now.root.now) a
-        (view here.entry.schema.now) (view value.now) c)
+        (view here.entry.schema.now) (tree_of value.now) c)
         sources.old.items sources.new.items) }
     ensures within { OnOk result (StaysWithin walk.entry sources.old.items sources.new.items) }
 {
@@ -448,7 +452,7 @@ fn add_reference<'d, 's>(
 #[cycle(validate)]
 #[inline(never)]
 fn add_target<'d, 's>(
-    value: &JsonValue,
+    value: &ValueView<'_>,
     here: Applied<'s>,
     keyword: Keyword,
     walk: Walk<'d, 's>,
@@ -456,7 +460,7 @@ fn add_target<'d, 's>(
 ) -> Result<(), CheckError>
     ensures evaluated { OnOk result (Adds walk.entry
         (λ a c. target_evaluates (view walk.entry.ground.now.whole.now.root.now) keyword a
-        (view here.entry.schema.now) (view value.now) c)
+        (view here.entry.schema.now) (tree_of value.now) c)
         sources.old.items sources.new.items) }
     ensures within { OnOk result (StaysWithin walk.entry sources.old.items sources.new.items) }
 {

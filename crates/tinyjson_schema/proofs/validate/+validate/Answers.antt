@@ -5,10 +5,12 @@ use Rattle.std.proofs.lemmas.Bool.{or_left, or_right}
 use Rattle.std.specs.Option.{option_map_or}
 use Rattle.std.specs.Prelude.{option_and_then}
 use Rattle.std.specs.Str.{chars}
-use Rattle.tinyjson.proofs.Callers.{view_Object, view_Array}
 use Rattle.tinyjson.specs.Index.{nth, tree_at_key}
 use Rattle.tinyjson.specs.Tree.{object, array, find}
-use Rattle.tinyjson.specs.View.{view, text, items_view, members_view, members_listed}
+use Rattle.tinyjson.specs.View.{view, text, items_view, members_listed}
+use Rattle.tinyjson_document.specs.Parts as part
+use Rattle.tinyjson_view.proofs.Callers.{array_is, object_is, member_found, nth_tree}
+use Rattle.tinyjson_view.specs.Views.{tree_of, trees_of, members_of}
 use Rattle.tinyjson.specs.Soundness.{IsSorted}
 use Rattle.tinyjson_pointer.specs.Index.{index_of}
 use Rattle.tinyjson_pointer.specs.Tokens.{tokens_of}
@@ -16,7 +18,7 @@ use Rattle.tinyjson_pointer.specs.Walk.{item_of}
 use Rattle.i_regexp.specs.PatternDeciding.{is_found}
 use Rattle.tinyjson_schema_keywords.specs.Applied.{schema_at, schemas_at, schema_map_at, members_in}
 use Rattle.tinyjson_schema_keywords.specs.declared.keyword.Keyword.TheVariants as kw
-use Rattle.tinyjson_schema_keywords.proofs.Callers.{listed_found, listed_sorted, turn_next, turn_stop, turn_end, count_next, count_end}
+use Rattle.tinyjson_schema_keywords.proofs.Callers.{listed_found, turn_next, turn_stop, turn_end, count_next, count_end}
 use Rattle.tinyjson_schema_keywords.proofs.Callers.{nth_item}
 use Rattle.tinyjson_schema.specs.Applicators.{all_accept, dependents_accept, members_accepted, items_accepted, found_pass, patterns_accept}
 use Rattle.tinyjson_schema.specs.Applicators.{applies, parts_accepted, tests, contains_some, contains_at_most, contains_at_least, any_of}
@@ -31,11 +33,11 @@ use Rattle.tinyjson_schema.specs.Valid.{answers_in, FindsRest, reference_accepts
 use Rattle.tinyjson_schema.specs.Valid.{unmet, not_applied, in_all_of, in_dependent, in_patterned, in_reference, in_part, IsInvalidAt}
 use Rattle.tinyjson_schema.specs.Valid.{FindsFound, root_of}
 use Rattle.tinyjson_schema.specs.declared.validate.unevaluated.Source.{Source}
-use Rattle.tinyjson_schema.proofs.Loops.{items_turn, items_end, item_passes, item_free, members_turn, member_passes, member_free}
+use Rattle.tinyjson_schema.proofs.Loops.{items_turn, items_end, item_passes, item_free, members_turn, member_passes, member_free, same_members}
 use Rattle.tinyjson_schema.proofs.Loops.{dependents_turn, dependent_passes, dependent_free, no_parts, found_holds, not_found, found_turn}
 use Rattle.tinyjson_schema.proofs.Sourcing.{adds_none, adds_both, adds_as, adds_turn, adds_end, within_pushed, within_at, schema_added}
 use Rattle.tinyjson_schema.proofs.Sourcing.{inner_added, asking_added, branch_none, branch_some, no_branch_added, target_added}
-use Rattle.tinyjson_schema.proofs.Sourcing.{no_target_added, left_turn, left_end, no_member_rest, no_item_rest, members_found, items_found}
+use Rattle.tinyjson_schema.proofs.Sourcing.{no_target_added, left_turn, left_end, no_member_rest, no_item_rest, no_rest, members_found, items_found}
 use Rattle.tinyjson_schema.proofs.Sourcing.{evaluated_by, item_applied}
 use Rattle.tinyjson_schema.proofs.Validity.{reported, flipped, verdict, placed, last_tested, last_found, before, no_branch, branch_met, branch_place}
 use Rattle.tinyjson_schema.proofs.Validity.{reference_met, no_reference, both_met}
@@ -104,7 +106,7 @@ pub violation_in-returns-then-refuses_all : goal.violation_in-returns-then-refus
 violation_in-returns-then-refuses_all t c =
     let inner = c.in_ok-inner.inner in
     let s = view c.args.schema.now in
-    let v = view c.args.value.now in
+    let v = tree_of c.args.value.now in
     before c.args.walk inner c.in_ok-inner.ensures s v (Ok (Some c.of_schema.result))
     (reported (root_of inner) (suc inner.steps) s v c.of_schema.result _ _ c.of_schema.ensures
     (refused (sym c.refuses_all.ensures ∙ c.if-refuses_all.true)))
@@ -113,7 +115,7 @@ pub violation_in-returns-in-Some : goal.violation_in-returns-in-Some
 violation_in-returns-in-Some t c =
     let inner = c.in_ok-inner.inner in
     let s = view c.args.schema.now in
-    let v = view c.args.value.now in
+    let v = tree_of c.args.value.now in
     before c.args.walk inner c.in_ok-inner.ensures s v (Ok (Some c.in_ok-of_keyword.field-0))
     (reported (root_of inner) (suc inner.steps) s v c.in_ok-of_keyword.field-0 _ _ c.in_ok-of_keyword.ensures
     (unmet c.in-Some.keyword (subst (λ f. IsUnmet f s v (Some c.in-Some.keyword)) (sym (ap (λ g. g.now.formats) c.in_ok-inner.ensures.0))
@@ -124,7 +126,7 @@ pub violation_in-returns-in-Some-2 : goal.violation_in-returns-in-Some-2
 violation_in-returns-in-Some-2 t c =
     let inner = c.in_ok-inner.inner in
     let s = view c.args.schema.now in
-    let v = view c.args.value.now in
+    let v = tree_of c.args.value.now in
     before c.args.walk inner c.in_ok-inner.ensures s v (Ok (Some c.in_ok-of_keyword-2.field-0))
     (reported (root_of inner) (suc inner.steps) s v c.in_ok-of_keyword-2.field-0 _ _ c.in_ok-of_keyword-2.ensures
     (not_applied c.in-Some-2.keyword (subst (λ o. IsUnapplied inner tests s v o) c.in-Some-2.is c.in_ok-keyword-2.ensures)))
@@ -133,7 +135,7 @@ pub violation_in-returns-in-Some-3 : goal.violation_in-returns-in-Some-3
 violation_in-returns-in-Some-3 t c =
     let inner = c.in_ok-inner.inner in
     let s = view c.args.schema.now in
-    let v = view c.args.value.now in
+    let v = tree_of c.args.value.now in
     before c.args.walk inner c.in_ok-inner.ensures s v (Ok (Some c.in-Some-3.found))
     (subst (λ o. Finds inner (λ f. applies f kw.AllOf s v) s v (Ok o)) c.in-Some-3.is c.in_ok-found.ensures)
 
@@ -141,7 +143,7 @@ pub violation_in-returns-in-Some-4 : goal.violation_in-returns-in-Some-4
 violation_in-returns-in-Some-4 t c =
     let inner = c.in_ok-inner.inner in
     let s = view c.args.schema.now in
-    let v = view c.args.value.now in
+    let v = tree_of c.args.value.now in
     before c.args.walk inner c.in_ok-inner.ensures s v (Ok (Some c.in-Some-4.found))
     (subst (λ o. Finds inner (λ f. applies f kw.If s v) s v (Ok o)) c.in-Some-4.is c.in_ok-found-2.ensures)
 
@@ -149,7 +151,7 @@ pub violation_in-returns-in-Some-5 : goal.violation_in-returns-in-Some-5
 violation_in-returns-in-Some-5 t c =
     let inner = c.in_ok-inner.inner in
     let s = view c.args.schema.now in
-    let v = view c.args.value.now in
+    let v = tree_of c.args.value.now in
     before c.args.walk inner c.in_ok-inner.ensures s v (Ok (Some c.in-Some-5.found))
     (subst (λ o. Finds inner (λ f. applies f kw.DependentSchemas s v) s v (Ok o)) c.in-Some-5.is c.in_ok-found-3.ensures)
 
@@ -157,7 +159,7 @@ pub violation_in-returns-in-Some-6 : goal.violation_in-returns-in-Some-6
 violation_in-returns-in-Some-6 t c =
     let inner = c.in_ok-inner.inner in
     let s = view c.args.schema.now in
-    let v = view c.args.value.now in
+    let v = tree_of c.args.value.now in
     before c.args.walk inner c.in_ok-inner.ensures s v (Ok (Some c.in-Some-6.found))
     (subst (λ o. Finds inner (λ f. applies f kw.PatternProperties s v) s v (Ok o)) c.in-Some-6.is c.in_ok-found-4.ensures)
 
@@ -165,7 +167,7 @@ pub violation_in-returns-in-Some-7 : goal.violation_in-returns-in-Some-7
 violation_in-returns-in-Some-7 t c =
     let inner = c.in_ok-inner.inner in
     let s = view c.args.schema.now in
-    let v = view c.args.value.now in
+    let v = tree_of c.args.value.now in
     before c.args.walk inner c.in_ok-inner.ensures s v (Ok (Some c.in-Some-7.found))
     (subst (λ o. Finds inner (λ f. reference_accepts (view inner.ground.now.whole.now.root.now) f s v) s v (Ok o)) c.in-Some-7.is
     c.in_ok-found-5.ensures)
@@ -174,7 +176,7 @@ pub violation_in-returns-in-Some-8 : goal.violation_in-returns-in-Some-8
 violation_in-returns-in-Some-8 t c =
     let inner = c.in_ok-inner.inner in
     let s = view c.args.schema.now in
-    let v = view c.args.value.now in
+    let v = tree_of c.args.value.now in
     before c.args.walk inner c.in_ok-inner.ensures s v (Ok (Some c.in-Some-8.found))
     (subst (λ o. Finds inner (λ f. parts_accepted f s v) s v (Ok o)) c.in-Some-8.is c.in_ok-found-6.ensures)
 
@@ -182,7 +184,7 @@ pub violation_in-returns : goal.violation_in-returns
 violation_in-returns t c =
     let inner = c.in_ok-inner.inner in
     let s = view c.args.schema.now in
-    let v = view c.args.value.now in
+    let v = tree_of c.args.value.now in
     before c.args.walk inner c.in_ok-inner.ensures s v c.in_rest.result
     (last_found inner s v c.in_rest.result (sym c.refuses_all.ensures ∙ c.if-refuses_all.false)
     (subst (λ f. IsUnmet f s v None) (sym (ap (λ g. g.now.formats) c.in_ok-inner.ensures.0)) (subst (λ o. IsUnmet c.args.walk.ground.now.formats s v o) c.in_default.is
@@ -199,19 +201,19 @@ violation_in-returns t c =
 
 pub is_accepted-returns : goal.is_accepted-returns
 is_accepted-returns t c g = flipped c.is_none.result _ c.is_none.ensures
-    ∙ verdict (root_of c.args.walk) c.args.walk.steps (view c.args.schema.now) (view c.args.value.now) c.in_ok-found.found
+    ∙ verdict (root_of c.args.walk) c.args.walk.steps (view c.args.schema.now) (tree_of c.args.value.now) c.in_ok-found.found
     c.in_ok-found.ensures g
 
 pub tested::unmet_test-returns-then-not-any : goal.tested::unmet_test-returns-then-not-any
 tested::unmet_test-returns-then-not-any t c g =
     let f = says c.args.walk g in
-    let v = view c.args.value.now in
+    let v = tree_of c.args.value.now in
     sym (c.in_ok-any.ensures g ∙ ap (λ rs. any_of f rs v) c.schemas_at.ensures) ∙ c.if-not-any.true
 
 pub tested::unmet_test-returns-then-not-one : goal.tested::unmet_test-returns-then-not-one
 tested::unmet_test-returns-then-not-one t c g =
     let f = says c.args.walk g in
-    let v = view c.args.value.now in
+    let v = tree_of c.args.value.now in
     sym (c.in_ok-one.ensures g ∙ ap (λ rs. one_of f rs v) c.schemas_at-2.ensures) ∙ c.if-not-one.true
 
 pub tested::unmet_test-returns-then-not-other : goal.tested::unmet_test-returns-then-not-other
@@ -224,7 +226,7 @@ pub tested::unmet_test-returns : goal.tested::unmet_test-returns
 tested::unmet_test-returns t c =
     let w = c.args.walk in
     let s = view c.args.here.schema.now in
-    let v = view c.args.value.now in
+    let v = tree_of c.args.value.now in
     last_tested w s v c.unmet_count.result (λ g. (
       sym (c.in_ok-any.ensures g ∙ ap (λ rs. any_of (says w g) rs v) c.schemas_at.ensures) ∙ c.if-not-any.false,
       sym (c.in_ok-one.ensures g ∙ ap (λ rs. one_of (says w g) rs v) c.schemas_at-2.ensures) ∙ c.if-not-one.false,
@@ -248,13 +250,13 @@ tested::unmet_count-returns t c g =
 pub tested::is_any_met-returns : goal.tested::is_any_met-returns
 tested::is_any_met-returns t c g =
     let rs = items_view c.args.schemas.now in
-    c.in_ok-accepted.ensures g ∙ sym (ap (λ b. not b || some_accepts (says c.args.walk g) rs (view c.args.value.now))
+    c.in_ok-accepted.ensures g ∙ sym (ap (λ b. not b || some_accepts (says c.args.walk g) rs (tree_of c.args.value.now))
     (sym c.is_some_item.ensures ∙ c.if-not-is_some_item.false))
 
 pub tested::is_some_met-returns-then-accepted : goal.tested::is_some_met-returns-then-accepted
 tested::is_some_met-returns-then-accepted t c g =
     let f = says c.args.walk g in
-    let v = view c.args.value.now in
+    let v = tree_of c.args.value.now in
     let vs = c.args.schemas.now in
     let i = c.loop-schema.schema-index in
     turn_stop (λ xs. some_accepts f (items_view xs) v) vs i true c.schema-item.result c.loop-schema-test.true c.schema-item.is
@@ -264,7 +266,7 @@ tested::is_some_met-returns-then-accepted t c g =
 pub tested::is_some_met-loop-schema-preserved : goal.tested::is_some_met-loop-schema-preserved
 tested::is_some_met-loop-schema-preserved t c g =
     let f = says c.args.walk g in
-    let v = view c.args.value.now in
+    let v = tree_of c.args.value.now in
     let vs = c.args.schemas.now in
     let i = c.loop-schema.schema-index in
     turn_next (λ xs. some_accepts f (items_view xs) v) vs i c.schema-item.result c.loop-schema-test.true c.schema-item.is
@@ -273,19 +275,19 @@ tested::is_some_met-loop-schema-preserved t c g =
 
 pub tested::is_some_met-returns : goal.tested::is_some_met-returns
 tested::is_some_met-returns t c g =
-    let v = view c.args.value.now in
+    let v = tree_of c.args.value.now in
     sym (turn_end (λ xs. some_accepts (says c.args.walk g) (items_view xs) v) c.args.schemas.now c.loop-schema.schema-index false
     c.loop-schema-test.false refl (c.loop-schema.invariant g))
 
 pub tested::is_one_met-returns : goal.tested::is_one_met-returns
 tested::is_one_met-returns t c g =
     let rs = items_view c.args.schemas.now in
-    ap (λ n. n == 1) (c.in_ok-count.ensures g) ∙ sym (ap (λ b. not b || accepting (says c.args.walk g) rs (view c.args.value.now) == 1)
+    ap (λ n. n == 1) (c.in_ok-count.ensures g) ∙ sym (ap (λ b. not b || accepting (says c.args.walk g) rs (tree_of c.args.value.now) == 1)
     (sym c.is_some_item.ensures ∙ c.if-not-is_some_item.false))
 
 pub tested::count_accepting-loop-schema-preserved : goal.tested::count_accepting-loop-schema-preserved
 tested::count_accepting-loop-schema-preserved t c =
-    let v = view c.args.value.now in
+    let v = tree_of c.args.value.now in
     let vs = c.args.schemas.now in
     let i = c.loop-schema.schema-index in
     let n = c.loop-schema.count in
@@ -307,16 +309,17 @@ tested::count_accepting-loop-schema-preserved t c =
 
 pub tested::count_accepting-returns : goal.tested::count_accepting-returns
 tested::count_accepting-returns t c g =
-    let v = view c.args.value.now in
+    let v = tree_of c.args.value.now in
     count_end (λ xs. accepting (says c.args.walk g) (items_view xs) v) c.args.schemas.now c.loop-schema.schema-index c.loop-schema.count
     c.loop-schema-test.false refl (c.loop-schema.invariant.1 g)
 
 pub tested::are_names_met-returns-in_ok-accepted-in-Some : goal.tested::are_names_met-returns-in_ok-accepted-in-Some
 tested::are_names_met-returns-in_ok-accepted-in-Some t c g =
     let f = says c.args.walk g in
-    let v = view c.args.value.now in
+    let v = tree_of c.args.value.now in
     c.in_ok-accepted-in-Some.ensures g
-    ∙ (ap (keys_pass (f (view c.in-Some.part.now))) (ap members_listed c.as_slice.ensures.value ∙ c.in_ok-members-in-Some.ensures.listed)
+    ∙ (ap (keys_pass (f (view c.in-Some.part.now)))
+    (ap members_of c.as_slice.ensures.value ∙ (c.in_ok-members-in-Some.ensures.listed ∙ same_members v))
     ∙ ap (λ o. option_map_or (λ r. keys_pass (f r) (members_in v)) o true) c.in-Some.ensures)
 
 pub tested::are_keys_met-returns-then-not-accepted : goal.tested::are_keys_met-returns-then-not-accepted
@@ -324,35 +327,35 @@ tested::are_keys_met-returns-then-not-accepted t c g =
     let f = says c.args.walk g in
     let s = view c.args.schema.now in
     let ps = c.args.members.now in
-    let i = c.loop-key.key-index in
-    turn_stop (λ xs. keys_pass (f s) (members_listed xs)) ps i false c.loop-key-item.result c.loop-key-test.true c.loop-key-item.is
-    (ap (λ b. b && keys_pass (f s) (members_listed (drop (i + 1) ps)))
+    let i = c.loop-member.member-index in
+    turn_stop (λ xs. keys_pass (f s) (members_of xs)) ps i false c.member-item.result c.loop-member-test.true c.member-item.is
+    (ap (λ b. b && keys_pass (f s) (members_of (drop (i + 1) ps)))
     (ap (f s) (sym c.in_ok-name.ensures) ∙ (sym (c.in_ok-accepted.ensures g) ∙ c.if-not-accepted.true)))
-    (c.loop-key.invariant g)
+    (c.loop-member.invariant g)
 
-pub tested::are_keys_met-loop-key-preserved : goal.tested::are_keys_met-loop-key-preserved
-tested::are_keys_met-loop-key-preserved t c g =
+pub tested::are_keys_met-loop-member-preserved : goal.tested::are_keys_met-loop-member-preserved
+tested::are_keys_met-loop-member-preserved t c g =
     let f = says c.args.walk g in
     let s = view c.args.schema.now in
     let ps = c.args.members.now in
-    let i = c.loop-key.key-index in
-    turn_next (λ xs. keys_pass (f s) (members_listed xs)) ps i c.loop-key-item.result c.loop-key-test.true c.loop-key-item.is
-    (ap (λ b. b && keys_pass (f s) (members_listed (drop (i + 1) ps)))
+    let i = c.loop-member.member-index in
+    turn_next (λ xs. keys_pass (f s) (members_of xs)) ps i c.member-item.result c.loop-member-test.true c.member-item.is
+    (ap (λ b. b && keys_pass (f s) (members_of (drop (i + 1) ps)))
     (ap (f s) (sym c.in_ok-name.ensures) ∙ (sym (c.in_ok-accepted.ensures g) ∙ c.if-not-accepted.false)))
-    (c.loop-key.invariant g)
+    (c.loop-member.invariant g)
 
 pub tested::are_keys_met-returns : goal.tested::are_keys_met-returns
 tested::are_keys_met-returns t c g =
     let s = view c.args.schema.now in
-    sym (turn_end (λ xs. keys_pass (says c.args.walk g s) (members_listed xs)) c.args.members.now c.loop-key.key-index true
-    c.loop-key-test.false refl (c.loop-key.invariant g))
+    sym (turn_end (λ xs. keys_pass (says c.args.walk g s) (members_of xs)) c.args.members.now c.loop-member.member-index true
+    c.loop-member-test.false refl (c.loop-member.invariant g))
 
 pub tested::contained-returns-in_ok-count-in-Array : goal.tested::contained-returns-in_ok-count-in-Array
 tested::contained-returns-in_ok-count-in-Array t c g =
     let f = says c.args.walk g in
-    let v = view c.args.value.now in
-    let same : array (items_view c.as_slice.result.now) ≡ v
-    = ap (λ xs. array (items_view xs)) c.as_slice.ensures.value ∙ sym (ap view c.in-Array.is ∙ view_Array c.in-Array.items) in
+    let v = tree_of c.args.value.now in
+    let same : array (trees_of c.as_slice.result.now) ≡ v
+    = ap array (ap trees_of c.as_slice.ensures.value ∙ c.in_ok-items-in-Array.ensures) ∙ array_is v (sym c.in-Array.is ∙ c.kind.ensures) in
     ap Some (c.in_ok-count-in-Array.ensures g) ∙ (ap (items_passing (f (view c.in-Some.part.now))) same
     ∙ ap (option_and_then (λ r. items_passing (f r) v)) c.in-Some.ensures)
 
@@ -366,14 +369,14 @@ tested::count_passing-loop-item-preserved t c =
     elim c.if-accepted.branch [
       | tested::count_passing-then-accepted w ↦ (
         omega (arith, w.count-is, c.loop-item.invariant.0),
-        λ g. count_next (λ xs. passing (says c.args.walk g s) (items_view xs)) vs i n x 1 c.if-accepted.count c.loop-item-test.true
-            c.item-item.is (ap (λ b. cond b 1 0 + passing (says c.args.walk g s) (items_view (drop (i + 1) vs)))
+        λ g. count_next (λ xs. passing (says c.args.walk g s) (trees_of xs)) vs i n x 1 c.if-accepted.count c.loop-item-test.true
+            c.item-item.is (ap (λ b. cond b 1 0 + passing (says c.args.walk g s) (trees_of (drop (i + 1) vs)))
             (sym (c.in_ok-accepted.ensures g) ∙ w.if-accepted.true)) w.count-is (c.loop-item.invariant.1 g),
       )
       | tested::count_passing-else-accepted w ↦ (
         omega (arith, w.count-is, c.loop-item.invariant.0),
-        λ g. count_next (λ xs. passing (says c.args.walk g s) (items_view xs)) vs i n x 0 c.if-accepted.count c.loop-item-test.true
-            c.item-item.is (ap (λ b. cond b 1 0 + passing (says c.args.walk g s) (items_view (drop (i + 1) vs)))
+        λ g. count_next (λ xs. passing (says c.args.walk g s) (trees_of xs)) vs i n x 0 c.if-accepted.count c.loop-item-test.true
+            c.item-item.is (ap (λ b. cond b 1 0 + passing (says c.args.walk g s) (trees_of (drop (i + 1) vs)))
             (sym (c.in_ok-accepted.ensures g) ∙ w.if-accepted.false)) (omega (arith, w.count-is)) (c.loop-item.invariant.1 g),
       )
     ]
@@ -381,7 +384,7 @@ tested::count_passing-loop-item-preserved t c =
 pub tested::count_passing-returns : goal.tested::count_passing-returns
 tested::count_passing-returns t c g =
     let s = view c.args.schema.now in
-    count_end (λ xs. passing (says c.args.walk g s) (items_view xs)) c.args.items.now c.loop-item.item-index c.loop-item.count
+    count_end (λ xs. passing (says c.args.walk g s) (trees_of xs)) c.args.items.now c.loop-item.item-index c.loop-item.count
     c.loop-item-test.false refl (c.loop-item.invariant.1 g)
 
 pub tested::unmet_count-returns-then-not-some : goal.tested::unmet_count-returns-then-not-some
@@ -404,7 +407,7 @@ tested::unmet_count-returns-then-not-least t c g =
 pub in_all_of-returns-in-Some : goal.in_all_of-returns-in-Some
 in_all_of-returns-in-Some t c =
     let s = view c.args.here.schema.now in
-    let v = view c.args.value.now in
+    let v = tree_of c.args.value.now in
     let vs = c.schemas_at-parts.result.now in
     let i = c.loop-index.index in
     let x = c.index-parts-index.result in
@@ -418,7 +421,7 @@ in_all_of-returns-in-Some t c =
 
 pub in_all_of-loop-index-preserved : goal.in_all_of-loop-index-preserved
 in_all_of-loop-index-preserved t c g =
-    let v = view c.args.value.now in
+    let v = tree_of c.args.value.now in
     let vs = c.schemas_at-parts.result.now in
     let i = c.loop-index.index in
     let x = c.index-parts-index.result in
@@ -430,7 +433,7 @@ in_all_of-loop-index-preserved t c g =
 pub in_all_of-returns : goal.in_all_of-returns
 in_all_of-returns t c g =
     let f = says c.args.walk g in
-    let v = view c.args.value.now in
+    let v = tree_of c.args.value.now in
     ap (λ rs. all_accept f rs v) (sym c.schemas_at-parts.ensures)
     ∙ turn_end (λ xs. all_accept f (items_view xs) v) c.schemas_at-parts.result.now c.loop-index.index true
     c.loop-index-test.false refl (c.loop-index.invariant g)
@@ -439,17 +442,17 @@ pub in_branch-returns-in_default : goal.in_branch-returns-in_default
 in_branch-returns-in_default t c g =
     let f = says c.args.walk g in
     let s = view c.args.here.schema.now in
-    let v = view c.args.value.now in
+    let v = tree_of c.args.value.now in
     ap (λ o. option_map_or (λ r. branch_accepts f s v (f r v)) o true) (sym c.in_default.ensures)
 
 pub in_branch-returns-in_default-schema_at : goal.in_branch-returns-in_default-schema_at
 in_branch-returns-in_default-schema_at t c =
-    no_branch c.args.walk (view c.args.here.schema.now) (view c.args.value.now) (view c.in-Some.test.now) c.in_ok-accepted.accepted
+    no_branch c.args.walk (view c.args.here.schema.now) (tree_of c.args.value.now) (view c.in-Some.test.now) c.in_ok-accepted.accepted
     c.branch-chosen.result c.in-Some.ensures c.in_ok-accepted.ensures c.branch-chosen.ensures c.in_default-schema_at.ensures
 
 pub in_branch-returns-in_default-2 : goal.in_branch-returns-in_default-2
 in_branch-returns-in_default-2 t c =
-    let v = view c.args.value.now in
+    let v = tree_of c.args.value.now in
     let r = view c.in-Some-schema_at.part.now in
     branch_met c.args.walk (view c.args.here.schema.now) v (view c.in-Some.test.now) c.in_ok-accepted.accepted c.branch-chosen.result
     c.in-Some.ensures c.in_ok-accepted.ensures c.branch-chosen.ensures r c.in-Some-schema_at.ensures
@@ -458,7 +461,7 @@ in_branch-returns-in_default-2 t c =
 pub in_branch-returns : goal.in_branch-returns
 in_branch-returns t c =
     let s = view c.args.here.schema.now in
-    let v = view c.args.value.now in
+    let v = tree_of c.args.value.now in
     let r = view c.in-Some-schema_at.part.now in
     let inner = subst (λ o. Judges c.args.walk r v (Ok o)) c.in-Some-2.is c.in_ok-found.ensures in
     placed c.args.walk (λ f. applies f kw.If s v) s v c.enter_keyword.new.self _ _ c.in_ok-enter_keyword.ensures
@@ -468,7 +471,7 @@ in_branch-returns t c =
 pub in_dependents-returns-in-Some : goal.in_dependents-returns-in-Some
 in_dependents-returns-in-Some t c =
     let s = view c.args.here.schema.now in
-    let v = view c.args.value.now in
+    let v = tree_of c.args.value.now in
     let ps = c.as_slice-dependents.result.now in
     let i = c.loop-key.key-index in
     let p = c.loop-key-item.result in
@@ -489,7 +492,7 @@ in_dependents-returns-in-Some t c =
 
 pub in_dependents-loop-key-preserved : goal.in_dependents-loop-key-preserved
 in_dependents-loop-key-preserved t c g =
-    let v = view c.args.value.now in
+    let v = tree_of c.args.value.now in
     let ps = c.as_slice-dependents.result.now in
     let i = c.loop-key.key-index in
     let p = c.loop-key-item.result in
@@ -508,7 +511,7 @@ in_dependents-loop-key-preserved t c g =
 
 pub in_dependents-returns : goal.in_dependents-returns
 in_dependents-returns t c g =
-    let v = view c.args.value.now in
+    let v = tree_of c.args.value.now in
     ap (λ rs. dependents_accept (says c.args.walk g) rs v)
     (sym (ap members_listed c.as_slice-dependents.ensures.value ∙ c.in_ok-listed.ensures.listed))
     ∙ turn_end (λ xs. dependents_accept (says c.args.walk g) (members_listed xs) v) c.as_slice-dependents.result.now c.loop-key.key-index
@@ -517,7 +520,7 @@ in_dependents-returns t c g =
 pub in_patterned-returns-in-Some : goal.in_patterned-returns-in-Some
 in_patterned-returns-in-Some t c =
     let s = view c.args.here.schema.now in
-    let v = view c.args.value.now in
+    let v = tree_of c.args.value.now in
     let ps = c.as_slice-patterns.result.now in
     let i = c.loop-pattern.pattern-index in
     let p = c.loop-pattern-item.result in
@@ -537,7 +540,7 @@ in_patterned-returns-in-Some t c =
 
 pub in_patterned-loop-pattern-preserved : goal.in_patterned-loop-pattern-preserved
 in_patterned-loop-pattern-preserved t c g =
-    let v = view c.args.value.now in
+    let v = tree_of c.args.value.now in
     let ps = c.as_slice-patterns.result.now in
     let i = c.loop-pattern.pattern-index in
     let p = c.loop-pattern-item.result in
@@ -552,7 +555,7 @@ in_patterned-loop-pattern-preserved t c g =
 
 pub in_patterned-returns : goal.in_patterned-returns
 in_patterned-returns t c g =
-    let ms = members_in (view c.args.value.now) in
+    let ms = members_in (tree_of c.args.value.now) in
     ap (λ rs. patterns_accept (says c.args.walk g) rs ms)
     (sym (ap members_listed c.as_slice-patterns.ensures.value ∙ c.in_ok-listed.ensures.listed))
     ∙ turn_end (λ xs. patterns_accept (says c.args.walk g) (members_listed xs) ms) c.as_slice-patterns.result.now
@@ -562,63 +565,60 @@ pub in_found-returns-in-Some : goal.in_found-returns-in-Some
 in_found-returns-in-Some t c =
     let w = c.args.walk in
     let r = view c.args.schema.now in
-    let ms = members_in (view c.args.value.now) in
+    let v = tree_of c.args.value.now in
     let ps = c.as_slice-members.result.now in
-    let i = c.loop-key.key-index in
-    let p = c.loop-key-item.result in
-    let k = text p.0.now in
+    let i = c.loop-member.member-index in
+    let p = c.member-item.result in
+    let k = chars p.key.now in
     let old = c.in-Some.found in
-    let inner = subst (λ o. Judges w r (view p.1.now) (Ok o)) c.in-Some.is c.in_ok-found.ensures in
-    let entered = subst (λ bs. IsWithin (chars bs) old c.enter_value.new.self) c.as_str-in-Some.ensures.value
-    c.in_ok-enter_value.ensures in
-    let sorted = subst (λ xs. IsSorted (members_listed xs)) (sym c.as_slice-members.ensures.value) c.in_ok-listed.ensures.sorted in
+    let inner = subst (λ o. Judges w r (tree_of p.value) (Ok o)) c.in-Some.is c.in_ok-found.ensures in
+    let entered = c.in_ok-enter_value.ensures in
+    let sorted = subst (λ xs. IsSorted (members_of xs)) (sym c.as_slice-members.ensures.value) c.in_ok-listed.ensures.sorted in
     record {
       key = k;
-      value = view p.1.now;
+      value = tree_of p.value;
       rest = tokens_of old.instance_location;
-      found = ap (λ bs. is_found (chars c.args.pattern.now) (chars bs)) (sym c.as_str.ensures.value)
-          ∙ (sym c.in_ok-is_found.ensures ∙ c.if-is_found.true);
-      at = ap (find k) (sym (ap members_listed c.as_slice-members.ensures.value ∙ c.in_ok-listed.ensures.listed))
-          ∙ listed_found ps i p sorted c.loop-key-test.true c.loop-key-item.is;
+      found = sym c.in_ok-is_found.ensures ∙ c.if-is_found.true;
+      at = ap (find k) (sym (ap members_of c.as_slice-members.ensures.value ∙ (c.in_ok-listed.ensures.listed ∙ same_members v)))
+          ∙ member_found ps i p sorted c.loop-member-test.true c.member-item.is;
       placed = entered.1;
-      invalid = subst (λ xs. IsInvalidAt (root_of w) w.steps r (view p.1.now) xs (tokens_of old.instance_location))
+      invalid = subst (λ xs. IsInvalidAt (root_of w) w.steps r (tree_of p.value) xs (tokens_of old.instance_location))
           (sym entered.0) inner;
     }
 
-pub in_found-loop-key-preserved : goal.in_found-loop-key-preserved
-in_found-loop-key-preserved t c =
+pub in_found-loop-member-preserved : goal.in_found-loop-member-preserved
+in_found-loop-member-preserved t c =
     let r = view c.args.schema.now in
     let pattern = chars c.args.pattern.now in
     let ps = c.as_slice-members.result.now in
-    let i = c.loop-key.key-index in
-    let p = c.loop-key-item.result in
-    let k = text p.0.now in
-    let u = view p.1.now in
-    let answer : c.in_ok-is_found.is_found ≡ is_found pattern k
-    = c.in_ok-is_found.ensures ∙ ap (λ bs. is_found pattern (chars bs)) c.as_str.ensures.value in
+    let i = c.loop-member.member-index in
+    let p = c.member-item.result in
+    let k = chars p.key.now in
+    let u = tree_of p.value in
     λ g. elim c.if-is_found.branch [
       | in_found-then-is_found+in_ok-found+in_default w ↦
-          found_turn (says c.args.walk g r) pattern ps i p c.loop-key-test.true c.loop-key-item.is
+          found_turn (says c.args.walk g r) pattern ps i p c.loop-member-test.true c.member-item.is
           (found_holds (says c.args.walk g r) pattern k u
-          (subst (λ o. Judges c.args.walk r u (Ok o)) w.in_default.is w.in_ok-found.ensures g)) (c.loop-key.invariant g)
+          (subst (λ o. Judges c.args.walk r u (Ok o)) w.in_default.is w.in_ok-found.ensures g)) (c.loop-member.invariant g)
       | in_found-else-is_found w ↦
-          found_turn (says c.args.walk g r) pattern ps i p c.loop-key-test.true c.loop-key-item.is
-          (not_found (says c.args.walk g r) pattern k u (sym answer ∙ w.if-is_found.false)) (c.loop-key.invariant g)
+          found_turn (says c.args.walk g r) pattern ps i p c.loop-member-test.true c.member-item.is
+          (not_found (says c.args.walk g r) pattern k u (sym c.in_ok-is_found.ensures ∙ w.if-is_found.false)) (c.loop-member.invariant g)
     ]
 
 pub in_found-returns : goal.in_found-returns
 in_found-returns t c g =
     let q = says c.args.walk g (view c.args.schema.now) in
     let ps = chars c.args.pattern.now in
-    ap (found_pass q ps) (sym (ap members_listed c.as_slice-members.ensures.value ∙ c.in_ok-listed.ensures.listed))
-    ∙ turn_end (λ xs. found_pass q ps (members_listed xs)) c.as_slice-members.result.now c.loop-key.key-index true
-    c.loop-key-test.false refl (c.loop-key.invariant g)
+    ap (found_pass q ps) (sym (ap members_of c.as_slice-members.ensures.value
+    ∙ (c.in_ok-listed.ensures.listed ∙ same_members (tree_of c.args.value.now))))
+    ∙ turn_end (λ xs. found_pass q ps (members_of xs)) c.as_slice-members.result.now c.loop-member.member-index true
+    c.loop-member-test.false refl (c.loop-member.invariant g)
 
 pub in_reference-returns : goal.in_reference-returns
 in_reference-returns t c =
     let w = c.args.walk in
     let s = view c.args.here.schema.now in
-    let v = view c.args.value.now in
+    let v = tree_of c.args.value.now in
     both_met w s v c.in_target-2.result
     (subst (λ o. Finds w (λ f. target_accepts (view w.ground.now.whole.now.root.now) kw.Ref f s v) s v (Ok o)) c.in_default.is c.in_ok-found.ensures)
     c.in_target-2.ensures
@@ -626,13 +626,13 @@ in_reference-returns t c =
 pub in_target-returns-in_default : goal.in_target-returns-in_default
 in_target-returns-in_default t c g =
     let w = c.args.walk in
-    no_reference (view w.ground.now.whole.now.root.now) (says w g) (view c.args.here.schema.now) (view c.args.value.now) c.args.keyword
+    no_reference (view w.ground.now.whole.now.root.now) (says w g) (view c.args.here.schema.now) (tree_of c.args.value.now) c.args.keyword
     (ap (option_map (λ x. view x.now)) (sym c.in_default.is) ∙ c.in_ok-part.ensures)
 
 pub in_target-returns-in_default-2 : goal.in_target-returns-in_default-2
 in_target-returns-in_default-2 t c g =
     let w = c.args.walk in
-    let v = view c.args.value.now in
+    let v = tree_of c.args.value.now in
     let r = view c.in-Some.part.now in
     reference_met (view w.ground.now.whole.now.root.now) (says w g) (view c.args.here.schema.now) v r c.args.keyword
     (ap (option_map (λ x. view x.now)) (sym c.in-Some.is) ∙ c.in_ok-part.ensures)
@@ -642,7 +642,7 @@ pub in_target-returns : goal.in_target-returns
 in_target-returns t c =
     let w = c.args.walk in
     let s = view c.args.here.schema.now in
-    let v = view c.args.value.now in
+    let v = tree_of c.args.value.now in
     let r = view c.in-Some.part.now in
     let inner = subst (λ o. Judges w r v (Ok o)) c.in-Some-2.is c.in_ok-found.ensures in
     placed w (λ f. target_accepts (view w.ground.now.whole.now.root.now) c.args.keyword f s v) s v c.enter_keyword.new.self _ _
@@ -653,52 +653,45 @@ pub in_members-returns-in-Some-2 : goal.in_members-returns-in-Some-2
 in_members-returns-in-Some-2 t c =
     let s = view c.args.here.schema.now in
     let ps = c.args.members.now in
-    let i = c.loop-key.key-index in
-    let p = c.loop-key-item.result in
-    let k = text p.0.now in
+    let i = c.loop-member.member-index in
+    let p = c.member-item.result in
+    let k = chars p.key.now in
     let part = c.in-Some.part in
     let r = view part.schema.now in
-    let old = c.in-Some-2.found in
-    let applied = subst (λ bs. IsMemberPart s (chars bs) (Some part)) c.as_str.ensures.value
-    (subst (λ o. IsMemberPart s (chars c.as_str.result.now) o) c.in-Some.is c.in_ok-part.ensures) in
-    let inner = subst (λ o. Judges c.args.walk r (view p.1.now) (Ok o)) c.in-Some-2.is c.in_ok-found.ensures in
-    let entered = subst (λ bs. Enters part.applicator (chars bs) (chars bs) old c.enter_member.new.self) c.as_str-in-Some-2.ensures.value
-    c.in_ok-enter_member.ensures in
-    placed c.args.walk (λ f. members_accepted f s (members_listed ps)) s (object (members_listed ps)) c.enter_member.new.self _
-    _ entered
-    (in_part (place part.applicator k) applied.0 (listed_found ps i p c.requires c.loop-key-test.true c.loop-key-item.is) applied.1 inner)
+    let applied = subst (λ o. IsMemberPart s k o) c.in-Some.is c.in_ok-part.ensures in
+    let inner = subst (λ o. Judges c.args.walk r (tree_of p.value) (Ok o)) c.in-Some-2.is c.in_ok-found.ensures in
+    placed c.args.walk (λ f. members_accepted f s (members_of ps)) s (object (members_of ps)) c.enter_member.new.self _
+    _ c.in_ok-enter_member.ensures
+    (in_part (place part.applicator k) applied.0 (member_found ps i p c.requires c.loop-member-test.true c.member-item.is) applied.1 inner)
 
-pub in_members-loop-key-preserved : goal.in_members-loop-key-preserved
-in_members-loop-key-preserved t c g =
+pub in_members-loop-member-preserved : goal.in_members-loop-member-preserved
+in_members-loop-member-preserved t c g =
     let s = view c.args.here.schema.now in
     let ps = c.args.members.now in
-    let i = c.loop-key.key-index in
-    let p = c.loop-key-item.result in
-    let u = view p.1.now in
-    let k = text p.0.now in
+    let i = c.loop-member.member-index in
+    let p = c.member-item.result in
+    let u = tree_of p.value in
+    let k = chars p.key.now in
     elim c.match-branch-2.branch [
       | in_members-in-Some+in_ok-found+in_default-2 w ↦
           let part = w.in-Some.part in
           let r = view part.schema.now in
-          let applied = subst (λ bs. IsMemberPart s (chars bs) (Some part)) c.as_str.ensures.value
-          (subst (λ o. IsMemberPart s (chars c.as_str.result.now) o) w.in-Some.is c.in_ok-part.ensures) in
-          members_turn (says c.args.walk g) s ps i p c.loop-key-test.true c.loop-key-item.is
+          let applied = subst (λ o. IsMemberPart s k o) w.in-Some.is c.in_ok-part.ensures in
+          members_turn (says c.args.walk g) s ps i p c.loop-member-test.true c.member-item.is
           (member_passes (says c.args.walk g) s k r u applied.0
           (subst (λ o. Judges c.args.walk r u (Ok o)) w.in_default-2.is w.in_ok-found.ensures g))
-          (c.loop-key.invariant g)
+          (c.loop-member.invariant g)
       | in_members-in_default w ↦
-          members_turn (says c.args.walk g) s ps i p c.loop-key-test.true c.loop-key-item.is
-          (member_free (says c.args.walk g) s k u
-          (subst (λ bs. IsMemberPart s (chars bs) None) c.as_str.ensures.value
-          (subst (λ o. IsMemberPart s (chars c.as_str.result.now) o) w.in_default.is c.in_ok-part.ensures)))
-          (c.loop-key.invariant g)
+          members_turn (says c.args.walk g) s ps i p c.loop-member-test.true c.member-item.is
+          (member_free (says c.args.walk g) s k u (subst (λ o. IsMemberPart s k o) w.in_default.is c.in_ok-part.ensures))
+          (c.loop-member.invariant g)
     ]
 
 pub in_members-returns : goal.in_members-returns
 in_members-returns t c g =
     let s = view c.args.here.schema.now in
-    turn_end (λ xs. members_accepted (says c.args.walk g) s (members_listed xs)) c.args.members.now c.loop-key.key-index true
-    c.loop-key-test.false refl (c.loop-key.invariant g)
+    turn_end (λ xs. members_accepted (says c.args.walk g) s (members_of xs)) c.args.members.now c.loop-member.member-index true
+    c.loop-member-test.false refl (c.loop-member.invariant g)
 
 pub in_items-returns-in-Some-2 : goal.in_items-returns-in-Some-2
 in_items-returns-in-Some-2 t c =
@@ -710,11 +703,11 @@ in_items-returns-in-Some-2 t c =
     let r = view part.schema.now in
     let old = c.in-Some-2.found in
     let applied = c.in-Some.ensures in
-    let inner = subst (λ o. Judges c.args.walk r (view x) (Ok o)) c.in-Some-2.is c.in_ok-found.ensures in
+    let inner = subst (λ o. Judges c.args.walk r (tree_of x) (Ok o)) c.in-Some-2.is c.in_ok-found.ensures in
     let entered = c.in_ok-enter_item.ensures in
-    let at : item_of (items_view vs) (index_of entered.token) ≡ Some (view x)
-    = ap (item_of (items_view vs)) entered.named ∙ nth_item vs i x c.loop-index-test.true c.index-items-index.is in
-    placed c.args.walk (λ f. items_accepted f s 0 (items_view vs)) s (array (items_view vs)) c.enter_item.new.self _ _
+    let at : item_of (trees_of vs) (index_of entered.token) ≡ Some (tree_of x)
+    = ap (item_of (trees_of vs)) entered.named ∙ nth_tree vs i x c.loop-index-test.true c.index-items-index.is in
+    placed c.args.walk (λ f. items_accepted f s 0 (trees_of vs)) s (array (trees_of vs)) c.enter_item.new.self _ _
     entered.entered
     (in_part {k = entered.token} (place part.applicator entered.schema_token)
     (ap (option_and_then (item_schema s)) entered.named ∙ applied.0) at
@@ -730,12 +723,12 @@ in_items-loop-index-preserved t c g =
       | in_items-in-Some+in_ok-found+in_default-2 w ↦
           let r = view w.in-Some.part.schema.now in
           items_turn (says c.args.walk g) s vs i x c.loop-index-test.true c.index-items-index.is
-          (item_passes (says c.args.walk g) s i r (view x) w.in-Some.ensures.0
-          (subst (λ o. Judges c.args.walk r (view x) (Ok o)) w.in_default-2.is w.in_ok-found.ensures g))
+          (item_passes (says c.args.walk g) s i r (tree_of x) w.in-Some.ensures.0
+          (subst (λ o. Judges c.args.walk r (tree_of x) (Ok o)) w.in_default-2.is w.in_ok-found.ensures g))
           (c.loop-index.invariant g)
       | in_items-in_default w ↦
           items_turn (says c.args.walk g) s vs i x c.loop-index-test.true c.index-items-index.is
-          (item_free (says c.args.walk g) s i (view x) w.in_default.ensures)
+          (item_free (says c.args.walk g) s i (tree_of x) w.in_default.ensures)
           (c.loop-index.invariant g)
     ]
 
@@ -745,28 +738,31 @@ in_items-returns t c g = items_end (says c.args.walk g) (view c.args.here.schema
 
 pub in_parts-in_members-requires : goal.in_parts-in_members-requires
 in_parts-in_members-requires t c =
-    let rises : IsSorted (members_listed c.as_slice.result.now) = subst (λ xs. IsSorted (members_listed xs)) (sym c.as_slice.ensures.value)
-    (listed_sorted c.in_ok-sorted-in-Object.sorted.items c.in-Object.members c.in_ok-sorted-in-Object.ensures) in
+    let rises : IsSorted (members_of c.as_slice.result.now) = subst (λ xs. IsSorted (members_of xs)) (sym c.as_slice.ensures.value)
+    c.in_ok-members-in-Object.ensures.sorted in
     search rules
 
-pub in_parts-returns-in_ok-sorted-in-Object : goal.in_parts-returns-in_ok-sorted-in-Object
-in_parts-returns-in_ok-sorted-in-Object t c =
+pub in_parts-returns-in_ok-members-in-Object : goal.in_parts-returns-in_ok-members-in-Object
+in_parts-returns-in_ok-members-in-Object t c =
     let s = view c.args.here.schema.now in
-    let same : object (members_listed c.as_slice.result.now) ≡ view c.args.value.now
-    = ap object (ap members_listed c.as_slice.ensures.value ∙ c.in_ok-sorted-in-Object.ensures)
-    ∙ sym (ap view c.in-Object.is ∙ view_Object c.in-Object.members) in
+    let v = tree_of c.args.value.now in
+    let same : object (members_of c.as_slice.result.now) ≡ v
+    = ap object (ap members_of c.as_slice.ensures.value ∙ c.in_ok-members-in-Object.ensures.listed)
+    ∙ object_is v (sym c.in-Object.is ∙ c.kind.ensures) in
     subst (λ x. Finds c.args.walk (λ f. parts_accepted f s x) s x c.in_members.result) same c.in_members.ensures
 
-pub in_parts-returns-in-Array : goal.in_parts-returns-in-Array
-in_parts-returns-in-Array t c =
+pub in_parts-returns-in_ok-items-in-Array : goal.in_parts-returns-in_ok-items-in-Array
+in_parts-returns-in_ok-items-in-Array t c =
     let s = view c.args.here.schema.now in
-    let same : array (items_view c.as_slice-in-Array.result.now) ≡ view c.args.value.now
-    = ap (λ xs. array (items_view xs)) c.as_slice-in-Array.ensures.value ∙ sym (ap view c.in-Array.is ∙ view_Array c.in-Array.items) in
+    let v = tree_of c.args.value.now in
+    let same : array (trees_of c.as_slice-in-Array.result.now) ≡ v
+    = ap array (ap trees_of c.as_slice-in-Array.ensures.value ∙ c.in_ok-items-in-Array.ensures)
+    ∙ array_is v (sym c.in-Array.is ∙ c.kind.ensures) in
     subst (λ x. Finds c.args.walk (λ f. parts_accepted f s x) s x c.in_items.result) same c.in_items.ensures
 
 pub in_parts-returns-in_default : goal.in_parts-returns-in_default
-in_parts-returns-in_default t c g = no_parts (says c.args.walk g) (view c.args.here.schema.now) c.args.value.now c.in_default.not-Object
-    c.in_default.not-Array
+in_parts-returns-in_default t c g = no_parts (says c.args.walk g) (view c.args.here.schema.now) (tree_of c.args.value.now)
+    (λ e. c.in_default.not-Object (c.kind.ensures ∙ sym e)) (λ e. c.in_default.not-Array (c.kind.ensures ∙ sym e))
 
 -- ---- what is not evaluated
 
@@ -775,9 +771,9 @@ unevaluated::in_members_left-returns-in-Some t c =
     let w = c.args.walk in
     let xs = c.args.sources.now in
     let ps = c.args.members.now in
-    let p = c.loop-key-item.result in
-    let k = text p.0.now in
-    let u = view p.1.now in
+    let p = c.member-item.result in
+    let k = chars p.key.now in
+    let u = tree_of p.value in
     let r = view c.args.rest.now in
     let old = c.in-Some.found in
     record {
@@ -786,43 +782,40 @@ unevaluated::in_members_left-returns-in-Some t c =
       location = tokens_of old.keyword_location;
       within = tokens_of old.instance_location;
       keyword = refl;
-      named = (refl, listed_found ps c.loop-key.key-index p c.requires c.loop-key-test.true c.loop-key-item.is);
-      left = λ g. ap (λ bs. sources_evaluate g xs (member_at (chars bs) u)) (sym c.as_str.ensures.value)
-          ∙ (sym (c.in_ok-evaluated.ensures g u) ∙ c.if-not-evaluated.true);
-      placed = subst (λ bs. Enters kw.UnevaluatedProperties (chars bs) (chars bs) old c.enter_member.new.self)
-          c.as_str-in-Some.ensures.value c.in_ok-enter_member.ensures;
+      named = (refl, member_found ps c.loop-member.member-index p c.requires c.loop-member-test.true c.member-item.is);
+      left = λ g. sym (c.in_ok-evaluated.ensures g u) ∙ c.if-not-evaluated.true;
+      placed = c.in_ok-enter_member.ensures;
       invalid = subst (λ o. Judges w r u (Ok o)) c.in-Some.is c.in_ok-found.ensures;
     }
 
-pub unevaluated::in_members_left-loop-key-preserved : goal.unevaluated::in_members_left-loop-key-preserved
-unevaluated::in_members_left-loop-key-preserved t c g =
+pub unevaluated::in_members_left-loop-member-preserved : goal.unevaluated::in_members_left-loop-member-preserved
+unevaluated::in_members_left-loop-member-preserved t c g =
     let w = c.args.walk in
     let xs = c.args.sources.now in
     let ps = c.args.members.now in
-    let i = c.loop-key.key-index in
-    let p = c.loop-key-item.result in
-    let k = text p.0.now in
-    let u = view p.1.now in
+    let i = c.loop-member.member-index in
+    let p = c.member-item.result in
+    let k = chars p.key.now in
+    let u = tree_of p.value in
     let r = view c.args.rest.now in
     let q : Child → Bool = λ k. sources_evaluate g xs k || says w g r (value_of k) in
-    let told : c.in_ok-evaluated.evaluated ≡ sources_evaluate g xs (member_at k u)
-    = c.in_ok-evaluated.ensures g u ∙ ap (λ bs. sources_evaluate g xs (member_at (chars bs) u)) c.as_str.ensures.value in
+    let told : c.in_ok-evaluated.evaluated ≡ sources_evaluate g xs (member_at k u) = c.in_ok-evaluated.ensures g u in
     elim c.if-not-evaluated.branch [
       | unevaluated::in_members_left-then-not-evaluated+in_ok-found+in_default w ↦
-          turn_next (λ ys. members_pass q (members_listed ys)) ps i p c.loop-key-test.true c.loop-key-item.is
-          (ap (λ b. b && members_pass q (members_listed (drop (i + 1) ps))) (or_right _ _
-          (subst (λ o. Judges c.args.walk r u (Ok o)) w.in_default.is w.in_ok-found.ensures g))) (c.loop-key.invariant g)
+          turn_next (λ ys. members_pass q (members_of ys)) ps i p c.loop-member-test.true c.member-item.is
+          (ap (λ b. b && members_pass q (members_of (drop (i + 1) ps))) (or_right _ _
+          (subst (λ o. Judges c.args.walk r u (Ok o)) w.in_default.is w.in_ok-found.ensures g))) (c.loop-member.invariant g)
       | unevaluated::in_members_left-else-not-evaluated w ↦
-          turn_next (λ ys. members_pass q (members_listed ys)) ps i p c.loop-key-test.true c.loop-key-item.is
-          (ap (λ b. b && members_pass q (members_listed (drop (i + 1) ps))) (or_left _ _ (sym told ∙ w.if-not-evaluated.false)))
-          (c.loop-key.invariant g)
+          turn_next (λ ys. members_pass q (members_of ys)) ps i p c.loop-member-test.true c.member-item.is
+          (ap (λ b. b && members_pass q (members_of (drop (i + 1) ps))) (or_left _ _ (sym told ∙ w.if-not-evaluated.false)))
+          (c.loop-member.invariant g)
     ]
 
 pub unevaluated::in_members_left-returns : goal.unevaluated::in_members_left-returns
 unevaluated::in_members_left-returns t c g =
     let q : Child → Bool = λ k. sources_evaluate g c.args.sources.now k || says c.args.walk g (view c.args.rest.now) (value_of k) in
-    turn_end (λ ys. members_pass q (members_listed ys)) c.args.members.now c.loop-key.key-index true c.loop-key-test.false refl
-    (c.loop-key.invariant g)
+    turn_end (λ ys. members_pass q (members_of ys)) c.args.members.now c.loop-member.member-index true c.loop-member-test.false refl
+    (c.loop-member.invariant g)
 
 pub unevaluated::in_items_left-returns-in-Some : goal.unevaluated::in_items_left-returns-in-Some
 unevaluated::in_items_left-returns-in-Some t c =
@@ -834,15 +827,15 @@ unevaluated::in_items_left-returns-in-Some t c =
     let old = c.in-Some.found in
     let entered = c.in_ok-enter_item.ensures in
     record {
-      child = item_at i (view x);
+      child = item_at i (tree_of x);
       token = entered.token;
       location = tokens_of old.keyword_location;
       within = tokens_of old.instance_location;
       keyword = refl;
-      named = (entered.named, nth_item vs i x c.loop-index-test.true c.index-items-index.is);
+      named = (entered.named, nth_tree vs i x c.loop-index-test.true c.index-items-index.is);
       left = λ g. sym (c.in_ok-evaluated.ensures g) ∙ c.if-not-evaluated.true;
       placed = entered.entered;
-      invalid = subst (λ o. Judges w r (view x) (Ok o)) c.in-Some.is c.in_ok-found.ensures;
+      invalid = subst (λ o. Judges w r (tree_of x) (Ok o)) c.in-Some.is c.in_ok-found.ensures;
     }
 
 pub unevaluated::in_items_left-loop-index-preserved : goal.unevaluated::in_items_left-loop-index-preserved
@@ -855,7 +848,7 @@ unevaluated::in_items_left-loop-index-preserved t c g =
     elim c.if-not-evaluated.branch [
       | unevaluated::in_items_left-then-not-evaluated+in_ok-found+in_default w ↦
           left_turn q vs i x c.loop-index-test.true c.index-items-index.is
-          (or_right _ _ (subst (λ o. Judges c.args.walk r (view x) (Ok o)) w.in_default.is w.in_ok-found.ensures g))
+          (or_right _ _ (subst (λ o. Judges c.args.walk r (tree_of x) (Ok o)) w.in_default.is w.in_ok-found.ensures g))
           (c.loop-index.invariant g)
       | unevaluated::in_items_left-else-not-evaluated w ↦
           left_turn q vs i x c.loop-index-test.true c.index-items-index.is
@@ -877,7 +870,7 @@ unevaluated::is_item_evaluated-evaluates_item-requires t c =
 
 pub unevaluated::is_item_evaluated-returns-then-evaluates : goal.unevaluated::is_item_evaluated-returns-then-evaluates
 unevaluated::is_item_evaluated-returns-then-evaluates t c g =
-    let k = item_at c.args.index (view c.args.item.now) in
+    let k = item_at c.args.index (tree_of c.args.item.now) in
     let xs = c.args.sources.now in
     let i = c.loop-source.source-index in
     turn_stop (λ ys. sources_evaluate g ys k) xs i true c.source-item.result c.loop-source-test.true c.source-item.is
@@ -886,7 +879,7 @@ unevaluated::is_item_evaluated-returns-then-evaluates t c g =
 
 pub unevaluated::is_item_evaluated-loop-source-preserved : goal.unevaluated::is_item_evaluated-loop-source-preserved
 unevaluated::is_item_evaluated-loop-source-preserved t c g =
-    let k = item_at c.args.index (view c.args.item.now) in
+    let k = item_at c.args.index (tree_of c.args.item.now) in
     let xs = c.args.sources.now in
     let i = c.loop-source.source-index in
     turn_next (λ ys. sources_evaluate g ys k) xs i c.source-item.result c.loop-source-test.true c.source-item.is
@@ -895,7 +888,7 @@ unevaluated::is_item_evaluated-loop-source-preserved t c g =
 
 pub unevaluated::is_item_evaluated-returns : goal.unevaluated::is_item_evaluated-returns
 unevaluated::is_item_evaluated-returns t c g =
-    let k = item_at c.args.index (view c.args.item.now) in
+    let k = item_at c.args.index (tree_of c.args.item.now) in
     sym (turn_end (λ ys. sources_evaluate g ys k) c.args.sources.now c.loop-source.source-index false c.loop-source-test.false refl
     (c.loop-source.invariant g))
 
@@ -917,7 +910,7 @@ unevaluated::evaluates_item-returns-in_default t c g =
     evaluated_by _ _ _ false (sym c.counts_rest-has_rest.ensures ∙ c.if-has_rest.false)
     (sym (item_applied s c.args.index c.item_part-applied.result c.item_part-applied.ensures)
     ∙ (sym c.is_some.ensures ∙ c.if-is_some.false))
-    (ap (λ o. option_map_or (λ r. says x.walk g r (view c.args.item.now)) o false) c.in_default.ensures)
+    (ap (λ o. option_map_or (λ r. says x.walk g r (tree_of c.args.item.now)) o false) c.in_default.ensures)
 
 pub unevaluated::evaluates_item-returns : goal.unevaluated::evaluates_item-returns
 unevaluated::evaluates_item-returns t c g =
@@ -926,14 +919,14 @@ unevaluated::evaluates_item-returns t c g =
     evaluated_by _ _ _ c.in_ok-accepted.accepted (sym c.counts_rest-has_rest.ensures ∙ c.if-has_rest.false)
     (sym (item_applied s c.args.index c.item_part-applied.result c.item_part-applied.ensures)
     ∙ (sym c.is_some.ensures ∙ c.if-is_some.false))
-    (c.in_ok-accepted.ensures g ∙ ap (λ o. option_map_or (λ r. says x.walk g r (view c.args.item.now)) o false) c.in-Some.ensures)
+    (c.in_ok-accepted.ensures g ∙ ap (λ o. option_map_or (λ r. says x.walk g r (tree_of c.args.item.now)) o false) c.in-Some.ensures)
 
 -- ---- the whole of it
 
 pub unevaluated::in_rest-in_members_left-requires : goal.unevaluated::in_rest-in_members_left-requires
 unevaluated::in_rest-in_members_left-requires t c =
-    let rises : IsSorted (members_listed c.as_slice.result.now) = subst (λ xs. IsSorted (members_listed xs)) (sym c.as_slice.ensures.value)
-    (listed_sorted c.in_ok-sorted-in-Object.sorted.items c.in-Object.members c.in_ok-sorted-in-Object.ensures) in
+    let rises : IsSorted (members_of c.as_slice.result.now) = subst (λ xs. IsSorted (members_of xs)) (sym c.as_slice.ensures.value)
+    c.in_ok-members-in-Object.ensures.sorted in
     let fewer : 16 * c.args.walk.steps + 13 < 16 * c.args.walk.steps + 14 = omega arith in
     search rules
 
@@ -948,30 +941,35 @@ pub unevaluated::in_rest-returns-in_default-schema_at : goal.unevaluated::in_res
 unevaluated::in_rest-returns-in_default-schema_at t c g =
     let w = c.args.walk in
     let s = view c.args.here.schema.now in
-    let same : object (members_view c.in-Object.members.entries) ≡ view c.args.value.now
-    = sym (ap view c.in-Object.is ∙ view_Object c.in-Object.members) in
-    subst (λ x. rest_accepted (view w.ground.now.whole.now.root.now) (answers_in w g) s x ≡ true) same
-    (no_member_rest (view w.ground.now.whole.now.root.now) (answers_in w g) s (members_view c.in-Object.members.entries)
-    c.in_default-schema_at.ensures)
+    let v = tree_of c.args.value.now in
+    subst (λ x. rest_accepted (view w.ground.now.whole.now.root.now) (answers_in w g) s x ≡ true)
+    (object_is v (sym c.in-Object.is ∙ c.kind.ensures))
+    (no_member_rest (view w.ground.now.whole.now.root.now) (answers_in w g) s (part.members_in v) c.in_default-schema_at.ensures)
 
 pub unevaluated::in_rest-returns-in_default-schema_at-2 : goal.unevaluated::in_rest-returns-in_default-schema_at-2
 unevaluated::in_rest-returns-in_default-schema_at-2 t c g =
     let w = c.args.walk in
     let s = view c.args.here.schema.now in
-    let same : array (items_view c.in-Array.items.items) ≡ view c.args.value.now
-    = sym (ap view c.in-Array.is ∙ view_Array c.in-Array.items) in
-    subst (λ x. rest_accepted (view w.ground.now.whole.now.root.now) (answers_in w g) s x ≡ true) same
-    (no_item_rest (view w.ground.now.whole.now.root.now) (answers_in w g) s (items_view c.in-Array.items.items) c.in_default-schema_at-2.ensures)
+    let v = tree_of c.args.value.now in
+    subst (λ x. rest_accepted (view w.ground.now.whole.now.root.now) (answers_in w g) s x ≡ true)
+    (array_is v (sym c.in-Array.is ∙ c.kind.ensures))
+    (no_item_rest (view w.ground.now.whole.now.root.now) (answers_in w g) s (part.items_in v) c.in_default-schema_at-2.ensures)
 
-pub unevaluated::in_rest-returns-in_ok-sorted-in-Object : goal.unevaluated::in_rest-returns-in_ok-sorted-in-Object
-unevaluated::in_rest-returns-in_ok-sorted-in-Object t c =
+pub unevaluated::in_rest-returns-in_default : goal.unevaluated::in_rest-returns-in_default
+unevaluated::in_rest-returns-in_default t c g =
+    let w = c.args.walk in
+    no_rest (view w.ground.now.whole.now.root.now) (answers_in w g) (view c.args.here.schema.now) (tree_of c.args.value.now)
+    (λ e. c.in_default.not-Object (c.kind.ensures ∙ sym e)) (λ e. c.in_default.not-Array (c.kind.ensures ∙ sym e))
+
+pub unevaluated::in_rest-returns-in_ok-members-in-Object : goal.unevaluated::in_rest-returns-in_ok-members-in-Object
+unevaluated::in_rest-returns-in_ok-members-in-Object t c =
     let w = c.args.walk in
     let s = view c.args.here.schema.now in
-    let v = view c.args.value.now in
+    let v = tree_of c.args.value.now in
     let xs = c.as_slice-in-Object.result.now in
-    let ms = members_listed c.as_slice.result.now in
-    let same : object ms ≡ v = ap object (ap members_listed c.as_slice.ensures.value ∙ c.in_ok-sorted-in-Object.ensures)
-    ∙ sym (ap view c.in-Object.is ∙ view_Object c.in-Object.members) in
+    let ms = members_of c.as_slice.result.now in
+    let same : object ms ≡ v = ap object (ap members_of c.as_slice.ensures.value ∙ c.in_ok-members-in-Object.ensures.listed)
+    ∙ object_is v (sym c.in-Object.is ∙ c.kind.ensures) in
     let told : (g : Answers) (k : Child) → sources_evaluate g xs k ≡ others_evaluate (view w.ground.now.whole.now.root.now) (answers_in w g) s v k
     = λ g k. ap (λ l. sources_evaluate g l k) c.as_slice-in-Object.ensures.value ∙ c.in_ok-sources-in-Object.ensures.evaluated g k in
     subst (λ x. FindsRest w s x c.in_members_left.result) same
@@ -980,15 +978,15 @@ unevaluated::in_rest-returns-in_ok-sorted-in-Object t c =
     (sym same)
     told) c.in-Some.ensures c.in_members_left.ensures)
 
-pub unevaluated::in_rest-returns-in_ok-sources-in-Array : goal.unevaluated::in_rest-returns-in_ok-sources-in-Array
-unevaluated::in_rest-returns-in_ok-sources-in-Array t c =
+pub unevaluated::in_rest-returns-in_ok-items-in-Array : goal.unevaluated::in_rest-returns-in_ok-items-in-Array
+unevaluated::in_rest-returns-in_ok-items-in-Array t c =
     let w = c.args.walk in
     let s = view c.args.here.schema.now in
-    let v = view c.args.value.now in
+    let v = tree_of c.args.value.now in
     let xs = c.as_slice-in-Array-2.result.now in
-    let us = items_view c.as_slice-in-Array.result.now in
-    let same : array us ≡ v = ap (λ ys. array (items_view ys)) c.as_slice-in-Array.ensures.value
-    ∙ sym (ap view c.in-Array.is ∙ view_Array c.in-Array.items) in
+    let us = trees_of c.as_slice-in-Array.result.now in
+    let same : array us ≡ v = ap array (ap trees_of c.as_slice-in-Array.ensures.value ∙ c.in_ok-items-in-Array.ensures)
+    ∙ array_is v (sym c.in-Array.is ∙ c.kind.ensures) in
     let told : (g : Answers) (k : Child) → sources_evaluate g xs k ≡ others_evaluate (view w.ground.now.whole.now.root.now) (answers_in w g) s v k
     = λ g k. ap (λ l. sources_evaluate g l k) c.as_slice-in-Array-2.ensures.value ∙ c.in_ok-sources-in-Array.ensures.evaluated g k in
     subst (λ x. FindsRest w s x c.in_items_left.result) same
@@ -1002,7 +1000,7 @@ unevaluated::in_rest-returns-in_ok-sources-in-Array t c =
 pub unevaluated::sources_of-returns-clause-evaluated : goal.unevaluated::sources_of-returns-clause-evaluated
 unevaluated::sources_of-returns-clause-evaluated t c =
     let x : Source = record { applied = c.args.here; walk = c.args.walk; asks = true } in
-    asking_added c.args.walk x (view c.args.value.now) c.push.new.self.items c.add_inner.new.sources.items refl refl
+    asking_added c.args.walk x (tree_of c.args.value.now) c.push.new.self.items c.add_inner.new.sources.items refl refl
     (c.in_ok-push.ensures.items ∙ ap (λ ys. ys ++ x ∷ []) c.new-sources.ensures.items) c.in_ok-add_inner.ensures.evaluated
 
 pub unevaluated::sources_of-returns-clause-within : goal.unevaluated::sources_of-returns-clause-within
@@ -1016,7 +1014,7 @@ unevaluated::sources_of-returns-clause-within t c =
 pub unevaluated::add_schema-returns-clause-evaluated : goal.unevaluated::add_schema-returns-clause-evaluated
 unevaluated::add_schema-returns-clause-evaluated t c =
     let inner = c.in_ok-inner.inner in
-    schema_added c.args.walk inner _ (view c.args.value.now)
+    schema_added c.args.walk inner _ (tree_of c.args.value.now)
     c.args.sources.now.items c.push.new.self.items c.add_inner.new.sources.items c.in_ok-inner.ensures refl refl
     c.in_ok-push.ensures.items c.in_ok-add_inner.ensures.evaluated
 
@@ -1029,7 +1027,7 @@ unevaluated::add_schema-returns-clause-within t c n h k =
 
 pub unevaluated::add_inner-returns-clause-evaluated : goal.unevaluated::add_inner-returns-clause-evaluated
 unevaluated::add_inner-returns-clause-evaluated t c =
-    inner_added c.args.walk (view c.args.here.schema.now) (view c.args.value.now) (items_view c.schemas_at-all.result.now)
+    inner_added c.args.walk (view c.args.here.schema.now) (tree_of c.args.value.now) (items_view c.schemas_at-all.result.now)
     (items_view c.schemas_at-any.result.now) (items_view c.schemas_at-one.result.now) c.args.sources.now.items
     c.add_listed.new.sources.items c.add_accepting.new.sources.items c.add_accepting-2.new.sources.items
     c.add_branch.new.sources.items c.add_dependents.new.sources.items c.add_reference.new.sources.items c.schemas_at-all.ensures
@@ -1044,7 +1042,7 @@ unevaluated::add_inner-returns-clause-within t c n h k =
 
 pub unevaluated::add_listed-loop-schema-preserved : goal.unevaluated::add_listed-loop-schema-preserved
 unevaluated::add_listed-loop-schema-preserved t c = (
-  λ g k. adds_turn (λ ys. some_evaluate (answers_in c.args.walk g) (items_view ys) (view c.args.value.now) k) c.args.schemas.now
+  λ g k. adds_turn (λ ys. some_evaluate (answers_in c.args.walk g) (items_view ys) (tree_of c.args.value.now) k) c.args.schemas.now
       c.loop-schema.schema-index c.schema-item.result _ _ _ _ c.loop-schema-test.true c.schema-item.is refl
       (c.in_ok-add_schema.ensures.evaluated g k) (c.loop-schema.invariant.0 g k),
   λ n h k. c.in_ok-add_schema.ensures.within n h (c.loop-schema.invariant.1 n h k),
@@ -1052,12 +1050,12 @@ unevaluated::add_listed-loop-schema-preserved t c = (
 
 pub unevaluated::add_listed-returns-clause-evaluated : goal.unevaluated::add_listed-returns-clause-evaluated
 unevaluated::add_listed-returns-clause-evaluated t c g k =
-    adds_end (λ ys. some_evaluate (answers_in c.args.walk g) (items_view ys) (view c.args.value.now) k) c.args.schemas.now
+    adds_end (λ ys. some_evaluate (answers_in c.args.walk g) (items_view ys) (tree_of c.args.value.now) k) c.args.schemas.now
     c.loop-schema.schema-index _ _ c.loop-schema-test.false refl (c.loop-schema.invariant.0 g k)
 
 pub unevaluated::add_accepting-loop-schema-preserved : goal.unevaluated::add_accepting-loop-schema-preserved
 unevaluated::add_accepting-loop-schema-preserved t c = (
-  λ g k. adds_turn (λ ys. accepting_evaluate (answers_in c.args.walk g) (items_view ys) (view c.args.value.now) k) c.args.schemas.now
+  λ g k. adds_turn (λ ys. accepting_evaluate (answers_in c.args.walk g) (items_view ys) (tree_of c.args.value.now) k) c.args.schemas.now
       c.loop-schema.schema-index c.schema-item.result _ _ _ _ c.loop-schema-test.true c.schema-item.is refl
       (c.in_ok-add_if_accepting.ensures.evaluated g k) (c.loop-schema.invariant.0 g k),
   λ n h k. c.in_ok-add_if_accepting.ensures.within n h (c.loop-schema.invariant.1 n h k),
@@ -1065,7 +1063,7 @@ unevaluated::add_accepting-loop-schema-preserved t c = (
 
 pub unevaluated::add_accepting-returns-clause-evaluated : goal.unevaluated::add_accepting-returns-clause-evaluated
 unevaluated::add_accepting-returns-clause-evaluated t c g k =
-    adds_end (λ ys. accepting_evaluate (answers_in c.args.walk g) (items_view ys) (view c.args.value.now) k) c.args.schemas.now
+    adds_end (λ ys. accepting_evaluate (answers_in c.args.walk g) (items_view ys) (tree_of c.args.value.now) k) c.args.schemas.now
     c.loop-schema.schema-index _ _ c.loop-schema-test.false refl (c.loop-schema.invariant.0 g k)
 
 pub unevaluated::add_if_accepting-returns-then-not-accepted-clause-accepted
@@ -1076,7 +1074,7 @@ pub unevaluated::add_if_accepting-returns-then-not-accepted-clause-evaluated
     : goal.unevaluated::add_if_accepting-returns-then-not-accepted-clause-evaluated
 unevaluated::add_if_accepting-returns-then-not-accepted-clause-evaluated t c =
     let s = view c.args.schema.now in
-    let v = view c.args.value.now in
+    let v = tree_of c.args.value.now in
     adds_none c.args.walk (λ a k. a.accepts s v && a.evaluates s v k) _
     (λ g k. ap (λ b. b && (answers_in c.args.walk g).evaluates s v k) (sym (c.in_ok-accepted.ensures g) ∙ c.if-not-accepted.true))
 
@@ -1086,7 +1084,7 @@ unevaluated::add_if_accepting-returns-clause-accepted t c g = sym c.if-not-accep
 pub unevaluated::add_if_accepting-returns-clause-evaluated : goal.unevaluated::add_if_accepting-returns-clause-evaluated
 unevaluated::add_if_accepting-returns-clause-evaluated t c =
     let s = view c.args.schema.now in
-    let v = view c.args.value.now in
+    let v = tree_of c.args.value.now in
     adds_as c.args.walk (λ a k. a.evaluates s v k) (λ a k. a.accepts s v && a.evaluates s v k) _ _
     (λ g k. sym (ap (λ b. b && (answers_in c.args.walk g).evaluates s v k) (sym (c.in_ok-accepted.ensures g) ∙ c.if-not-accepted.false)))
     c.in_ok-add_schema.ensures.evaluated
@@ -1094,7 +1092,7 @@ unevaluated::add_if_accepting-returns-clause-evaluated t c =
 pub unevaluated::add_branch-returns-in_default-clause-evaluated : goal.unevaluated::add_branch-returns-in_default-clause-evaluated
 unevaluated::add_branch-returns-in_default-clause-evaluated t c =
     let s = view c.args.here.schema.now in
-    let v = view c.args.value.now in
+    let v = tree_of c.args.value.now in
     adds_none c.args.walk (λ a k. branch_evaluates a s v k) _
     (λ g k. no_branch_added (answers_in c.args.walk g) s v k c.in_default.ensures)
 
@@ -1103,7 +1101,7 @@ pub unevaluated::add_branch-returns-in_default-schema_at-clause-evaluated
 unevaluated::add_branch-returns-in_default-schema_at-clause-evaluated t c =
     let w = c.args.walk in
     let s = view c.args.here.schema.now in
-    let v = view c.args.value.now in
+    let v = tree_of c.args.value.now in
     let r = view c.in-Some.test.now in
     let b = c.in_ok-accepted.accepted in
     adds_as w (λ a k. a.accepts r v && a.evaluates r v k) (λ a k. branch_evaluates a s v k) _ _
@@ -1114,7 +1112,7 @@ pub unevaluated::add_branch-returns-clause-evaluated : goal.unevaluated::add_bra
 unevaluated::add_branch-returns-clause-evaluated t c =
     let w = c.args.walk in
     let s = view c.args.here.schema.now in
-    let v = view c.args.value.now in
+    let v = tree_of c.args.value.now in
     let r = view c.in-Some.test.now in
     let u = view c.in-Some-schema_at.part.now in
     let b = c.in_ok-accepted.accepted in
@@ -1131,7 +1129,7 @@ unevaluated::add_branch-returns-clause-within t c n h k = c.in_ok-add_schema.ens
 pub unevaluated::add_dependents-loop-key-preserved : goal.unevaluated::add_dependents-loop-key-preserved
 unevaluated::add_dependents-loop-key-preserved t c =
     let w = c.args.walk in
-    let v = view c.args.value.now in
+    let v = tree_of c.args.value.now in
     let ps = c.as_slice-dependents.result.now in
     let i = c.loop-key.key-index in
     let p = c.loop-key-item.result in
@@ -1145,7 +1143,7 @@ unevaluated::add_dependents-loop-key-preserved t c =
 
 pub unevaluated::add_dependents-returns-clause-evaluated : goal.unevaluated::add_dependents-returns-clause-evaluated
 unevaluated::add_dependents-returns-clause-evaluated t c g k =
-    let v = view c.args.value.now in
+    let v = tree_of c.args.value.now in
     adds_end (λ ys. dependents_evaluate (answers_in c.args.walk g) (members_listed ys) v k) c.as_slice-dependents.result.now
     c.loop-key.key-index _ _ c.loop-key-test.false refl (c.loop-key.invariant.0 g k)
     ∙ ap (λ rs. sources_evaluate g c.args.sources.now.items k || dependents_evaluate (answers_in c.args.walk g) rs v k)
@@ -1155,7 +1153,7 @@ pub unevaluated::add_dependent-returns-then-not-has_key-clause-evaluated
     : goal.unevaluated::add_dependent-returns-then-not-has_key-clause-evaluated
 unevaluated::add_dependent-returns-then-not-has_key-clause-evaluated t c =
     let s = view c.args.schema.now in
-    let v = view c.args.value.now in
+    let v = tree_of c.args.value.now in
     let here = is_some (tree_at_key v (chars c.args.key.now)) in
     adds_none c.args.walk (λ a k. here && a.evaluates s v k) _
     (λ g k. ap (λ b. b && (answers_in c.args.walk g).evaluates s v k) (sym c.has_key.ensures ∙ c.if-not-has_key.true))
@@ -1163,7 +1161,7 @@ unevaluated::add_dependent-returns-then-not-has_key-clause-evaluated t c =
 pub unevaluated::add_dependent-returns-clause-evaluated : goal.unevaluated::add_dependent-returns-clause-evaluated
 unevaluated::add_dependent-returns-clause-evaluated t c =
     let s = view c.args.schema.now in
-    let v = view c.args.value.now in
+    let v = tree_of c.args.value.now in
     let here = is_some (tree_at_key v (chars c.args.key.now)) in
     adds_as c.args.walk (λ a k. a.evaluates s v k) (λ a k. here && a.evaluates s v k) _ _
     (λ g k. sym (ap (λ b. b && (answers_in c.args.walk g).evaluates s v k) (sym c.has_key.ensures ∙ c.if-not-has_key.false)))
@@ -1173,7 +1171,7 @@ pub unevaluated::add_reference-returns-clause-evaluated : goal.unevaluated::add_
 unevaluated::add_reference-returns-clause-evaluated t c =
     let root = view c.args.walk.ground.now.whole.now.root.now in
     let s = view c.args.here.schema.now in
-    let v = view c.args.value.now in
+    let v = tree_of c.args.value.now in
     adds_both c.args.walk (λ a k. target_evaluates root kw.Ref a s v k) (λ a k. target_evaluates root kw.DynamicRef a s v k)
     c.args.sources.now.items c.add_target.new.sources.items c.add_target-2.new.sources.items c.in_ok-add_target.ensures.evaluated
     c.in_ok-add_target-2.ensures.evaluated
@@ -1186,7 +1184,7 @@ pub unevaluated::add_target-returns-in_default-clause-evaluated : goal.unevaluat
 unevaluated::add_target-returns-in_default-clause-evaluated t c =
     let root = view c.args.walk.ground.now.whole.now.root.now in
     let s = view c.args.here.schema.now in
-    let v = view c.args.value.now in
+    let v = tree_of c.args.value.now in
     adds_none c.args.walk (λ a k. target_evaluates root c.args.keyword a s v k) _
     (λ g k. no_target_added root (answers_in c.args.walk g) s v c.args.keyword k
     (ap (option_map (λ x. view x.now)) (sym c.in_default.is) ∙ c.in_ok-part.ensures))
@@ -1195,7 +1193,7 @@ pub unevaluated::add_target-returns-clause-evaluated : goal.unevaluated::add_tar
 unevaluated::add_target-returns-clause-evaluated t c =
     let root = view c.args.walk.ground.now.whole.now.root.now in
     let s = view c.args.here.schema.now in
-    let v = view c.args.value.now in
+    let v = tree_of c.args.value.now in
     let r = view c.in-Some.part.now in
     adds_as c.args.walk (λ a k. a.evaluates r v k) (λ a k. target_evaluates root c.args.keyword a s v k) _ _
     (λ g k. target_added root (answers_in c.args.walk g) s v r c.args.keyword k

@@ -1,6 +1,7 @@
 use Rattle.std.proofs.Common.{◌≡◌, ◌+◌, ◌*◌, ◌≤◌, ◌||◌, drop}
 use Rattle.std.specs.Str.{chars}
 use Rattle.tinyjson.specs.View.{view, items_view, members_listed}
+use Rattle.tinyjson_view.specs.Views.{tree_of, trees_of, members_of}
 use Rattle.tinyjson_schema_keywords.specs.Applied.{members_in}
 use Rattle.tinyjson_schema.specs.Applicators.{all_accept, some_accepts, accepting, keys_pass, passing, dependents_accept, members_accepted}
 use Rattle.tinyjson_schema.specs.Applicators.{items_accepted, found_pass, patterns_accept}
@@ -81,52 +82,52 @@ decreases-in_items l = 16 * l.walk.steps + 11
 
 abbrev pub invariant-tested::is_some_met-loop-schema : goal.invariant-tested::is_some_met-loop-schema
 invariant-tested::is_some_met-loop-schema l = (g : Answers) →
-    some_accepts (says l.walk g) (items_view (drop l.schema-index l.schemas)) (view l.value)
-    ≡ some_accepts (says l.walk g) (items_view l.schemas) (view l.value)
+    some_accepts (says l.walk g) (items_view (drop l.schema-index l.schemas)) (tree_of l.value)
+    ≡ some_accepts (says l.walk g) (items_view l.schemas) (tree_of l.value)
 
 abbrev pub invariant-tested::count_accepting-loop-schema : goal.invariant-tested::count_accepting-loop-schema
 invariant-tested::count_accepting-loop-schema l = (l.count ≤ l.schema-index)
-    × ((g : Answers) → l.count + accepting (says l.walk g) (items_view (drop l.schema-index l.schemas)) (view l.value)
-    ≡ accepting (says l.walk g) (items_view l.schemas) (view l.value))
+    × ((g : Answers) → l.count + accepting (says l.walk g) (items_view (drop l.schema-index l.schemas)) (tree_of l.value)
+    ≡ accepting (says l.walk g) (items_view l.schemas) (tree_of l.value))
 
-abbrev pub invariant-tested::are_keys_met-loop-key : goal.invariant-tested::are_keys_met-loop-key
-invariant-tested::are_keys_met-loop-key l = (g : Answers) →
-    keys_pass (says l.walk g (view l.schema)) (members_listed (drop l.key-index l.members))
-    ≡ keys_pass (says l.walk g (view l.schema)) (members_listed l.members)
+abbrev pub invariant-tested::are_keys_met-loop-member : goal.invariant-tested::are_keys_met-loop-member
+invariant-tested::are_keys_met-loop-member l = (g : Answers) →
+    keys_pass (says l.walk g (view l.schema)) (members_of (drop l.member-index l.members))
+    ≡ keys_pass (says l.walk g (view l.schema)) (members_of l.members)
 
 abbrev pub invariant-tested::count_passing-loop-item : goal.invariant-tested::count_passing-loop-item
 invariant-tested::count_passing-loop-item l = (l.count ≤ l.item-index)
-    × ((g : Answers) → l.count + passing (says l.walk g (view l.schema)) (items_view (drop l.item-index l.items))
-    ≡ passing (says l.walk g (view l.schema)) (items_view l.items))
+    × ((g : Answers) → l.count + passing (says l.walk g (view l.schema)) (trees_of (drop l.item-index l.items))
+    ≡ passing (says l.walk g (view l.schema)) (trees_of l.items))
 
 abbrev pub invariant-in_all_of-loop-index : goal.invariant-in_all_of-loop-index
-invariant-in_all_of-loop-index l = (g : Answers) → all_accept (says l.walk g) (items_view (drop l.index l.parts)) (view l.value)
-    ≡ all_accept (says l.walk g) (items_view l.parts) (view l.value)
+invariant-in_all_of-loop-index l = (g : Answers) → all_accept (says l.walk g) (items_view (drop l.index l.parts)) (tree_of l.value)
+    ≡ all_accept (says l.walk g) (items_view l.parts) (tree_of l.value)
 
 abbrev pub invariant-in_dependents-loop-key : goal.invariant-in_dependents-loop-key
 invariant-in_dependents-loop-key l = (g : Answers) →
-    dependents_accept (says l.walk g) (members_listed (drop l.key-index l.dependents)) (view l.value)
-    ≡ dependents_accept (says l.walk g) (members_listed l.dependents) (view l.value)
+    dependents_accept (says l.walk g) (members_listed (drop l.key-index l.dependents)) (tree_of l.value)
+    ≡ dependents_accept (says l.walk g) (members_listed l.dependents) (tree_of l.value)
 
 abbrev pub invariant-in_patterned-loop-pattern : goal.invariant-in_patterned-loop-pattern
 invariant-in_patterned-loop-pattern l = (g : Answers) →
-    patterns_accept (says l.walk g) (members_listed (drop l.pattern-index l.patterns)) (members_in (view l.value))
-    ≡ patterns_accept (says l.walk g) (members_listed l.patterns) (members_in (view l.value))
+    patterns_accept (says l.walk g) (members_listed (drop l.pattern-index l.patterns)) (members_in (tree_of l.value))
+    ≡ patterns_accept (says l.walk g) (members_listed l.patterns) (members_in (tree_of l.value))
 
-abbrev pub invariant-in_found-loop-key : goal.invariant-in_found-loop-key
-invariant-in_found-loop-key l = (g : Answers) →
-    found_pass (says l.walk g (view l.schema)) (chars l.pattern) (members_listed (drop l.key-index l.members))
-    ≡ found_pass (says l.walk g (view l.schema)) (chars l.pattern) (members_listed l.members)
+abbrev pub invariant-in_found-loop-member : goal.invariant-in_found-loop-member
+invariant-in_found-loop-member l = (g : Answers) →
+    found_pass (says l.walk g (view l.schema)) (chars l.pattern) (members_of (drop l.member-index l.members))
+    ≡ found_pass (says l.walk g (view l.schema)) (chars l.pattern) (members_of l.members)
 
-abbrev pub invariant-in_members-loop-key : goal.invariant-in_members-loop-key
-invariant-in_members-loop-key l = (g : Answers) →
-    members_accepted (says l.walk g) (view l.here.schema.now) (members_listed (drop l.key-index l.members))
-    ≡ members_accepted (says l.walk g) (view l.here.schema.now) (members_listed l.members)
+abbrev pub invariant-in_members-loop-member : goal.invariant-in_members-loop-member
+invariant-in_members-loop-member l = (g : Answers) →
+    members_accepted (says l.walk g) (view l.here.schema.now) (members_of (drop l.member-index l.members))
+    ≡ members_accepted (says l.walk g) (view l.here.schema.now) (members_of l.members)
 
 abbrev pub invariant-in_items-loop-index : goal.invariant-in_items-loop-index
 invariant-in_items-loop-index l = (g : Answers) →
-    items_accepted (says l.walk g) (view l.here.schema.now) l.index (items_view (drop l.index l.items))
-    ≡ items_accepted (says l.walk g) (view l.here.schema.now) 0 (items_view l.items)
+    items_accepted (says l.walk g) (view l.here.schema.now) l.index (trees_of (drop l.index l.items))
+    ≡ items_accepted (says l.walk g) (view l.here.schema.now) 0 (trees_of l.items)
 
 -- ---- what is not evaluated
 
@@ -178,43 +179,43 @@ decreases-unevaluated::add_target l = 16 * l.walk.steps + 10
 abbrev pub decreases-unevaluated::add_schema : goal.decreases-unevaluated::add_schema
 decreases-unevaluated::add_schema l = 16 * l.walk.steps + 7
 
-abbrev pub invariant-unevaluated::in_members_left-loop-key : goal.invariant-unevaluated::in_members_left-loop-key
-invariant-unevaluated::in_members_left-loop-key l = (g : Answers) →
+abbrev pub invariant-unevaluated::in_members_left-loop-member : goal.invariant-unevaluated::in_members_left-loop-member
+invariant-unevaluated::in_members_left-loop-member l = (g : Answers) →
     members_pass (λ c. sources_evaluate g l.sources c || says l.walk g (view l.rest) (value_of c))
-    (members_listed (drop l.key-index l.members))
-    ≡ members_pass (λ c. sources_evaluate g l.sources c || says l.walk g (view l.rest) (value_of c)) (members_listed l.members)
+    (members_of (drop l.member-index l.members))
+    ≡ members_pass (λ c. sources_evaluate g l.sources c || says l.walk g (view l.rest) (value_of c)) (members_of l.members)
 
 abbrev pub invariant-unevaluated::in_items_left-loop-index : goal.invariant-unevaluated::in_items_left-loop-index
 invariant-unevaluated::in_items_left-loop-index l = (g : Answers) →
     items_pass (λ c. sources_evaluate g l.sources c || says l.walk g (view l.rest) (value_of c)) l.index
-    (items_view (drop l.index l.items))
-    ≡ items_pass (λ c. sources_evaluate g l.sources c || says l.walk g (view l.rest) (value_of c)) 0 (items_view l.items)
+    (trees_of (drop l.index l.items))
+    ≡ items_pass (λ c. sources_evaluate g l.sources c || says l.walk g (view l.rest) (value_of c)) 0 (trees_of l.items)
 
 abbrev pub invariant-unevaluated::is_item_evaluated-loop-source : goal.invariant-unevaluated::is_item_evaluated-loop-source
 invariant-unevaluated::is_item_evaluated-loop-source l = (g : Answers) →
-    sources_evaluate g (drop l.source-index l.sources) (item_at l.index (view l.item))
-    ≡ sources_evaluate g l.sources (item_at l.index (view l.item))
+    sources_evaluate g (drop l.source-index l.sources) (item_at l.index (tree_of l.item))
+    ≡ sources_evaluate g l.sources (item_at l.index (tree_of l.item))
 
 abbrev pub invariant-unevaluated::add_listed-loop-schema : goal.invariant-unevaluated::add_listed-loop-schema
 invariant-unevaluated::add_listed-loop-schema l = ((g : Answers) (c : Child) →
     (sources_evaluate g l.sources.items c
-    || some_evaluate (answers_in l.walk g) (items_view (drop l.schema-index l.schemas)) (view l.value) c)
+    || some_evaluate (answers_in l.walk g) (items_view (drop l.schema-index l.schemas)) (tree_of l.value) c)
     ≡ (sources_evaluate g l.initial.sources.items c
-    || some_evaluate (answers_in l.walk g) (items_view l.schemas) (view l.value) c))
+    || some_evaluate (answers_in l.walk g) (items_view l.schemas) (tree_of l.value) c))
     × StaysWithin l.walk l.initial.sources.items l.sources.items
 
 abbrev pub invariant-unevaluated::add_accepting-loop-schema : goal.invariant-unevaluated::add_accepting-loop-schema
 invariant-unevaluated::add_accepting-loop-schema l = ((g : Answers) (c : Child) →
     (sources_evaluate g l.sources.items c
-    || accepting_evaluate (answers_in l.walk g) (items_view (drop l.schema-index l.schemas)) (view l.value) c)
+    || accepting_evaluate (answers_in l.walk g) (items_view (drop l.schema-index l.schemas)) (tree_of l.value) c)
     ≡ (sources_evaluate g l.initial.sources.items c
-    || accepting_evaluate (answers_in l.walk g) (items_view l.schemas) (view l.value) c))
+    || accepting_evaluate (answers_in l.walk g) (items_view l.schemas) (tree_of l.value) c))
     × StaysWithin l.walk l.initial.sources.items l.sources.items
 
 abbrev pub invariant-unevaluated::add_dependents-loop-key : goal.invariant-unevaluated::add_dependents-loop-key
 invariant-unevaluated::add_dependents-loop-key l = ((g : Answers) (c : Child) →
     (sources_evaluate g l.sources.items c
-    || dependents_evaluate (answers_in l.walk g) (members_listed (drop l.key-index l.dependents)) (view l.value) c)
+    || dependents_evaluate (answers_in l.walk g) (members_listed (drop l.key-index l.dependents)) (tree_of l.value) c)
     ≡ (sources_evaluate g l.initial.sources.items c
-    || dependents_evaluate (answers_in l.walk g) (members_listed l.dependents) (view l.value) c))
+    || dependents_evaluate (answers_in l.walk g) (members_listed l.dependents) (tree_of l.value) c))
     × StaysWithin l.walk l.initial.sources.items l.sources.items

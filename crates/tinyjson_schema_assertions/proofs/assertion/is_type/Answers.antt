@@ -1,6 +1,6 @@
 use Rattle.std.proofs.Common.{◌≡◌, ◌∙◌, true, false, bytes_eq, string_bytes, codes, sym, ap, refl}
 use Rattle.tinyjson.specs.Kind.{kind_of, kind_name}
-use Rattle.tinyjson.specs.View.{view}
+use Rattle.tinyjson_view.specs.Views.{tree_of}
 use Rattle.tinyjson_schema_assertions.specs.Assertions.{is_whole}
 use Rattle.tinyjson_schema_assertions.proofs.Operands.{type_determined}
 use Rattle.tinyjson_schema_assertions.proofs.assertion.is_type.Goals as goal
@@ -8,7 +8,7 @@ use Rattle.tinyjson_schema_assertions.proofs.assertion.is_type.Goals as goal
 pub returns-then-eq : goal.returns-then-eq
 returns-then-eq c =
     let s = c.in-String.name in
-    let t = view c.args.value.now in
+    let t = tree_of c.args.value.now in
     let named : true ≡ bytes_eq (string_bytes s) (kind_name (kind_of t))
     = sym c.if-eq.true ∙ (c.eq.ensures ∙ (ap (λ bs. bytes_eq bs c.kind_name.result.now) c.as_str.ensures.value
     ∙ ap (bytes_eq (string_bytes s)) c.kind_name.ensures)) in
@@ -17,7 +17,7 @@ returns-then-eq c =
 pub returns-then-eq-2 : goal.returns-then-eq-2
 returns-then-eq-2 c =
     let s = c.in-String.name in
-    let t = view c.args.value.now in
+    let t = tree_of c.args.value.now in
     let named : false ≡ bytes_eq (string_bytes s) (kind_name (kind_of t))
     = sym c.if-eq.false ∙ (c.eq.ensures ∙ (ap (λ bs. bytes_eq bs c.kind_name.result.now) c.as_str.ensures.value
     ∙ ap (bytes_eq (string_bytes s)) c.kind_name.ensures)) in
@@ -28,7 +28,7 @@ returns-then-eq-2 c =
 pub returns-else-eq-2 : goal.returns-else-eq-2
 returns-else-eq-2 c =
     let s = c.in-String.name in
-    let t = view c.args.value.now in
+    let t = tree_of c.args.value.now in
     let named : false ≡ bytes_eq (string_bytes s) (kind_name (kind_of t))
     = sym c.if-eq.false ∙ (c.eq.ensures ∙ (ap (λ bs. bytes_eq bs c.kind_name.result.now) c.as_str.ensures.value
     ∙ ap (bytes_eq (string_bytes s)) c.kind_name.ensures)) in

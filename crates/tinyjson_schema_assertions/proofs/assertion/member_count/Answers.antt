@@ -1,9 +1,10 @@
-use Rattle.std.proofs.Common.{arith}
-use Rattle.tinyjson_schema_assertions.proofs.Operands.{members_counted}
+use Rattle.std.proofs.Common.{◌∙◌, Some, ap, sym}
+use Rattle.tinyjson_view.specs.Views.{tree_of}
+use Rattle.tinyjson_schema_assertions.proofs.Counted.{members_counted, no_members_counted}
 use Rattle.tinyjson_schema_assertions.proofs.assertion.member_count.Goals as goal
 
-pub returns-in_ok-sorted_members-in-Object : goal.returns-in_ok-sorted_members-in-Object
-returns-in_ok-sorted_members-in-Object c = members_counted c.args.value.now c.in-Object.members
-    c.in_ok-sorted_members-in-Object.field-0.items
-    c.len.result c.in-Object.is c.in_ok-sorted_members-in-Object.ensures
-    (omega (arith, c.len.ensures, c.in_ok-sorted_members-in-Object.field-0.ok))
+pub returns-in-Object : goal.returns-in-Object
+returns-in-Object c = ap Some c.len.ensures ∙ members_counted (tree_of c.args.value.now) (sym c.in-Object.is ∙ c.kind.ensures)
+
+pub returns-in_default : goal.returns-in_default
+returns-in_default c = no_members_counted (tree_of c.args.value.now) (λ e. c.in_default.not-Object (c.kind.ensures ∙ sym e))

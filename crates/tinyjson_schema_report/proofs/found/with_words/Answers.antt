@@ -1,5 +1,6 @@
 use Rattle.std.proofs.Common.{◌∙◌, ap}
 use Rattle.tinyjson.specs.View.{view}
+use Rattle.tinyjson_view.specs.Views.{tree_of}
 use Rattle.tinyjson_pointer.specs.Tokens.{tokens_of}
 use Rattle.tinyjson_schema_keywords.specs.declared.document.Whole.{Whole}
 use Rattle.tinyjson_schema_words.specs.Words.{words}
@@ -9,6 +10,6 @@ pub returns-in-Ok : goal.returns-in-Ok
 returns-in-Ok c =
     let v = c.args.violation in (
       c.requires,
-      c.in-Ok.ensures ∙ ap (λ (w : Whole). words (view w.root.now) (view c.args.value.now)
+      c.in-Ok.ensures ∙ ap (λ (w : Whole). words (view w.root.now) (tree_of c.args.value.now)
           (tokens_of v.keyword_location) (tokens_of v.instance_location)) c.whole.ensures,
     )

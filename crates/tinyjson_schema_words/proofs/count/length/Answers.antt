@@ -1,14 +1,14 @@
-use Rattle.std.proofs.Common.{◌∙◌, length, string_bytes, sym, ap}
-use Rattle.std.proofs.lemmas.Str.{Chars-Drains, encodes-chars, IsUtf8-string_bytes}
-use Rattle.tinyjson.specs.View.{text}
-use Rattle.tinyjson_schema_words.proofs.Telling.{characters_counted}
+use Rattle.std.proofs.Common.{◌∙◌, Some, ap}
+use Rattle.std.specs.Str.{chars}
+use Rattle.tinyjson_view.proofs.Callers.{string_is}
+use Rattle.tinyjson_view.specs.Views.{tree_of}
+use Rattle.tinyjson_schema_words.specs.Counts.{length_of}
+use Rattle.tinyjson_schema_words.proofs.Telling.{no_length}
 use Rattle.tinyjson_schema_words.proofs.count.length.Goals as goal
 
-pub returns-in-String : goal.returns-in-String
-returns-in-String c =
-    let s = c.in-String.text in
-    let ran = c.count.ensures.ran in
-    let rest = c.chars.ensures.rest ∙ c.as_str.ensures.value in
-    let whole = encodes-chars (string_bytes s) (IsUtf8-string_bytes s) ∙ sym rest in
-    characters_counted c.args.value.now s c.count.result c.in-String.is
-    (ran.2 ∙ ap length (Chars-Drains (text s) ran.0 c.chars.result whole ran.1))
+pub returns-in-Some : goal.returns-in-Some
+returns-in-Some c = ap Some c.character_count.ensures
+    ∙ ap length_of (string_is (tree_of c.args.value.now) (chars c.in-Some.text.now) c.in-Some.ensures)
+
+pub returns-in-None : goal.returns-in-None
+returns-in-None c = no_length (tree_of c.args.value.now) c.in-None.ensures

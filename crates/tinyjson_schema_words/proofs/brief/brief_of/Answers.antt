@@ -1,10 +1,10 @@
 use Rattle.std.proofs.Common.{◌≡◌, ◌∙◌, ap, subst, string_bytes}
 use Rattle.std.specs.Prelude.{IfOk}
 use Rattle.std.specs.Str.{chars}
-use Rattle.tinyjson.proofs.Callers.{chars_compact}
+use Rattle.tinyjson_schema_words.proofs.Viewing.{view_chars}
 use Rattle.tinyjson_schema_words.specs.Brief.{cut}
-use Rattle.tinyjson_schema_words.proofs.brief.brief.Goals as goal
+use Rattle.tinyjson_schema_words.proofs.brief.brief_of.Goals as goal
 
 pub returns : goal.returns
 returns c = subst (λ cs. IfOk c.cut.result (λ s. string_bytes s ≡ cut 60 cs))
-    (ap chars (c.as_str.ensures.value ∙ c.in_ok-text.ensures) ∙ chars_compact c.args.value.now) c.cut.ensures
+    (ap chars (c.as_str.ensures.value ∙ c.in_ok-text.ensures) ∙ view_chars c.args.value.now) c.cut.ensures

@@ -1,0 +1,4 @@
+pub mod Callers
+pub mod Filling
+pub mod Listed
+pub mod Shapes
