@@ -3,7 +3,7 @@ ghost use Rattle.std.specs.Prelude.{◌≡◌, IfOk, IsSome, Ok, Some};
 ghost use Rattle.std.specs.Str.{chars};
 ghost use Rattle.tinyjson.specs.Grammar.{IsText};
 ghost use Rattle.tinyjson.specs.Tree.{Tree};
-ghost use Rattle.tinyjson.specs.View.{view};
+ghost use Rattle.tinyjson_document.specs.Document.{tree};
 ghost use Rattle.tinyjson_pointer.specs.Tokens.{tokens_of};
 ghost use Rattle.tinyjson_pointer.specs.Walk.{part_at};
 ghost use Rattle.tinyjson_places.specs.Places.{Locates};
@@ -11,7 +11,8 @@ ghost use Rattle.json_schema.specs.Verdicts.{judged, ValueGives, TextGives, Line
 
 use std::alloc::{AllocError, Global};
 use std::str;
-use tinyjson::{JsonParseError, JsonValue};
+use tinyjson::JsonParseError;
+use tinyjson_document::{Document, Node};
 use tinyjson_lines::content;
 use tinyjson_places::{Place, place_of};
 use tinyjson_pointer::Pointer;
@@ -68,12 +69,8 @@ pub enum Cause {
 pub fn check_text(alloc: Global, judge: Judge<'_, '_>, text: &str) -> Result<Verdict, AllocError>
     ensures { IfOk result (TextGives (judged judge.entry) (chars text.now)) }
 {
-    match JsonValue::from_str_with_depth_limit(alloc, text, DEPTH_LIMIT) {
-        Ok(value) => {
-            let verdict = check_value(alloc, judge, &value, text);
-            value.dismantle();
-            verdict
-        }
+    match Document::read_with_depth_limit(alloc, text, DEPTH_LIMIT) {
+        Ok(document) => check_value(alloc, judge, document.root(), text),
         Err(error) => {
             if error.is_out_of_memory() {
                 return Err(AllocError);
@@ -87,11 +84,11 @@ pub fn check_text(alloc: Global, judge: Judge<'_, '_>, text: &str) -> Result<Ver
 fn check_value(
     alloc: Global,
     judge: Judge<'_, '_>,
-    value: &JsonValue,
+    value: Node<'_>,
     text: &str,
 ) -> Result<Verdict, AllocError>
-    requires { IsText depth_limit (chars text.now) (view value.now) }
-    ensures { IfOk result (ValueGives (chars text.now) (judged judge.entry) (view value.now)) }
+    requires { IsText depth_limit (chars text.now) (tree value) }
+    ensures { IfOk result (ValueGives (chars text.now) (judged judge.entry) (tree value.entry)) }
 {
     let checks = Checks {
         limits: limits_of(text.len()),
