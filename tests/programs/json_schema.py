@@ -3,6 +3,7 @@
 import itertools
 import json
 import os
+import pathlib
 import re
 import tempfile
 
@@ -1323,6 +1324,7 @@ REFUSED_MEMORY = [
     (["-i", SCHEMA], b'{"id":1,"tags":["x",3]}\n[1,]\n{"id":1,"tags":[]}\n'),
     ([DRAFT_FILE], b'{"x":[1,2],"y":3}'),
     (["-r", f"a={UNKNOWN_WORDS}", "-r", f"b={DRAFT_FILE}", SCHEMA], b'{"id":1,"tags":["x",3]}'),
+    (["--meta", "-d4", "-r", f"b={DRAFT_FILE}"], b'{"type":5}'),
 ]
 
 
@@ -1628,17 +1630,167 @@ REFUSED_DOCUMENTS = [
 ]
 
 
+# The meta-schemas of the drafts, which references lead into without `-r` (draft 4, 6 and 7: Core, section 6 or 7; 2019-09 and 2020-12: Core, 8.1),
+# in the form of DOCUMENTS. The places are those in the texts that json-schema.org publishes.
+DRAFT_04, DRAFT_06, DRAFT_07 = (f"http://json-schema.org/draft-0{number}/schema" for number in (4, 6, 7))
+DRAFT_2019_09, DRAFT_2020_12 = (f"https://json-schema.org/draft/{name}/schema" for name in ("2019-09", "2020-12"))
+VOCABULARIES_2019 = ["applicator", "content", "core", "format", "meta-data", "validation"]
+VOCABULARIES_2020 = ["applicator", "content", "core", "format-annotation", "format-assertion", "meta-data", "unevaluated", "validation"]
+VOCABULARIES = [f"https://json-schema.org/draft/{name}/meta/{vocabulary}" for name, all_of in (("2019-09", VOCABULARIES_2019), ("2020-12", VOCABULARIES_2020)) for vocabulary in all_of]
+
+
+def leading(uri, rest=""):
+    """The files with a schema that is a reference."""
+    return {"schema": '{"$ref":"%s"%s}' % (uri, rest)}
+
+
+META_SCHEMAS = [
+    # A keyword that a draft has, and others before or after it have not, or have in another form.
+    (leading(DRAFT_04 + "#"), [], ['{"exclusiveMinimum":true,"minimum":1}', '{"const":1,"if":5}'], [('{"exclusiveMinimum":1,"minimum":1}', "/exclusiveMinimum", "/$ref/properties/exclusiveMinimum/type"), ("true", "", "/$ref/type"), ('{"exclusiveMinimum":true}', "", "/$ref/dependentRequired")]),
+    (leading(DRAFT_06 + "#"), [], ['{"exclusiveMinimum":1}', '{"if":5}', "true"], [('{"contains":5}', "/contains", "/$ref/properties/contains/$ref/type"), ('{"minLength":-1}', "/minLength", "/$ref/properties/minLength/$ref/allOf/0/$ref/minimum")]),
+    (leading(DRAFT_07 + "#"), [], ['{"if":true}', '{"dependentRequired":5}'], [('{"if":5}', "/if", "/$ref/properties/if/$ref/type"), ('{"items":[{"type":"any"}]}', "/items", "/$ref/properties/items/anyOf")]),
+    (leading(DRAFT_2019_09), [], ['{"dependentRequired":{"a":["b"]}}', '{"prefixItems":5}'],
+     [('{"dependentRequired":5}', "/dependentRequired", "/$ref/allOf/2/$ref/properties/dependentRequired/type"), ('{"not":{"minItems":1.5}}', "/not/minItems", "/$ref/allOf/1/$ref/properties/not/$dynamicRef/allOf/2/$ref/properties/minItems/$ref/$ref/type")]),
+    (leading(DRAFT_2020_12), [], ['{"prefixItems":[{}]}', '{"$defs":{"a":{"items":true}}}'],
+     [('{"items":[]}', "/items", "/$ref/allOf/1/$ref/properties/items/$dynamicRef/type"), ('{"$defs":{"a":{"title":5}}}', "/$defs/a/title", "/$ref/allOf/0/$ref/properties/$defs/additionalProperties/$dynamicRef/allOf/4/$ref/properties/title/type")]),
+    # The document of each vocabulary: `$dynamicAnchor` or `$recursiveAnchor` leads to it alone, unless the whole meta-schema was entered first.
+    *((leading(uri), [], ["{}", "false"], [("5", "", "/$ref/type")]) for uri in VOCABULARIES),
+    (leading(VOCABULARIES[0]), [], ['{"not":{"title":5}}'], [('{"not":5}', "/not", "/$ref/properties/not/$dynamicRef/type")]),
+    # A pointer and a name into one; a reference of a schema of another draft, with what is beside it; several drafts; data.
+    (leading(DRAFT_07 + "#/definitions/nonNegativeInteger"), [], ["1"], [("-1", "", "/$ref/minimum")]),
+    (leading(DRAFT_2020_12 + "#meta"), [], ["{}"], [('{"not":5}', "/not", "/$ref/allOf/1/$ref/properties/not/$dynamicRef/type")]),
+    ({"schema": '{"$dynamicRef":"%s#meta"}' % DRAFT_2020_12}, [], ["{}"], [("5", "", "/$dynamicRef/type")]),
+    ({"schema": '{"$schema":"%s","items":{"$ref":"%s#","type":"null"}}' % (DRAFT_04, DRAFT_04)}, [], ["[{}]"], [("[1]", "/0", "/items/$ref/type")]),
+    ({"schema": '{"prefixItems":[{"$ref":"%s"},{"$ref":"%s#"},{"$ref":"%s"}]}' % (DRAFT_2020_12, DRAFT_06, VOCABULARIES[0])}, [], ["[true,true,true]"], [("[true,true,1]", "/2", "/prefixItems/2/$ref/type"), ("[true,1]", "/1", "/prefixItems/1/$ref/type")]),
+    ({"schema": '{"const":{"$ref":"%s"}}' % DRAFT_07}, [], ['{"$ref":"%s"}' % DRAFT_07], [("{}", "", "/const")]),
+    # A document by `-r`, or a resource of the schema, counts in the place of the one with its URI; the others stay.
+    ({**leading(DRAFT_07), "a": '{"type":"null"}'}, ["-r", DRAFT_07 + "=a"], ["null"], [("{}", "", "/$ref/type")]),
+    ({**leading(DRAFT_07), "a": '{"$id":"%s","type":"null"}' % DRAFT_07}, ["-r", "a"], ["null"], [("{}", "", "/$ref/type")]),
+    (leading(DRAFT_07 + "#", ',"$defs":{"a":{"$id":"%s","type":"null"}}' % DRAFT_07), [], ["null"], [("{}", "", "/$ref/type")]),
+    ({**leading(DRAFT_2020_12), "a": '{"$dynamicAnchor":"meta","required":["a"]}'}, ["-r", "https://json-schema.org/draft/2020-12/meta/content=a"], ['{"a":1}'], [("{}", "", "/$ref/allOf/6/$ref/required"), ('{"a":1,"type":5}', "/type", "/$ref/allOf/3/$ref/properties/type/anyOf")]),
+    # A document that refers to one.
+    ({**leading("a"), "a": '{"items":{"$ref":"%s#"}}' % DRAFT_07}, ["-r", "a"], ["[{}]"], [("[1]", "/0", "/$ref/items/$ref/type")]),
+]
+REFUSED_META_SCHEMAS = [
+    # What is no URI of one, and what is not in one.
+    *((leading(uri), [], NOT_APPLIED % "/$ref") for uri in ("http://json-schema.org/draft-03/schema#", "https://json-schema.org/draft-07/schema#", "http://json-schema.org/draft-07/schema/", "http://json-schema.org/draft-07/", DRAFT_07 + "#/definitions/none", DRAFT_2020_12 + "#none")),
+    # Another schema of that name.
+    (leading(DRAFT_07, ',"$defs":{"%s":{"type":"null"}}' % DRAFT_07), [], NOT_APPLIED % "/$ref"),
+]
+
+# By `--meta`: the files, the arguments, and the answer. Places in the schema have `/$ref` before them.
+META_TEXT = b'{"$schema":"%s#",\n "properties": {"a": {"type": "any"}}}' % DRAFT_07.encode()
+META_ANY = unit_of("/properties/a/type", "/$ref/properties/properties/additionalProperties/$ref/properties/type/anyOf", line=2, column=31)
+OWN_META = '{"$dynamicAnchor":"meta","$ref":"%s","required":["title"]}' % DRAFT_2020_12
+
+
+def named(uri, rest):
+    """A schema that names its draft."""
+    return '{"$schema":"%s",%s}' % (uri, rest)
+
+
+def of_meta(place, keyword):
+    return lambda text: located(text.encode(), judged((place, "/$ref" + keyword)))
+
+
+def is_schema(text):
+    return 0, b"", b""
+
+
+META = [
+    # By its `$schema`, in the spellings that name a draft; `-d` counts where there is none.
+    *((named(uri + end, '"exclusiveMinimum":true,"minimum":1'), ["-d7"], is_schema) for uri in (DRAFT_04, DRAFT_04.replace("http", "https")) for end in ("", "#")),
+    *((named(uri, '"exclusiveMinimum":true'), ["-d4"], of_meta("/exclusiveMinimum", "/properties/exclusiveMinimum/type")) for uri in (DRAFT_06, DRAFT_07)),
+    (named(DRAFT_06, '"if":5'), [], is_schema), (named(DRAFT_07, '"if":5'), [], of_meta("/if", "/properties/if/$ref/type")),
+    (named(DRAFT_07 + "#", '"dependentRequired":5'), [], is_schema), (named(DRAFT_2019_09, '"dependentRequired":5'), [], of_meta("/dependentRequired", "/allOf/2/$ref/properties/dependentRequired/type")),
+    (named(DRAFT_2019_09, '"prefixItems":5'), [], is_schema), (named(DRAFT_2020_12, '"prefixItems":5'), ["-d4"], of_meta("/prefixItems", "/allOf/1/$ref/properties/prefixItems/$ref/type")),
+    ('{"prefixItems":5}', [], of_meta("/prefixItems", "/allOf/1/$ref/properties/prefixItems/$ref/type")), ('{"prefixItems":5}', ["-d2019"], is_schema), ('{"prefixItems":5}', ["--draft=7"], is_schema),
+    ("true", [], is_schema), ("true", ["-d6"], is_schema), ("true", ["-d4"], of_meta("", "/type")), ("5", ["-d7"], of_meta("", "/type")), ('{"$schema":5}', ["-d7"], of_meta("/$schema", "/properties/$schema/type")),
+    # What the meta-schema does not ask: where references lead, and what patterns are.
+    ('{"$ref":"none","pattern":"(?=a)","maximun":1,"format":"none","$defs":{"a":{"$id":"#"}}}', ["-d7"], is_schema),
+    # 2020-12: `$id` has no fragment; with `-f` it is a reference, too.
+    ('{"$id":"a#b"}', [], of_meta("/$id", "/allOf/0/$ref/properties/$id/pattern")), ('{"$id":" "}', [], is_schema), ('{"$id":" "}', ["-f"], of_meta("/$id", "/allOf/0/$ref/properties/$id/$ref/format")),
+    # Another one is not known, unless it is a document.
+    ('{"$schema":"http://a/\\u001b"}', [], lambda text: reported(3, "json_schema", '"http://a/U+001B" is an unknown $schema')),
+]
+META_FILES = [
+    # Each of some files, also by a draft of its own, in their order.
+    ({"a": META_TEXT, "b": '{"exclusiveMaximum":true}', "c": "{}"}, ["a", "b", "c"], "", (1, META_ANY + unit_of("/exclusiveMaximum", "/$ref/allOf/3/$ref/properties/exclusiveMaximum/type", line=1, column=21), b"")),
+    ({"a": META_TEXT}, ["-t", "a", "-"], META_TEXT, (1, b"".join(b"%s2%s31: /properties/a/type must be accepted by a schema of the list\n" % at for at in ((b"a:", b":"), (b"line ", b", col "))), b"")),
+    ({}, [], META_TEXT, (1, META_ANY, b"")),
+    ({"a": "{", "b": '{"$schema":"b"}', "c": "5"}, ["a", "b", "c"], "", (3, unit_of("", "/$ref/type", line=1, column=1), b'a:1:1: Unexpected EOF\nb: "b" is an unknown $schema\n')),
+    ({"a": "{}"}, ["none", "a"], "", (4, b"", b"none: No such file or directory (os error 2)\n")),
+    # One of a document by `-r`, by its URI, or by its name as seen from here; also in the place of a draft's.
+    ({"m": OWN_META, "a": '{"$schema":"http://a/m","title":"a","not":{"title":"b"}}', "b": '{"$schema":"http://a/m","title":"a","not":{}}'}, ["-r", "http://a/m=m", "a", "b"], "",
+     (1, unit_of("/not", "/$ref/$ref/allOf/1/$ref/properties/not/$dynamicRef/required", line=1, column=43), b"")),
+    ({"d/m": '{"required":["a"]}', "a": '{"$schema":"d/m"}'}, ["-r", "d/m", "a"], "", (1, unit_of("", "/$ref/required", line=1, column=1), b"")),
+    ({"m": '{"type":"null"}'}, ["-r", DRAFT_2020_12 + "=m"], "{}", (1, unit_of("", "/$ref/type", line=1, column=1), b"")),
+    ({"m": '{"type":"any"}', "a": "{}"}, ["-r", "m", "a", "a"], "", reported(2, "json_schema", NOT_APPLIED % "/$defs/m/type")),
+    # Lines are not checked so.
+    *(({}, [words], "{}", reported(2, "json_schema", "--meta checks no lines")) for words in ("-l", "-v", "-i")),
+    ({}, ["-d5"], "{}", reported(2, "json_schema", "no draft 5: the drafts are 4, 6, 7, 2019 and 2020")),
+    # Schemas nested in a schema: each of them takes five that are applied.
+    ({}, [], '{"properties":{"a":' * 39 + "{}" + "}}" * 39, (0, b"", b"")),
+    ({}, [], '{"properties":{"a":' * 40 + "{}" + "}}" * 40, reported(3, "json_schema", "schemas are nested too deep")),
+]
+
+
+def by_meta(folder, files, words, given):
+    """The answer of `--meta` with these files, without the words of reports and of what can't be applied."""
+    with tempfile.TemporaryDirectory(dir=folder) as inner:
+        put_files(inner, files)
+        status, output, errors = run_small(program("json_schema"), ["--meta", *words], given, cwd=inner)
+    return status, output if "-t" in words else ERROR.sub(b'"error":"%s"' % UNMET.encode(), output), REASON.sub(rb"\1\n", errors)
+
+
+def check_meta(checks):
+    """References into meta-schemas, and schemas that are checked by theirs."""
+    for at in META_SCHEMAS:
+        files, words, valid, others = at
+        for value, expected in [*((value, judged(None)) for value in valid), *((value, judged(places)) for value, *places in others)]:
+            checks.row(f"json_schema: meta-schemas {words} {files['schema'][:60]} {value[:60]}", located(value.encode(), expected), with_files, checks.folder, files, words, value.encode(), at=at)
+    for at in REFUSED_META_SCHEMAS:
+        files, words, message = at
+        checks.row(f"json_schema: meta-schemas {words} {files['schema'][:60]}", reported(2, "json_schema", message), with_files, checks.folder, files, words, b"1", at=at)
+    for at in META:
+        text, words, expected = at
+        checks.row(f"json_schema: --meta {words} {text[:60]}", expected(text), by_meta, checks.folder, {}, words, text.encode(), at=at)
+    for at in META_FILES:
+        files, words, given, expected = at
+        checks.row(f"json_schema: --meta {words} {list(files)} {given[:60]}", expected, by_meta, checks.folder, files, words, given if isinstance(given, bytes) else given.encode(), at=at)
+    page = pathlib.Path(TOP, "crates/tinyjson_schema_meta/README.md").read_text().splitlines()
+    lines = [line[4:] for line in page if line.startswith("    ") and "let " not in line]
+    commands, shown = ([line for line in lines if line.startswith("$ ") == is_command] for is_command in (True, False))
+    checks.row("json_schema: the page of tinyjson_schema_meta, --meta", "".join(f"{line}\n" for line in shown), PAGE.shell, "\n".join(line[2:] for line in commands))
+    check_meta_texts(checks)
+
+
+def check_meta_texts(checks):
+    """Each text has the URI that it is found at, and is valid by its own meta-schema."""
+    for path in sorted(pathlib.Path(TOP, "crates/tinyjson_schema_meta/src").glob("draft_*.rt")):
+        source = path.read_text()
+        texts = dict(re.findall(r'^const (\w+): &str = r##"(.*?)"##;$', source, re.M | re.S))
+        for uri, name in re.findall(r'uri: "(.*)",\n *text: (\w+),', source):
+            schema = json.loads(texts[name])
+            checks.row(f"json_schema: the text at {uri}", uri, lambda: schema.get("$id", schema.get("id")).rstrip("#"))
+            checks.row(f"json_schema: --meta of {uri}", (0, b"", b""), by_meta, checks.folder, {}, [], texts[name].encode())
+
+
+def put_files(folder, files):
+    for name, text in files.items():
+        path = os.path.join(folder, name)
+        os.makedirs(os.path.dirname(path), exist_ok=True)
+        if isinstance(text, Link):
+            os.symlink(text, path)
+            continue
+        with open(path, "wb") as file:
+            file.write(text.encode() if isinstance(text, str) else text)
+
+
 def with_files(folder, files, words, given):
     """The answer with these files, of which the first one is the schema, without the words of reports and of what can't be applied."""
     with tempfile.TemporaryDirectory(dir=folder) as inner:
-        for name, text in files.items():
-            path = os.path.join(inner, name)
-            os.makedirs(os.path.dirname(path), exist_ok=True)
-            if isinstance(text, Link):
-                os.symlink(text, path)
-                continue
-            with open(path, "wb") as file:
-                file.write(text.encode() if isinstance(text, str) else text)
+        put_files(inner, files)
         status, output, errors = run_small(program("json_schema"), [*words, next(iter(files))], given, cwd=inner)
     return status, ERROR.sub(b'"error":"%s"' % UNMET.encode(), output), REASON.sub(rb"\1\n", errors)
 
@@ -1726,4 +1878,4 @@ def check_memory(checks):
 
 PAGE, LINES_PAGE = Page("json_schema", [SCHEMA], b"[1]"), Page("json_schema", ["-l", SCHEMA], b"[1]", is_lines=True)
 
-PARTS = (PAGE.check, LINES_PAGE.check_pipes, *shared(check_rows), check_words, check_places, check_reasons, check_drafts, check_formats, check_lines, check_long_lines, check_files, check_texts, check_documents, check_padded, check_padded_lines, check_deep, check_order, check_faults, *shared(check_memory))
+PARTS = (PAGE.check, LINES_PAGE.check_pipes, *shared(check_rows), check_words, check_places, check_reasons, check_drafts, check_formats, check_lines, check_long_lines, check_files, check_texts, check_documents, check_meta, check_padded, check_padded_lines, check_deep, check_order, check_faults, *shared(check_memory))

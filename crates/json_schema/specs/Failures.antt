@@ -34,6 +34,7 @@ schema_message (is.Refused place words) =
 schema_message (is.Document file e) = document_message file.now e
 schema_message (is.Twice u) = codes "two documents have the URI \"" ++ (shown (chars u.now) ++ codes "\"")
 schema_message (is.NoDraft n) = codes "no draft " ++ (decimal n ++ codes ": the drafts are 4, 6, 7, 2019 and 2020")
+schema_message is.MetaLines = codes "--meta checks no lines"
 
 -- a failure with this status and this message
 abbrev pub Is : Status → List ℕ → Failure → Type 0

@@ -1,5 +1,5 @@
 -- The program's arguments.
-use Rattle.std.specs.Prelude.{ℕ, Bool, true, false, ◌||◌, List, Option, None, option_map, cond}
+use Rattle.std.specs.Prelude.{ℕ, Bool, true, false, ◌||◌, List, Option, None, Some, option_map, cond}
 use Rattle.tinyjson_cli.specs.Arguments.{Given, first_operand, is_given, last_number}
 use Rattle.json_schema.specs.declared.lines.Shows.{Shows}
 use Rattle.json_schema.specs.declared.lines.Shows.TheVariants.{Reports, Texts, ValidLines, OtherLines}
@@ -14,10 +14,15 @@ are_lines ValidLines = true
 are_lines OtherLines = true
 are_lines _ = false
 
+-- The name of the schema's file, or none by `-M`: then the inputs are schemas. And the other files.
+abbrev pub asked_files : Given → Option (Option (List ℕ) × List (List ℕ))
+asked_files a = cond (is_given 77 a) (Some (None, a.operands)) (option_map (λ o. (Some o.0, o.1)) (first_operand a.operands))
+
 -- Whether each line is a text, by `-l` or since lines are written, and whether `format` is an assertion. What is
 -- written; the numbers behind `-m` and `-d`; the texts
 -- behind `-r`, with its letter; the name of the schema's file, and the other files
-abbrev pub asks : Given → Option ((((Bool × Bool) × Shows) × ((Option ℕ × Option ℕ) × List (ℕ × List ℕ))) × (List ℕ × List (List ℕ)))
+abbrev pub asks : Given
+    → Option ((((Bool × Bool) × Shows) × ((Option ℕ × Option ℕ) × List (ℕ × List ℕ))) × (Option (List ℕ) × List (List ℕ)))
 asks a = option_map
     (λ o. (
       (
@@ -26,4 +31,4 @@ asks a = option_map
       ),
       o,
     ))
-    (first_operand a.operands)
+    (asked_files a)

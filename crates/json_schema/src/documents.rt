@@ -141,7 +141,7 @@ fn with_file(
 }
 
 /// The schema with the document that was found at the URI.
-fn with_tree(
+pub fn with_tree(
     alloc: Global,
     whole: Whole,
     uri: &str,

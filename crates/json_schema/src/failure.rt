@@ -30,6 +30,8 @@ pub enum SchemaFailure<'a> {
     Twice(&'a str),
     /// There is no draft of this number.
     NoDraft(usize),
+    /// Lines are asked for, and schemas are checked.
+    MetaLines,
 }
 
 /// The message that the program writes after its name.
@@ -57,6 +59,7 @@ impl fmt::Display for SchemaFailure<'_> {
                     "no draft {number}: the drafts are 4, 6, 7, 2019 and 2020"
                 )
             }
+            SchemaFailure::MetaLines => f.write_str("--meta checks no lines"),
         }
     }
 }

@@ -3,12 +3,13 @@
 
 ghost use Rattle.std.specs.Prelude.{◌≡◌, option_map, map};
 ghost use Rattle.tinyjson_cli.specs.Arguments.{given_of, text_of};
-ghost use Rattle.json_schema.specs.Options.{asks, asked_shows, are_lines};
+ghost use Rattle.json_schema.specs.Options.{asked_files, asked_shows, are_lines, asks};
 
 mod documents;
 mod failure;
 mod folder;
 mod lines;
+mod meta;
 mod names;
 mod refusal;
 mod report;
@@ -18,6 +19,7 @@ mod verdict;
 use documents::{Whole, with_documents};
 use failure::{SchemaFailure, refused_failure, schema_failure, schema_text_failure, text_failure};
 use lines::{Check, Shows, check_lines};
+use meta::{MetaSchemas, with_meta_schemas};
 use report::{write_report, write_text};
 use std::alloc::Global;
 use std::cell::Cell;
@@ -30,7 +32,6 @@ use tinyjson_cli::{
     report, writing_error,
 };
 use tinyjson_schema::{Schema, SchemaError, unknown_formats, unknown_words};
-use tinyjson_schema_bundle::bundled;
 use tinyjson_schema_drafts::{Dialect, Draft, dialect_of, read_as, unknown_dialect};
 use tinyjson_schema_words::Refusal;
 use unknown::{tell_dialect, tell_formats, tell_words};
@@ -55,6 +56,13 @@ const REF: Known<'static> = Known {
     letter: b'r',
     name: "ref",
     takes: Some(Taken::Text),
+};
+
+/// `-M` and `--meta`.
+const META: Known<'static> = Known {
+    letter: b'M',
+    name: "meta",
+    takes: None,
 };
 
 /// `-f` and `--assert-format`.
@@ -88,10 +96,11 @@ const INVALID: Known<'static> = Known {
 const PROGRAM: Program<'static> = Program {
     name: "json_schema",
     options: &[
-        LINES, TEXT, VALID, INVALID, MAX_LINE, DRAFT, REF, FORMAT, HELP, VERSION,
+        LINES, TEXT, VALID, INVALID, MAX_LINE, DRAFT, REF, META, FORMAT, HELP, VERSION,
     ],
     help: "\
 Usage: json_schema [-lf] [-t | -v | -i] [-m N] [-d N] [-r FILE].. SCHEMA [FILE..]
+       json_schema --meta [-ft] [-d N] [-r FILE].. [FILE..]
 
 Checks JSON texts against a JSON Schema of draft 4, 6, 7, 2019-09 or 2020-12.
 SCHEMA is the name of the schema's file. Of a value that is not valid one line
@@ -113,7 +122,10 @@ Options:
   -d, --draft N     read a schema that names no draft in draft N
   -r, --ref FILE    let references lead into this schema, too: by its $id or its
                     name as seen from SCHEMA, or by a URI: -r URI=FILE; or into
-                    each *.json file below a folder: -r FOLDER
+                    each *.json file below a folder: -r FOLDER. The meta-schemas
+                    of the drafts are known
+  -M, --meta        check schemas, each by the meta-schema that its $schema
+                    names, or else by that of --draft: not line by line
   -f, --assert-format  assert \"format\" of strings: date, time, date-time,
                     duration, email, hostname, ipv4, ipv6, uri, uri-reference,
                     uri-template, uuid, json-pointer, relative-json-pointer;
@@ -125,7 +137,8 @@ Exit status:
   0  each value is valid
   1  a value is not valid; with -l also: a line can't be checked
   2  the arguments are not understood, or SCHEMA can't be read or applied
-  3  without -l: an input is no JSON text, not UTF-8, or nested too deep
+  3  without -l: an input is no JSON text, not UTF-8, or nested too deep; or
+     with --meta: its $schema is not known
   4  memory ran out, or a read or a write failed
 
 Examples:
@@ -137,6 +150,8 @@ Examples:
   line 1, col 5: /1 must be an integer, is a string
   $ printf '[1]\\n[\"a\"]\\n' | json_schema --valid schema.json
   [1]
+  $ echo '{\"minLength\": \"a\"}' | json_schema --meta -t
+  line 1, col 15: /minLength must be an integer, is a string
 ",
 };
 
@@ -172,8 +187,8 @@ struct Request<'w, 'a> {
     draft: Option<usize>,
     /// The further documents that references lead into.
     documents: &'a [Text<'w>],
-    /// The name of the schema's file.
-    schema: &'w str,
+    /// The name of the schema's file; without one the inputs are schemas.
+    schema: Option<&'w str>,
     /// The files that are checked.
     files: &'a [&'w str],
 }
@@ -182,7 +197,7 @@ struct Request<'w, 'a> {
 fn requested<'w, 'a>(arguments: &'a Arguments<'w>) -> Option<Request<'w, 'a>>
     ensures { option_map (λ r. (
       (((r.by_lines, r.formats), r.shows), ((r.max_line, r.draft), map text_of r.documents.now)),
-      (r.schema.now, map (λ f. f.now) r.files.now),
+      (option_map (λ f. f.now) r.schema, map (λ f. f.now) r.files.now),
     )) result ≡ asks (given_of arguments.now) }
 {
     let shows = requested_shows(arguments);
@@ -190,7 +205,7 @@ fn requested<'w, 'a>(arguments: &'a Arguments<'w>) -> Option<Request<'w, 'a>>
     let formats = arguments.has(b'f');
     let max_line = arguments.number(b'm');
     let draft = arguments.number(b'd');
-    let (schema, files) = arguments.first()?;
+    let (schema, files) = requested_files(arguments)?;
     Some(Request {
         by_lines,
         formats,
@@ -201,6 +216,18 @@ fn requested<'w, 'a>(arguments: &'a Arguments<'w>) -> Option<Request<'w, 'a>>
         schema,
         files,
     })
+}
+
+/// The name of the schema's file, if the inputs are no schemas, and those of the inputs.
+fn requested_files<'w, 'a>(arguments: &'a Arguments<'w>) -> Option<(Option<&'w str>, &'a [&'w str])>
+    ensures { option_map (λ r. (option_map (λ f. f.now) r.0, map (λ f. f.now) r.1.now)) result
+        ≡ asked_files (given_of arguments.now) }
+{
+    if arguments.has(b'M') {
+        return Some((None, arguments.operands.as_slice()));
+    }
+    let (schema, files) = arguments.first()?;
+    Some((Some(schema), files))
 }
 
 /// What is written: by `-v`, else `-i`, else `-t`.
@@ -228,22 +255,46 @@ fn are_lines(shows: Shows) -> bool
 /// Reads the schema, and checks the inputs.
 fn check_inputs(rt: &HostRuntime, request: &Request<'_, '_>) -> Result<Status, Failure> {
     let default = asked_draft(rt.alloc(), request.draft)?;
-    let tree = schema_tree(rt, request.schema)?;
+    match request.schema {
+        Some(schema) => check_values(rt, request, schema, default),
+        None => check_schemas(rt, request, default),
+    }
+}
+
+/// Checks each input, a schema, by its meta-schema.
+fn check_schemas(
+    rt: &HostRuntime,
+    request: &Request<'_, '_>,
+    default: Draft,
+) -> Result<Status, Failure> {
+    if request.by_lines {
+        return Err(schema_failure(rt.alloc(), &SchemaFailure::MetaLines));
+    }
+    let checks = MetaSchemas::new(rt, default, request.formats, request.documents)?;
+    Ok(by_texts(rt, request.files, request.shows, By::MetaSchemas(&checks)))
+}
+
+/// Reads the schema in a file, and checks the inputs.
+fn check_values(
+    rt: &HostRuntime,
+    request: &Request<'_, '_>,
+    schema: &str,
+    default: Draft,
+) -> Result<Status, Failure> {
+    let tree = schema_tree(rt, schema)?;
     tell_unknown(rt, &tree)?;
     let draft = draft_of(&tree, default);
     let whole = Whole {
         tree: read_as(tree, default, rt.alloc())?,
         is_older: is_older(draft),
     };
-    let Whole { tree, is_older } = match request.documents {
+    let whole = match request.documents {
         [] => whole,
-        documents => with_documents(rt, whole, request.schema, draft, documents)?,
+        documents => with_documents(rt, whole, schema, draft, documents)?,
     };
-    let schema = bundled(&tree, rt.alloc());
+    let Whole { tree, is_older } = with_meta_schemas(rt.alloc(), whole)?;
+    let checked = check_by(rt, &tree, is_older, request);
     tree.dismantle();
-    let schema = schema?;
-    let checked = check_by(rt, &schema, is_older, request);
-    schema.dismantle();
     checked
 }
 
@@ -311,7 +362,7 @@ fn check_by(
     if request.by_lines {
         return Ok(by_lines(rt, request.files, &mut asked));
     }
-    Ok(by_texts(rt, request.files, &asked))
+    Ok(by_texts(rt, request.files, request.shows, By::Schema(judge)))
 }
 
 /// Tells of the formats of the schema that are not known.
@@ -331,13 +382,13 @@ fn by_lines(rt: &HostRuntime, files: &[&str], asked: &mut Asked<'_, '_>) -> Stat
 /// Checks the text of each file, whose name is in what is written of it. After a failure that is not about one file
 /// alone no other is checked.
 #[inline(never)]
-fn by_texts(rt: &HostRuntime, files: &[&str], asked: &Asked<'_, '_>) -> Status {
+fn by_texts(rt: &HostRuntime, files: &[&str], shows: Shows, by: By<'_, '_>) -> Status {
     let inputs = if files.is_empty() { &["-"] } else { files };
     let mut status = Status::Done;
     for name in inputs {
         let text = AskedText {
-            judge: asked.judge,
-            shows: asked.shows,
+            by,
+            shows,
             file: if *name == "-" { None } else { Some(*name) },
             is_read: Cell::new(false),
         };
@@ -386,10 +437,19 @@ struct Asked<'a, 's> {
     shows: Shows,
 }
 
-/// The schema that the text of a file is checked against.
+/// What a text is checked by.
+#[derive(Clone, Copy)]
+enum By<'a, 's> {
+    /// This schema.
+    Schema(Judge<'a, 's>),
+    /// The meta-schema that it names.
+    MetaSchemas(&'a MetaSchemas),
+}
+
+/// What the text of a file is checked by.
 #[derive(Drop)]
 struct AskedText<'a, 's, 'f> {
-    judge: Judge<'a, 's>,
+    by: By<'a, 's>,
     shows: Shows,
     /// The name of the file, if it has one.
     file: Option<&'f str>,
@@ -405,7 +465,11 @@ impl Answer for AskedText<'_, '_, '_> {
         output: &mut W,
     ) -> Result<Status, Failure> {
         self.is_read.set(true);
-        let located = match check_text(alloc, self.judge, text)? {
+        let verdict = match self.by {
+            By::Schema(judge) => check_text(alloc, judge, text)?,
+            By::MetaSchemas(checks) => checks.check(alloc, text)?,
+        };
+        let located = match verdict {
             Verdict::Valid => return Ok(Status::Done),
             Verdict::Refused(cause) => return Err(text_failure(alloc, cause)),
             Verdict::Invalid(located) => located,
