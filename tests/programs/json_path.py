@@ -444,6 +444,7 @@ STEPS = (None, -3, -2, -1, 1, 2, 3)
 MANY = 20_000
 UNION = 10_000
 UNDER = b"[" * 100_000 + b"0,7" + b"]" * 100_000
+ITEMS = b"[" + b"1.0," * 99_999 + b'{"x":2}]'
 
 
 # Where a 65th expression would begin in the others.
@@ -502,6 +503,19 @@ LONG_PATHS = [
     (["$..[?@.a]"], b"[" * 100_000 + b'{"a":1}' + b"]" * 100_000, printed(b'{"a":1}')),
     (["$..[?@..b]"], b"[" * 100 + b"]" * 100, NO_NODE),
     (["$[?@..b]"], NESTED, NO_NODE),
+    # What a query from the root selects is found once, not for each of the nodes: one query, and several in turn.
+    *(
+        (["$[?%s && @.x]" % test], ITEMS, printed(b'{"x":2}'))
+        for test in (
+            "count($..*) == 100001",
+            "$..x",
+            "!$..y",
+            "value($..x) == 2",
+            "length(value($..['x'])) != 0",
+            "$..x && !$..y && count($..[0,0]) == 2 && count($..[:2]) == 2 && count($..[-1]) == 1",
+            "@[?$..x] || $..x",
+        )
+    ),
     # Regular expressions in the query and in the value, at the limits of both and above.
     *(
         row

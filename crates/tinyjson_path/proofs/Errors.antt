@@ -1,14 +1,15 @@
 -- What an error of a part of a query says of the whole.
-use Rattle.std.proofs.Common.{◌≡◌, ℕ, ◌<◌, ◌==◌, false, not, List, [], ◌∷◌, ◌++◌, map, length, get_or, refl, sym, ap}
+use Rattle.std.proofs.Common.{◌≡◌, ℕ, ◌<◌, List, [], ◌∷◌, ◌++◌, map, length, get_or, refl, sym, ap}
 use Rattle.std.proofs.Common.{◌∙◌, subst}
-use Rattle.std.proofs.Common.{rules, Result, Option, suc, arith}
-use Rattle.std.proofs.lemmas.Bool.Decides.{nat_tests}
-use Rattle.std.specs.Prelude.{IsErrAnd, IfErr}
+use Rattle.std.proofs.Common.{rules, Result, Ok, Err, Option}
+use Rattle.std.specs.Prelude.{IsErrAnd, IfErr, IfOk}
 use Rattle.tinyjson.specs.Tree.{Tree}
+use Rattle.tinyjson_path.specs.Answers.{answer_of, found_view}
 use Rattle.tinyjson_path.specs.Comparing.{origin_tree}
 use Rattle.tinyjson_path.specs.Nodes.{Part, part_view, parts_view, tree_of}
-use Rattle.tinyjson_path.specs.Queries.{found_by, filter_parts, is_some_part, comparable_value}
+use Rattle.tinyjson_path.specs.Queries.{found_by, filter_parts, comparable_value}
 use Rattle.tinyjson_path.specs.Strings.{Texts, joined, strings_in, strings_at, strings_of, comparable_strings, IsFrom, IsFromAny}
+use Rattle.tinyjson_path.specs.declared.answers.Found.{Found}
 use Rattle.tinyjson_path.specs.declared.node.Node.{Node}
 use Rattle.tinyjson_path.specs.declared.value.NodeValue.{NodeValue}
 use Rattle.tinyjson_path.specs.declared.patterns.FindError.{FindError}
@@ -124,18 +125,16 @@ pub error_at : (part below : Texts) (d : FindError) {r s : NodeValue} → r ≡ 
     → IsFromAny part (tree_of s) below d
 error_at part below d e k = subst (λ x. IsFromAny part (tree_of x) below d) e k
 
--- ---- a test
-
-some_are : (ns : List Node) → not (length ns == 0) ≡ is_some_part (parts_view ns)
-some_are [] = refl
-some_are (n ∷ ns) = let none : (suc (length ns) == 0) ≡ false = grind (arith, nat_tests) in ap not none
-
-pub test_holds : (q : FilterQuery) (root here : Tree) (ns : List Node) → parts_view ns ≡ filter_parts q root here
-    → not (length ns == 0) ≡ is_some_part (filter_parts q root here)
-test_holds q root here ns p = some_are ns ∙ ap is_some_part p
-
 -- ---- a query in a filter
 
 pub finds_by : (q : FilterQuery) (root here start : Tree) → start ≡ origin_tree q.origin root here
     → found_by q.segments.items root start ≡ filter_parts q root here
 finds_by q root here start s = ap (found_by q.segments.items root) s ∙ search (rules, the_lemmas)
+
+-- ---- what filters ask of what it selects
+
+pub answered : (q : FilterQuery) (root here start : Tree) (r : Result Found FindError) → start ≡ origin_tree q.origin root here
+    → IfOk r (λ f. found_view f ≡ answer_of (found_by q.segments.items root start))
+    → IfOk r (λ f. found_view f ≡ answer_of (filter_parts q root here))
+answered q root here start (Ok f) s h = h ∙ ap answer_of (finds_by q root here start s)
+answered q root here start (Err e) s h = tt

@@ -8,5 +8,6 @@ pub mod Selected
 pub mod Stated
 pub mod Wanting
 pub mod Waits
+pub mod Sameness
 pub mod Errors
 pub mod Callers

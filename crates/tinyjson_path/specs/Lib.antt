@@ -19,5 +19,6 @@ pub use Rattle.tinyjson_path_query.specs.declared.error.ParseError
 pub use Rattle.tinyjson_path_query.specs.declared.error.ParseErrorKind
 pub use Rattle.tinyjson_path_query.specs.declared.query.Query
 -- for private contracts
+pub mod Answers
 pub mod Seen
 pub mod Waiting

@@ -7,11 +7,13 @@
 //! ```
 #![tactic(auto)]
 
+mod answers;
 mod children;
 mod node;
 mod operand;
 mod path;
 mod patterns;
+mod same;
 mod select;
 mod slice;
 mod value;

@@ -4,7 +4,7 @@ ghost use Rattle.std.specs.Str.{chars};
 ghost use Rattle.tinyjson_document.specs.Numbers.{decimal_of};
 ghost use Rattle.tinyjson_path.specs.Comparing.{compares, is_same, is_below, is_tree_less, literal_tree};
 ghost use Rattle.tinyjson_path.specs.Comparing.{one_at, one_tree, origin_tree};
-ghost use Rattle.tinyjson_path.specs.Comparing.{length_of, count_of, value_of, size_of, whole};
+ghost use Rattle.tinyjson_path.specs.Comparing.{length_of, value_of, size_of, whole};
 ghost use Rattle.tinyjson_path.specs.Nodes.{parts_view, tree_of};
 ghost use Rattle.tinyjson_path.specs.declared.patterns.FindError.{FindError};
 ghost use Rattle.tinyjson_path.specs.Seen.{numbers_less, operand_tree, texts_less, value_tree};
@@ -172,7 +172,14 @@ pub(crate) fn singular_value<'v>(
     ensures { option_map operand_tree result
         ≡ one_tree query.now (tree_of root.now) (tree_of here.now) }
 {
-    match descend_singly(query.segments.as_slice(), start(query.origin, root, here)) {
+    part(descend_singly(query.segments.as_slice(), start(query.origin, root, here)))
+}
+
+/// The part of the input, if there is one.
+pub(crate) fn part<'v>(value: Option<NodeValue<'v>>) -> Option<Operand<'v>>
+    ensures { option_map operand_tree result ≡ value_tree value.entry }
+{
+    match value {
         Some(value) => Some(Operand::Part(value)),
         None => None,
     }
@@ -231,26 +238,19 @@ fn character_count(text: &str) -> usize
 }
 
 /// A whole number.
-fn whole<'v>(alloc: Global, value: usize) -> Result<Option<Operand<'v>>, AllocError>
+pub(crate) fn whole<'v>(alloc: Global, value: usize) -> Result<Option<Operand<'v>>, AllocError>
     ensures { IfOk result (λ o. option_map operand_tree o ≡ Some (whole value)) }
 {
     let number = JsonValue::Number(JsonNumber::from_u64(alloc, value as u64)?);
     Ok(Some(Operand::Own(Box::new(alloc, number)?)))
 }
 
-/// `count` (RFC 9535, 2.4.5) of the nodes.
-pub(crate) fn count<'v>(alloc: Global, nodes: &[Node]) -> Result<Option<Operand<'v>>, AllocError>
-    ensures { IfOk result (λ o. option_map operand_tree o ≡ count_of (parts_view nodes.now)) }
-{
-    whole(alloc, nodes.len())
-}
-
 /// `value` (RFC 9535, 2.4.8) of the nodes.
-pub(crate) fn only_value<'v>(nodes: &[Node<'v>]) -> Option<Operand<'v>>
-    ensures { option_map operand_tree result ≡ value_of (parts_view nodes.now) }
+pub(crate) fn only_value<'v>(nodes: &[Node<'v>]) -> Option<NodeValue<'v>>
+    ensures { value_tree result ≡ value_of (parts_view nodes.now) }
 {
     match nodes {
-        [node] => Some(Operand::Part(node.value)),
+        [node] => Some(node.value),
         _ => None,
     }
 }

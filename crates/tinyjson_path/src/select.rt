@@ -1,7 +1,10 @@
 //! The nodes that a query selects.
+ghost use Rattle.std.proofs.Props.{props};
 ghost use Rattle.std.specs.Prelude.{◌≡◌, ◌++◌, ◌∷◌, [], reverse, OnOk, IfOk, IfErr, option_map};
 ghost use Rattle.tinyjson.specs.View.{view};
 ghost use Rattle.tinyjson_document.specs.Document.{tree};
+ghost use Rattle.tinyjson_document.specs.Known.{Tree_set};
+ghost use Rattle.tinyjson_path.specs.Answers.{AreKnown, answer_of, found_view};
 ghost use Rattle.tinyjson_path.specs.Nodes.{path_of, part_view, parts_view, root_part, children};
 ghost use Rattle.tinyjson_path.specs.Nodes.{tree_of};
 ghost use Rattle.tinyjson_path.specs.Queries.{query_parts, selector_parts, selected_by};
@@ -16,18 +19,17 @@ ghost use Rattle.tinyjson_path.specs.Strings.{selector_strings, expression_strin
 ghost use Rattle.tinyjson_path.specs.Strings.{filter_strings};
 ghost use Rattle.tinyjson_path.specs.Waiting.{waits_view, waits_at};
 
+use crate::answers::{Answer, Found, answer_for, found_of};
 use crate::children::{children, containers, push_children, push_indexed, push_named, push_slice};
 use crate::node::Node;
-use crate::operand::{
-    self, Operand, compare, literal_value, only_value, release, singular_value, start,
-};
+use crate::operand::{self, Operand, compare, literal_value, part, release, singular_value, whole};
 use crate::patterns::{FindError, Patterns};
 use crate::value::NodeValue;
 use std::alloc::{AllocError, Global};
 use tinyjson::JsonValue;
 use tinyjson_path_query::{
-    Comparable, ComparisonOperator, Expression, FilterQuery, FunctionExpression, PatternFunction,
-    Query, Segment, Selector,
+    Comparable, ComparisonOperator, Expression, FilterQuery, FunctionExpression, Origin,
+    PatternFunction, Query, Segment, Selector,
 };
 
 /// Returns the nodes that the query selects in the value, in the order of RFC 9535, 2.1.2. A node that is selected
@@ -36,8 +38,8 @@ use tinyjson_path_query::{
 /// too deep or too large.
 ///
 /// A regular expression that is a literal of the query is parsed once, when it is first needed; one from the value is
-/// kept for the next node with the same one. The stack grows with the nesting of the query, not with the depth of the
-/// value.
+/// kept for the next node with the same one. What a query from the root selects is found once for all nodes that a
+/// filter tests. The stack grows with the nesting of the query, not with the depth of the value.
 ///
 /// ```
 /// let value = JsonValue::from_str(alloc, r#"{"a": [{"b": 1}, {"b": 2.50}]}"#)?;
@@ -94,6 +96,7 @@ fn find_below<'v>(
     let mut finder = Finder {
         alloc,
         root,
+        answers: Vec::new(alloc),
         patterns: Patterns::new(alloc),
     };
     finder.find_from(query.segments.as_slice(), root)
@@ -105,7 +108,10 @@ struct Finder<'v> {
     alloc: Global,
     /// The value of `$`.
     root: NodeValue<'v>,
+    /// What queries from the root select, as far as filters asked for it.
+    answers: Vec<Answer<'v>>,
     patterns: Patterns,
+    ghost known: { AreKnown (tree_of root) answers.items } by { Prim.hlevel (props, Tree_set) },
 }
 
 impl<'v> Finder<'v> {
@@ -377,8 +383,8 @@ impl<'v> Finder<'v> {
         ensures err { IfErr result (IsFromAny (filter_strings query.now)
             (tree_of self.old.root) (strings_in (tree_of here.now))) }
     {
-        let nodes = self.find_by(query, here)?;
-        Ok(operand::count(self.alloc, nodes.as_slice())?)
+        let found = self.found(query, here)?;
+        Ok(whole(self.alloc, found.count)?)
     }
 
     #[cycle(selecting)]
@@ -394,8 +400,8 @@ impl<'v> Finder<'v> {
         ensures err { IfErr result (IsFromAny (filter_strings query.now)
             (tree_of self.old.root) (strings_in (tree_of here.now))) }
     {
-        let nodes = self.find_by(query, here)?;
-        Ok(only_value(nodes.as_slice()))
+        let found = self.found(query, here)?;
+        Ok(part(found.only))
     }
 
     /// Whether the query selects a node.
@@ -408,25 +414,60 @@ impl<'v> Finder<'v> {
         ensures err { IfErr result (IsFromAny (filter_strings query.now)
             (tree_of self.old.root) (strings_in (tree_of here.now))) }
     {
-        let nodes = self.find_by(query, here)?;
-        Ok(!nodes.is_empty())
+        let found = self.found(query, here)?;
+        Ok(found.count > 0)
     }
 
-    /// What a query in a filter selects.
+    /// What the query selects. For one from the root that is found once, and kept.
     #[cycle(selecting)]
-    fn find_by(
+    fn found(
         &mut self,
         query: &'v FilterQuery,
         here: &NodeValue<'v>,
-    ) -> Result<Vec<Node<'v>>, FindError>
+    ) -> Result<Found<'v>, FindError>
         ensures root { self.new.root ≡ self.old.root }
-        ensures ok { IfOk result (λ v. parts_view v.items
-            ≡ filter_parts query.now (tree_of self.old.root) (tree_of here.now)) }
+        ensures ok { IfOk result (λ f. found_view f
+            ≡ answer_of (filter_parts query.now (tree_of self.old.root) (tree_of here.now))) }
         ensures err { IfErr result (IsFromAny (filter_strings query.now)
             (tree_of self.old.root) (strings_in (tree_of here.now))) }
     {
-        let start = start(query.origin, &self.root, here);
-        self.find_from(query.segments.as_slice(), start)
+        match query.origin {
+            Origin::Root => self.found_once(query.segments.as_slice()),
+            Origin::CurrentNode => self.found_from(query.segments.as_slice(), *here),
+        }
+    }
+
+    #[cycle(selecting)]
+    fn found_once(&mut self, segments: &'v [Segment]) -> Result<Found<'v>, FindError>
+        ensures root { self.new.root ≡ self.old.root }
+        ensures ok { IfOk result (λ f. found_view f ≡ answer_of
+            (found_by segments.now (tree_of self.old.root) (tree_of self.old.root))) }
+        ensures err { IfErr result (IsFromAny (segments_strings segments.now)
+            (tree_of self.old.root) (strings_in (tree_of self.old.root))) }
+    {
+        if let Some(found) = answer_for(self.answers.as_slice(), segments) {
+            return Ok(found);
+        }
+        let root = self.root;
+        let found = self.found_from(segments, root)?;
+        self.answers.push(Answer { segments, found })?;
+        Ok(found)
+    }
+
+    #[cycle(selecting)]
+    fn found_from(
+        &mut self,
+        segments: &'v [Segment],
+        value: NodeValue<'v>,
+    ) -> Result<Found<'v>, FindError>
+        ensures root { self.new.root ≡ self.old.root }
+        ensures ok { IfOk result (λ f. found_view f ≡ answer_of
+            (found_by segments.now (tree_of self.old.root) (tree_of value.entry))) }
+        ensures err { IfErr result (IsFromAny (segments_strings segments.now)
+            (tree_of self.old.root) (strings_in (tree_of value.entry))) }
+    {
+        let nodes = self.find_from(segments, value)?;
+        Ok(found_of(nodes.as_slice()))
     }
 }
 

@@ -1,4 +1,4 @@
-use Rattle.std.proofs.Common.{◌≡◌, ◌≤◌, ◌+◌, ◌++◌, [], arith, refl}
+use Rattle.std.proofs.Common.{◌≤◌, ◌+◌, [], arith, refl}
 use Rattle.tinyjson_document.specs.Parts.{items_in, size}
 use Rattle.tinyjson_path.specs.Nodes.{path_of, parts_view, items_from, tree_of}
 use Rattle.tinyjson_path.specs.Waiting.{wants}

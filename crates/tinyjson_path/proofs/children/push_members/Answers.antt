@@ -1,4 +1,4 @@
-use Rattle.std.proofs.Common.{◌≡◌, ◌++◌, ◌∙◌, OnOk, ap, append-nil, subst, sym}
+use Rattle.std.proofs.Common.{◌≡◌, ◌++◌, ◌∙◌, OnOk, ap, subst, sym}
 use Rattle.tinyjson_document.specs.Parts.{members_in}
 use Rattle.tinyjson_path.specs.Nodes.{path_of, parts_view, members_at, tree_of}
 use Rattle.tinyjson_path.specs.Queries.{kept}

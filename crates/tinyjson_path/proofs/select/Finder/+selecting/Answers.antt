@@ -3,7 +3,7 @@ use Rattle.std.specs.Prelude.{IfOk, IfErr}
 use Rattle.std.proofs.lemmas.List.{map-append}
 use Rattle.std.specs.Box.{box_value}
 use Rattle.tinyjson_path.proofs.Errors.{is_whole, is_left, is_right, is_one, node_in, node_within, error_of, error_from, error_of_pattern}
-use Rattle.tinyjson_path.proofs.Errors.{same_result, part_result, finds_by, error_at}
+use Rattle.tinyjson_path.proofs.Errors.{same_result, part_result, answered, error_at}
 use Rattle.tinyjson_path.proofs.Items.{drop_past}
 use Rattle.tinyjson_path.proofs.Selected.{AreWithin, are_children, are_in}
 use Rattle.tinyjson_path.proofs.Stated.{are_kept, child_strings, descendant_strings, filter_strings_are, or_strings, and_strings}
@@ -11,6 +11,8 @@ use Rattle.tinyjson_path.proofs.Stated.{not_strings, comparison_strings, test_st
 use Rattle.tinyjson_path.proofs.Waits.{waits_popped, less_child, less_descendant, less_whole, left_child, left_descendant}
 use Rattle.tinyjson_path.proofs.Waits.{goes_on, takes_one, are_popped, are_pushed, chosen_within}
 use Rattle.tinyjson_path.proofs.Within.{Within, within_self, of_query, from_same}
+use Rattle.tinyjson_path.specs.Answers.{answer_of, found_view}
+use Rattle.tinyjson_path.specs.Comparing.{origin_tree}
 use Rattle.tinyjson_path.specs.Nodes.{path_of, part_view, parts_view, children, tree_of}
 use Rattle.tinyjson_path.specs.Queries.{selected_by, found_by, kept}
 use Rattle.tinyjson_path.specs.Seen.{operand_tree}
@@ -189,36 +191,56 @@ length-returns-in_err-compared-clause-err t c =
     from_same (comparable_strings c.args.argument.now ++ (strings_in (tree_of c.args.self.now.root) ++ strings_in (tree_of c.args.here.now)))
     c.in_err-compared.field-0.0 c.from_residual.result c.from_residual.ensures.1 c.in_err-compared.ensures.err
 
-pub count-returns-in_err-nodes-clause-err : goal.count-returns-in_err-nodes-clause-err
-count-returns-in_err-nodes-clause-err t c =
+pub count-returns-in_err-found-clause-err : goal.count-returns-in_err-found-clause-err
+count-returns-in_err-found-clause-err t c =
     from_same (filter_strings c.args.query.now ++ (strings_in (tree_of c.args.self.now.root) ++ strings_in (tree_of c.args.here.now)))
-    c.in_err-nodes.field-0.0 c.from_residual.result c.from_residual.ensures.1 c.in_err-nodes.ensures.err
+    c.in_err-found.field-0.0 c.from_residual.result c.from_residual.ensures.1 c.in_err-found.ensures.err
 
-pub only_value-returns-in_err-nodes-clause-err : goal.only_value-returns-in_err-nodes-clause-err
-only_value-returns-in_err-nodes-clause-err t c =
+pub only_value-returns-in_err-found-clause-err : goal.only_value-returns-in_err-found-clause-err
+only_value-returns-in_err-found-clause-err t c =
     from_same (filter_strings c.args.query.now ++ (strings_in (tree_of c.args.self.now.root) ++ strings_in (tree_of c.args.here.now)))
-    c.in_err-nodes.field-0.0 c.from_residual.result c.from_residual.ensures.1 c.in_err-nodes.ensures.err
+    c.in_err-found.field-0.0 c.from_residual.result c.from_residual.ensures.1 c.in_err-found.ensures.err
 
-pub is_found-returns-in_err-nodes-clause-err : goal.is_found-returns-in_err-nodes-clause-err
-is_found-returns-in_err-nodes-clause-err t c =
+pub is_found-returns-in_err-found-clause-err : goal.is_found-returns-in_err-found-clause-err
+is_found-returns-in_err-found-clause-err t c =
     from_same (filter_strings c.args.query.now ++ (strings_in (tree_of c.args.self.now.root) ++ strings_in (tree_of c.args.here.now)))
-    c.in_err-nodes.field-0.0 c.from_residual.result c.from_residual.ensures.1 c.in_err-nodes.ensures.err
+    c.in_err-found.field-0.0 c.from_residual.result c.from_residual.ensures.1 c.in_err-found.ensures.err
 
-pub find_by-returns-clause-ok : goal.find_by-returns-clause-ok
-find_by-returns-clause-ok t c =
+pub found-returns-in-Root-clause-err : goal.found-returns-in-Root-clause-err
+found-returns-in-Root-clause-err t c =
     let q = c.args.query.now in
     let root = tree_of c.args.self.now.root in
-    let start = tree_of c.start-start.result in
-    subst (λ ps. IfOk c.find_from.result (λ v. parts_view v.items ≡ ps))
-    (ap (λ ss. found_by ss root start) c.as_slice.ensures.value ∙ finds_by q root (tree_of c.args.here.now) start c.start-start.ensures)
-    c.find_from.ensures.ok
+    let here = tree_of c.args.here.now in
+    error_from (filter_strings q) (segments_strings c.as_slice.result.now) q.origin root here root c.found_once.result
+    (segments_of_query q ∙ ap segments_strings (sym c.as_slice.ensures.value)) (sym (ap (λ o. origin_tree o root here) c.in-Root.is))
+    c.found_once.ensures.err
 
-pub find_by-returns-clause-err : goal.find_by-returns-clause-err
-find_by-returns-clause-err t c =
+pub found-returns-in-CurrentNode-clause-err : goal.found-returns-in-CurrentNode-clause-err
+found-returns-in-CurrentNode-clause-err t c =
     let q = c.args.query.now in
-    error_from (filter_strings q) (segments_strings c.as_slice.result.now) q.origin (tree_of c.args.self.now.root)
-    (tree_of c.args.here.now) (tree_of c.start-start.result) c.find_from.result
-    (segments_of_query q ∙ ap segments_strings (sym c.as_slice.ensures.value)) c.start-start.ensures c.find_from.ensures.err
+    let root = tree_of c.args.self.now.root in
+    let here = tree_of c.args.here.now in
+    error_from (filter_strings q) (segments_strings c.as_slice-in-CurrentNode.result.now) q.origin root here here c.found_from.result
+    (segments_of_query q ∙ ap segments_strings (sym c.as_slice-in-CurrentNode.ensures.value))
+    (sym (ap (λ o. origin_tree o root here) c.in-CurrentNode.is)) c.found_from.ensures.err
+
+pub found-returns-in-Root-clause-ok : goal.found-returns-in-Root-clause-ok
+found-returns-in-Root-clause-ok t c =
+    let q = c.args.query.now in
+    let root = tree_of c.args.self.now.root in
+    let here = tree_of c.args.here.now in
+    answered q root here root c.found_once.result (sym (ap (λ o. origin_tree o root here) c.in-Root.is))
+    (subst (λ ss. IfOk c.found_once.result (λ f. found_view f ≡ answer_of (found_by ss root root))) c.as_slice.ensures.value
+    c.found_once.ensures.ok)
+
+pub found-returns-in-CurrentNode-clause-ok : goal.found-returns-in-CurrentNode-clause-ok
+found-returns-in-CurrentNode-clause-ok t c =
+    let q = c.args.query.now in
+    let root = tree_of c.args.self.now.root in
+    let here = tree_of c.args.here.now in
+    answered q root here here c.found_from.result (sym (ap (λ o. origin_tree o root here) c.in-CurrentNode.is))
+    (subst (λ ss. IfOk c.found_from.result (λ f. found_view f ≡ answer_of (found_by ss root here)))
+    c.as_slice-in-CurrentNode.ensures.value c.found_from.ensures.ok)
 
 pub find_from-loop-node-smaller : goal.find_from-loop-node-smaller
 find_from-loop-node-smaller t c =
