@@ -46,14 +46,23 @@ fn wanted_by(alloc: Global, bundle: &JsonValue) -> Result<Vec<&'static [MetaSche
         let Some(documents) = meta_schemas_at(*member) else {
             continue;
         };
-        if !wanted
-            .iter()
-            .any(|others| others[0].uri == documents[0].uri)
-        {
+        if !is_among(wanted.as_slice(), documents) {
             wanted.push(documents)?;
         }
     }
     Ok(wanted)
+}
+
+/// Whether these documents are among the others.
+fn is_among(others: &[&[MetaSchema]], documents: &[MetaSchema]) -> bool {
+    for other in others {
+        if let ([first, ..], [document, ..]) = (*other, documents) {
+            if first.uri == document.uri {
+                return true;
+            }
+        }
+    }
+    false
 }
 
 /// The meta-schemas into which the member leads, if it is a reference.
