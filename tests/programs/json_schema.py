@@ -487,7 +487,7 @@ REFUSED_REFERENCES = [
     ('{"$ref":"#/$defs/a"}', "/$ref"), ('{"$ref":"#/$defs","$defs":{}}', "/$ref"), ('{"$ref":"#/$defs/b","$defs":{"a":true}}', "/$ref"),
     ('{"enum":[{}],"$ref":"#/enum/0"}', "/$ref"), ('{"const":{},"$ref":"#/const"}', "/$ref"), ('{"x":{},"$ref":"#/x"}', "/$ref"), ('{"items":{"$ref":"#/minimum"},"minimum":0}', "/items/$ref"),
     ('{"prefixItems":[true,{"$ref":"#/prefixItems/2"}]}', "/prefixItems/1/$ref"), ('{"prefixItems":[true,{"$ref":"#/prefixItems/00"}]}', "/prefixItems/1/$ref"),
-    ('{"$ref":"https://json-schema.org/draft/2020-12/schema"}', "/$ref"), ('{"$ref":"a.json#"}', "/$ref"), ('{"$ref":"/$defs/a","$defs":{"a":true}}', "/$ref"), ('{"$ref":""}', "/$ref"),
+    ('{"$ref":"https://json-schema.org/draft/next/schema"}', "/$ref"), ('{"$ref":"a.json#"}', "/$ref"), ('{"$ref":"/$defs/a","$defs":{"a":true}}', "/$ref"), ('{"$ref":""}', "/$ref"),
     ('{"$ref":5}', "/$ref"), ('{"$ref":{}}', "/$ref"), ('{"$ref":"#a"}', "/$ref"), ('{"$defs":{"~":true},"$ref":"#/$defs/~"}', "/$ref"), ('{"$defs":{"~":true},"$ref":"#/$defs/~2"}', "/$ref"),
     ('{"$defs":{"%":true},"$ref":"#/$defs/%"}', "/$ref"), ('{"$defs":{"%4":true},"$ref":"#/$defs/%4"}', "/$ref"), ('{"$defs":{"%zz":true},"$ref":"#/$defs/%zz"}', "/$ref"),
     ('{"$defs":{"a":true},"$ref":"#/$defs/%FF"}', "/$ref"),
