@@ -15,6 +15,7 @@ HERE = pathlib.Path(__file__).resolve().parent
 # What is below this heading was written by hand, and stays; the section of programs before it is written apart.
 KEPT = "\n## Measured apart\n"
 PROGRAMS = "\n## Programs\n"
+READING = "\n## Reading alone\n"
 # The programs of which the page says how their time grows.
 GROWN = ("original", "jsonnorm", "documents", "values")
 
@@ -135,12 +136,9 @@ def wrapped(part):
 
 
 def document(tables, names, runs):
-    """The page of results; the tables are lists of rows, by their titles."""
+    """The tables beside the original crate, as lists of rows by their titles."""
     parts = ["# Times beside the original crate", "Written by `bench/run`, apart from the last section.", heading(runs), "![Times as fast](results.svg)"]
     for title, rows in tables.items():
-        if rows[0].base != "original":
-            parts += [f"## {title}", ABOUT[title], markdown(rows, [name for name in rows[0].results if name != rows[0].base])]
-            continue
         parts += [f"## {title}", markdown(rows, names)]
         parts += [f"Times as long: {line}." for line in growth(title, rows)]
         for name in ("jsonnorm", "values"):
@@ -151,22 +149,28 @@ def document(tables, names, runs):
     return "\n\n".join(wrapped(part) for part in parts) + "\n"
 
 
+def reading(tables, runs):
+    """The tables of reading alone, with when they were measured before the first."""
+    parts = []
+    for title, rows in tables.items():
+        about = ABOUT[title] if parts else f"{measured_at()} The least of {runs} runs in turn. {ABOUT[title]}"
+        parts += [f"## {title}", about, markdown(rows, [name for name in rows[0].results if name != rows[0].base])]
+    return "\n\n".join(wrapped(part) for part in parts) + "\n"
+
+
 def parts_of(page):
-    """The page as `write` wrote it, the section of programs, and what was written by hand."""
+    """The tables beside the original crate, those of reading alone, the section of programs, and what was written by hand."""
     written, heading_kept, kept = page.partition(KEPT)
     tables, heading_programs, rows = written.partition(PROGRAMS)
-    return tables, heading_programs + rows, heading_kept + kept
+    beside, heading_reading, more = tables.partition(READING)
+    return [part.strip("\n") for part in (beside, heading_reading + more, heading_programs + rows, heading_kept + kept)]
 
 
-def write(tables, names, runs):
+def write(tables=None, reading_tables=None, programs=None, names=(), runs=0):
+    """Puts what was measured in the place of what the page has of it."""
     page = HERE / "results.md"
-    _tables, section, kept = parts_of(page.read_text())
-    page.write_text(document(tables, names, runs) + section + kept)
+    parts = parts_of(page.read_text())
+    for place, part in enumerate((tables and document(tables, names, runs), reading_tables and reading(reading_tables, runs), programs)):
+        parts[place] = part.strip("\n") if part else parts[place]
+    page.write_text("\n\n".join(part for part in parts if part) + "\n")
     pictures.draw(HERE)
-
-
-def write_programs(section):
-    """Puts the section of programs in the place of the one that stands."""
-    page = HERE / "results.md"
-    tables, _section, kept = parts_of(page.read_text())
-    page.write_text(f"{tables.rstrip()}\n\n{section}{kept}")
