@@ -24,7 +24,7 @@ ABOUT = {
     "Reading alone": "Texts are read and freed: into a `JsonValue`, a `Document`, and the values of the toolchain's `json` and"
     " `serde_json`.",
     "Reading ten times as much": "Each of these inputs ten times in an array, so that a program's start hardly counts.",
-    "Keys of one object": "The same, of objects whose keys have one hash in the toolchain's map, are random, fall, or begin alike.",
+    "Keys of one object": "Objects whose keys have one hash in the toolchain's map, are random, fall, or begin alike.",
     "Large records": "A text of records to its normal text, to indented text, and to its last record, beside the first.",
 }
 
