@@ -13,18 +13,17 @@ use Rattle.tinyjson_output.specs.Buffer.{Output, SentPart, Sent, SendsFrom}
 use Rattle.tinyjson_output.proofs.Callers.{enc, enc_cons, two_bytes, null_bytes, quoted_bytes}
 use Rattle.tinyjson_output.proofs.Callers.{sent_goes as goes, sent_stops as stops, sent_stops_then as stops_then}
 use Rattle.tinyjson_output.proofs.Callers.{sent_written_none as written_none, sent_written_then as written_then}
-use Rattle.tinyjson_document.specs.Cell.{Is, IsBytes, IsKeptAt, IsNumber, IsNumberAt}
+use Rattle.tinyjson_document.specs.Cell.{Is, IsBytes, IsKeptAt, IsShort}
 use Rattle.tinyjson_document.specs.Order.{part}
 use Rattle.tinyjson_document.specs.Walking.{holds_others}
 use Rattle.tinyjson_document.specs.declared.store.Span.{Span}
 use Rattle.tinyjson_document.specs.declared.store.Cell.{Cell}
 use Rattle.tinyjson_document.specs.declared.store.Cell.TheVariants as node
-use Rattle.tinyjson_document.specs.declared.store.Number.{Number}
-use Rattle.tinyjson_document.specs.declared.store.Number.TheVariants as stored
 use Rattle.tinyjson_document.specs.declared.store.Store.{Store}
 use Rattle.tinyjson_document.proofs.Writing.{seen, empty_array, empty_object}
 use Rattle.tinyjson_document.proofs.Passing.{same_places}
 use Rattle.tinyjson_document.proofs.Places.{kept_there}
+use Rattle.tinyjson_document.proofs.Slices.{run_part}
 use Rattle.tinyjson_document.proofs.Stored.{number_bytes}
 
 -- what was appended is taken back
@@ -77,13 +76,9 @@ false_bytes = enc_cons 102 (97 ∷ 108 ∷ 115 ∷ 101 ∷ []) (omega arith)
 same_decimal : (a b : Decimal) → Some a ≡ Some b → a ≡ b
 same_decimal a b e = cc
 
-number_canonical : (s : Store) (d : Decimal) (n : Number) → IsNumber s d n → IsDecimal d
-number_canonical s d (stored.Short p) h = h.canonical
-number_canonical s d (stored.Kept i) h = subst IsDecimal h.decimal h.here.canonical
-
--- the text of a number is its bytes
-pub stored_bytes : (s : Store) (d : Decimal) (n : Number) → IsNumber s d n → enc (decimal_text d) ≡ decimal_text d
-stored_bytes s d n h = number_bytes d (number_canonical s d n h)
+-- the text of a kept number is its bytes
+kept_bytes : (s : Store) (d : Decimal) (i : ℕ) → IsKeptAt s d i → enc (decimal_text d) ≡ decimal_text d
+kept_bytes s d i h = number_bytes d (subst IsDecimal h.decimal h.here.canonical)
 
 -- a kept number is the one that is meant
 pub kept_is : (s : Store) (d : Decimal) (i : ℕ) (x : Canonical) → Some x ≡ slice_get s.kept.items i → IsKeptAt s d i → x.decimal ≡ d
@@ -101,11 +96,15 @@ module _ (w : Option (List ℕ)) (k : ℕ) (s : Store) (t : Tree) (n : Cell) whe
   false_is b e f h =
       ap (λ z. enc (text w k z)) (seen s t (node.Boolean false) (subst (Is s t) (e ∙ ap node.Boolean f) h)) ∙ false_bytes
 
-  pub number_is : (i : ℕ) → n ≡ node.Number i → Is s t n
-      → (d : Decimal) × IsNumberAt s d i × (enc (text w k t) ≡ decimal_text d)
-  number_is i e h =
-      let v = seen s t (node.Number i) (subst (Is s t) e h) in
-      (v.0, v.2, ap (λ z. enc (text w k z)) v.1 ∙ stored_bytes s v.0 v.2.here v.2.number)
+  pub short_is : (p : Span) (b : List ℕ) → n ≡ node.Short p → b ≡ part s.texts.items p → Is s t n → enc (text w k t) ≡ b
+  short_is p b e f h =
+      let v = seen s t (node.Short p) (subst (Is s t) e h) in
+      ap (λ z. enc (text w k z)) v.1 ∙ number_bytes v.0 v.2.canonical ∙ sym (run_part s.texts.items p (decimal_text v.0) v.2.run) ∙ sym f
+
+  pub kept_at : (i : ℕ) → n ≡ node.Kept i → Is s t n → (d : Decimal) × IsKeptAt s d i × (enc (text w k t) ≡ decimal_text d)
+  kept_at i e h =
+      let v = seen s t (node.Kept i) (subst (Is s t) e h) in
+      (v.0, v.2, ap (λ z. enc (text w k z)) v.1 ∙ kept_bytes s v.0 i v.2)
 
   pub string_is : (p : Span) (b : List ℕ) → n ≡ node.String p → b ≡ part s.texts.items p → Is s t n
       → enc (text w k t) ≡ 34 ∷ [] ++ (escapes b ++ 34 ∷ [])

@@ -1,15 +1,13 @@
 -- A node stands for the same tree while the store grows.
-use Rattle.std.proofs.Common.{◌≡◌, ℕ, List, [], ◌∷◌, ◌++◌, sym, ◌∙◌, ap, subst, append_assoc, append-nil}
+use Rattle.std.proofs.Common.{◌≡◌, ℕ, List, [], ◌∷◌, ◌++◌, inl, inr, sym, ◌∙◌, ap, append_assoc, append-nil}
 use Rattle.tinyjson_number.specs.Decimal.{Decimal}
 use Rattle.tinyjson_number.specs.Text.{decimal_text}
 use Rattle.tinyjson_grammar.specs.Tree.{Tree, null, boolean, number, string, array, object}
 use Rattle.tinyjson_grammar.specs.Tree.{Items, no_items, item, Members, no_members, member}
-use Rattle.tinyjson_document.specs.Cell.{IsRun, IsText, IsNumber, IsNumberAt, Is, Are, AreMembers, Extends, Grows}
+use Rattle.tinyjson_document.specs.Cell.{IsRun, IsText, IsKeptAt, IsShort, IsNumber, Is, Are, AreMembers, Extends, Grows}
 use Rattle.tinyjson_document.specs.declared.store.Span.{Span}
 use Rattle.tinyjson_document.specs.declared.store.Cell.{Cell}
 use Rattle.tinyjson_document.specs.declared.store.Member.{Member}
-use Rattle.tinyjson_document.specs.declared.store.Number.{Number}
-use Rattle.tinyjson_document.specs.declared.store.Number.TheVariants as stored
 use Rattle.tinyjson_document.specs.declared.store.Store.{Store}
 
 pub run_stays : {A : Type 0} (xs ys zs : List A) (p : Span) → Extends xs ys → IsRun xs p zs → IsRun ys p zs
@@ -31,10 +29,12 @@ text_stays s r cs p g h = record {
       h.characters;
 }
 
-pub stored_stays : (s r : Store) (d : Decimal) (n : Number) → Grows s r → IsNumber s d n → IsNumber r d n
-stored_stays s r d (stored.Short p) g h =
+short_stays : (s r : Store) (d : Decimal) (p : Span) → Grows s r → IsShort s d p → IsShort r d p
+short_stays s r d p g h =
     record { run = run_stays _ _ (decimal_text d) p g.texts h.run; few = h.few; canonical = h.canonical }
-stored_stays s r d (stored.Kept i) g h = record {
+
+kept_stays : (s r : Store) (d : Decimal) (i : ℕ) → Grows s r → IsKeptAt s d i → IsKeptAt r d i
+kept_stays s r d i g h = record {
   front = h.front;
   here = h.here;
   back = h.back ++ g.kept.0;
@@ -43,21 +43,15 @@ stored_stays s r d (stored.Kept i) g h = record {
   decimal = h.decimal;
 }
 
-number_stays : (s r : Store) (d : Decimal) (n : ℕ) → Grows s r → IsNumberAt s d n → IsNumberAt r d n
-number_stays s r d n g h = record {
-  front = h.front;
-  here = h.here;
-  back = h.back ++ g.numbers.0;
-  whole = g.numbers.1 ∙ ap (λ w. w ++ g.numbers.0) h.whole ∙ append_assoc h.front (h.here ∷ h.back) g.numbers.0;
-  place = h.place;
-  number = stored_stays s r d h.here g h.number;
-}
+number_stays : (s r : Store) (d : Decimal) (n : Cell) → Grows s r → IsNumber s d n → IsNumber r d n
+number_stays s r d n g (inl h) = inl (h.0, h.1, short_stays s r d h.0 g h.2)
+number_stays s r d n g (inr h) = inr (h.0, h.1, kept_stays s r d h.0 g h.2)
 
 mutual
   pub is_still : (s r : Store) (t : Tree) (n : Cell) → Grows s r → Is s t n → Is r t n
   is_still s r null n g h = h
   is_still s r (boolean b) n g h = h
-  is_still s r (number d) n g h = (h.0, h.1, number_stays s r d h.0 g h.2)
+  is_still s r (number d) n g h = number_stays s r d n g h
   is_still s r (string cs) n g h = (h.0, h.1, text_stays s r cs h.0 g h.2)
   is_still s r (array ts) n g h = (h.0, h.1, h.2, run_stays _ _ h.2 h.0 g.items h.3, are_still s r ts h.2 g h.4)
   is_still s r (object ms) n g h = (h.0, h.1, h.2, run_stays _ _ h.2 h.0 g.members h.3, members_still s r ms h.2 g h.4)
@@ -85,25 +79,7 @@ extends_none xs = ([], sym (append-nil xs))
 pub grows_none : (s : Store) → Grows s s
 grows_none s = record {
   texts = extends_none s.texts.items;
-  numbers = extends_none s.numbers.items;
   kept = extends_none s.kept.items;
   items = extends_none s.items.items;
   members = extends_none s.members.items;
-}
-
--- a number stays in a store with the same texts and the same numbers that are kept
-pub stored_again : (s r : Store) (d : Decimal) (n : Number) → r.texts.items ≡ s.texts.items → r.kept.items ≡ s.kept.items → IsNumber s d n
-    → IsNumber r d n
-stored_again s r d (stored.Short p) e f h = record {
-  run = subst (λ xs. IsRun xs p (decimal_text d)) (sym e) h.run;
-  few = h.few;
-  canonical = h.canonical;
-}
-stored_again s r d (stored.Kept i) e f h = record {
-  front = h.front;
-  here = h.here;
-  back = h.back;
-  whole = f ∙ h.whole;
-  place = h.place;
-  decimal = h.decimal;
 }

@@ -1,5 +1,5 @@
 -- What a cell stands for is had where it is there at all: it can be computed.
-use Rattle.std.proofs.Common.{◌≡◌, ℕ, ◌+◌, ◌≤◌, List, [], ◌∷◌, ◌++◌, length, take, drop, refl, sym, ◌∙◌, ap, subst, arith}
+use Rattle.std.proofs.Common.{◌≡◌, ℕ, ◌+◌, ◌≤◌, List, [], ◌∷◌, ◌++◌, length, take, drop, inl, inr, refl, sym, ◌∙◌, ap, subst, arith}
 use Rattle.std.proofs.Common.{◌-◌, length-drop, length-append}
 use mathlib.Core.Logic.{∥∥₁_elim, ∥∥₁_map}
 use mathlib.Core.HLevel.{×_prop, ⊥_prop, hedberg}
@@ -19,10 +19,8 @@ use Rattle.tinyjson_document.specs.declared.store.Span.{Span}
 use Rattle.tinyjson_document.specs.declared.store.Cell.{Cell}
 use Rattle.tinyjson_document.specs.declared.store.Cell.TheVariants as node
 use Rattle.tinyjson_document.specs.declared.store.Member.{Member}
-use Rattle.tinyjson_document.specs.declared.store.Number.{Number}
-use Rattle.tinyjson_document.specs.declared.store.Number.TheVariants as stored
 use Rattle.tinyjson_document.specs.declared.store.Store.{Store}
-use Rattle.tinyjson_document.specs.Cell.{IsRun, IsText, IsKeptAt, IsShort, IsNumber, IsNumberAt, Is, Are, AreMembers}
+use Rattle.tinyjson_document.specs.Cell.{IsRun, IsText, IsKeptAt, IsShort, IsNumber, Is, Are, AreMembers}
 use Rattle.tinyjson_document.specs.Known.{kind_in, kind_is, run_one, Decimal_set}
 
 pub Codes_set : IsSet (List ℕ)
@@ -31,8 +29,11 @@ Codes_set = is_set (hedberg ℕ_discrete)
 head_same : {A : Type 0} (x y : A) (xs ys : List A) → x ∷ xs ≡ y ∷ ys → x ≡ y
 head_same x y xs ys e = cc
 
-number_place : {i j : ℕ} → node.Number i ≡ node.Number j → j ≡ i
-number_place e = cc
+short_place : {p q : Span} → node.Short p ≡ node.Short q → q ≡ p
+short_place e = cc
+
+kept_place : {i j : ℕ} → node.Kept i ≡ node.Kept j → j ≡ i
+kept_place e = cc
 
 string_place : {p q : Span} → node.String p ≡ node.String q → q ≡ p
 string_place e = cc
@@ -108,37 +109,20 @@ short_had s d p h =
       canonical = ∥∥₁_elim h (Bool-set _ _) (λ g. g.canonical);
     }
 
-stored_had : (s : Store) (d : Decimal) (n : Number) → ∥ IsNumber s d n ∥₁ → IsNumber s d n
-stored_had s d (stored.Short p) h = short_had s d p h
-stored_had s d (stored.Kept i) h = kept_had s d i h
+at_short : (s : Store) (d : Decimal) (p : Span) → IsNumber s d (node.Short p) → IsShort s d p
+at_short s d p (inl g) = subst (IsShort s d) (short_place g.1) g.2
+at_short s d p (inr g) = let e = g.1 in absurd cc
 
-number_had : (s : Store) (d : Decimal) (i : ℕ) → ∥ IsNumberAt s d i ∥₁ → IsNumberAt s d i
-number_had s d i h = by (drop i s.numbers.items) refl
-  where
-    here : (g : IsNumberAt s d i) → drop i s.numbers.items ≡ g.here ∷ g.back
-    here g = ap (drop i) g.whole ∙ drop_at g.front (g.here ∷ g.back) i (sym g.place)
-
-    by : (rest : _) → drop i s.numbers.items ≡ rest → IsNumberAt s d i
-    by [] e = absurd (∥∥₁_elim h ⊥_prop (λ g. let f = sym e ∙ here g in absurd cc))
-    by (c ∷ cs) e = record {
-      front = take i s.numbers.items;
-      here = c;
-      back = cs;
-      whole = sym (take-append-drop i s.numbers.items) ∙ ap (λ z. take i s.numbers.items ++ z) e;
-      place = sym (length-take-le i s.numbers.items (∥∥₁_elim h le_prop (λ g. omega (
-        arith,
-        g.place,
-        ap length g.whole
-            ∙ length-append g.front (g.here ∷ g.back),
-      ))));
-      number = stored_had s d c (∥∥₁_map h (λ g. let f = sym e ∙ here g in subst (IsNumber s d) (sym (head_same _ _ _ _ f)) g.number));
-    }
+at_kept : (s : Store) (d : Decimal) (i : ℕ) → IsNumber s d (node.Kept i) → IsKeptAt s d i
+at_kept s d i (inl g) = let e = g.1 in absurd cc
+at_kept s d i (inr g) = subst (IsKeptAt s d) (kept_place g.1) g.2
 
 mutual
   pub is_had : (s : Store) (t : Tree) (n : Cell) → ∥ Is s t n ∥₁ → Is s t n
   is_had s null node.Null h = refl
   is_had s (boolean a) (node.Boolean b) h = ap node.Boolean (∥∥₁_elim h (Bool-set _ _) (λ g. cc))
-  is_had s (number d) (node.Number i) h = (i, refl, number_had s d i (∥∥₁_map h (λ g. subst (IsNumberAt s d) (number_place g.1) g.2)))
+  is_had s (number d) (node.Short p) h = inl (p, refl, short_had s d p (∥∥₁_map h (at_short s d p)))
+  is_had s (number d) (node.Kept i) h = inr (i, refl, kept_had s d i (∥∥₁_map h (at_kept s d i)))
   is_had s (string cs) (node.String p) h = (p, refl, text_had s cs p (∥∥₁_map h (λ g. subst (IsText s cs) (string_place g.1) g.2)))
   is_had s (array ts) (node.Array p) h =
       let there = ∥∥₁_map h

@@ -1,11 +1,12 @@
 -- What is known of a place in a document, by its cell.
 use Rattle.std.proofs.Common.{◌≡◌, ℕ, zero, suc, Bool, List, [], ◌∷◌, Option, Some, None, option_map, slice_get}
-use Rattle.std.proofs.Common.{◌++◌, length, refl, sym, ◌∙◌, ap, subst}
+use Rattle.std.proofs.Common.{◌++◌, inl, inr, length, refl, sym, ◌∙◌, ap, subst}
 use mathlib.Core.Logic.{∥∥₁_map}
 use Rattle.std.specs.Str.{chars}
 use Rattle.tinyjson.specs.Index.{item_count, nth, tree_at}
 use Rattle.tinyjson_number.specs.Decimal.{Decimal}
 use Rattle.tinyjson_grammar.specs.Kind.{kind_of}
+use Rattle.tinyjson_grammar.specs.declared.kind.JsonKind.TheVariants as kind
 use Rattle.tinyjson_grammar.specs.Soundness.{IsTree}
 use Rattle.tinyjson_grammar.specs.Tree.{Tree, null, boolean, number, string, array, object}
 use Rattle.tinyjson_grammar.specs.Tree.{Items, no_items, item, Members, no_members, member}
@@ -13,9 +14,8 @@ use Rattle.tinyjson_document.specs.declared.store.Span.{Span}
 use Rattle.tinyjson_document.specs.declared.store.Cell.{Cell}
 use Rattle.tinyjson_document.specs.declared.store.Cell.TheVariants as node
 use Rattle.tinyjson_document.specs.declared.store.Member.{Member}
-use Rattle.tinyjson_document.specs.declared.store.Number.{Number}
 use Rattle.tinyjson_document.specs.declared.store.Store.{Store}
-use Rattle.tinyjson_document.specs.Cell.{IsText, IsKeptAt, IsNumber, IsNumberAt, IsBytes, Is, Are, AreMembers}
+use Rattle.tinyjson_document.specs.Cell.{IsText, IsKeptAt, IsShort, IsNumber, IsBytes, Is, Are, AreMembers}
 use Rattle.tinyjson_document.specs.Known.{Known, KnownItems, KnownMembers, kind_in, kind_is, known_are, known_members}
 use Rattle.tinyjson_document.specs.Known.{known_one, items_one, members_same}
 use Rattle.tinyjson_document.specs.Order.{part}
@@ -50,21 +50,11 @@ module _ (s : Store) where
   boolean_is : (t : Tree) (n : Cell) → Is s t n → boolean_at n ≡ boolean_in t
   boolean_is null n h = ap boolean_at h
   boolean_is (boolean b) n h = ap boolean_at h
-  boolean_is (number d) n h = ap boolean_at h.1
+  boolean_is (number d) n (inl h) = ap boolean_at h.1
+  boolean_is (number d) n (inr h) = ap boolean_at h.1
   boolean_is (string cs) n h = ap boolean_at h.1
   boolean_is (array ts) n h = ap boolean_at h.1
   boolean_is (object ms) n h = ap boolean_at h.1
-
-  pub number_there : (d : Decimal) (i : ℕ) → IsNumberAt s d i → (x : Number) × (slice_get s.numbers.items i ≡ Some x) × IsNumber s d x
-  number_there d i h = (
-    h.here,
-    ap (slice_get s.numbers.items) h.place ∙ ap (λ z. slice_get z (length h.front)) h.whole ∙ at h.front,
-    h.number,
-  )
-    where
-      at : (xs : List _) → slice_get (xs ++ h.here ∷ h.back) (length xs) ≡ Some h.here
-      at [] = refl
-      at (x ∷ xs) = at xs
 
   pub kept_there : (d : Decimal) (i : ℕ) → IsKeptAt s d i → option_map (λ c. c.decimal) (slice_get s.kept.items i) ≡ Some d
   kept_there d i h =
@@ -78,7 +68,8 @@ module _ (s : Store) where
   string_is : (t : Tree) (n : Cell) → Is s t n → string_at s n ≡ string_in t
   string_is null n h = ap (string_at s) h
   string_is (boolean b) n h = ap (string_at s) h
-  string_is (number d) n h = ap (string_at s) h.1
+  string_is (number d) n (inl h) = ap (string_at s) h.1
+  string_is (number d) n (inr h) = ap (string_at s) h.1
   string_is (string cs) n h = ap (string_at s) h.1 ∙ ap Some (sym (text_part s cs h.0 h.2).1)
   string_is (array ts) n h = ap (string_at s) h.1
   string_is (object ms) n h = ap (string_at s) h.1
@@ -86,7 +77,8 @@ module _ (s : Store) where
   pub cells_are : (t : Tree) (n : Cell) → Is s t n → Are s (items_in t) (cells_at s n)
   cells_are null n h = subst (λ m. Are s no_items (cells_at s m)) (sym h) tt
   cells_are (boolean b) n h = subst (λ m. Are s no_items (cells_at s m)) (sym h) tt
-  cells_are (number d) n h = subst (λ m. Are s no_items (cells_at s m)) (sym h.1) tt
+  cells_are (number d) n (inl h) = subst (λ m. Are s no_items (cells_at s m)) (sym h.1) tt
+  cells_are (number d) n (inr h) = subst (λ m. Are s no_items (cells_at s m)) (sym h.1) tt
   cells_are (string cs) n h = subst (λ m. Are s no_items (cells_at s m)) (sym h.1) tt
   cells_are (array ts) n h = subst (λ m. Are s ts (cells_at s m)) (sym h.1) (subst (Are s ts) (sym (run_part _ h.0 h.2 h.3)) h.4)
   cells_are (object ms) n h = subst (λ m. Are s no_items (cells_at s m)) (sym h.1) tt
@@ -94,7 +86,8 @@ module _ (s : Store) where
   pub members_are : (t : Tree) (n : Cell) → Is s t n → AreMembers s (members_in t) (members_at s n)
   members_are null n h = subst (λ m. AreMembers s no_members (members_at s m)) (sym h) tt
   members_are (boolean b) n h = subst (λ m. AreMembers s no_members (members_at s m)) (sym h) tt
-  members_are (number d) n h = subst (λ m. AreMembers s no_members (members_at s m)) (sym h.1) tt
+  members_are (number d) n (inl h) = subst (λ m. AreMembers s no_members (members_at s m)) (sym h.1) tt
+  members_are (number d) n (inr h) = subst (λ m. AreMembers s no_members (members_at s m)) (sym h.1) tt
   members_are (string cs) n h = subst (λ m. AreMembers s no_members (members_at s m)) (sym h.1) tt
   members_are (array ts) n h = subst (λ m. AreMembers s no_members (members_at s m)) (sym h.1) tt
   members_are (object ms) n h = subst (λ m. AreMembers s ms (members_at s m)) (sym h.1)
@@ -115,7 +108,8 @@ module _ (s : Store) where
   size_is : (t : Tree) (n : Cell) → Is s t n → size_at s n ≡ size t
   size_is null n h = ap (size_at s) h
   size_is (boolean b) n h = ap (size_at s) h
-  size_is (number d) n h = ap (size_at s) h.1
+  size_is (number d) n (inl h) = ap (size_at s) h.1
+  size_is (number d) n (inr h) = ap (size_at s) h.1
   size_is (string cs) n h = ap (size_at s) h.1
   size_is (array ts) n h = ap (size_at s) h.1 ∙ ap length (run_part _ h.0 h.2 h.3) ∙ cell_count ts h.2 h.4
   size_is (object ms) n h = ap (size_at s) h.1 ∙ ap length (run_part _ h.0 h.2 h.3) ∙ pair_count ms h.2 h.4
@@ -131,21 +125,28 @@ module _ (s : Store) where
   pub boolean_known : (n : Cell) (k : Known s n) → boolean_at n ≡ boolean_in k.tree
   boolean_known n k = boolean_is k.tree n (known_had n k)
 
-  number_of : (t : Tree) (n : Cell) (i : ℕ) (o : Option Decimal) → Is s t n → n ≡ node.Number i
-      → ((d : Decimal) → IsNumberAt s d i → o ≡ Some d) → o ≡ number_in t
-  number_of (number d) n i o h e f = f d (subst (IsNumberAt s d) (same_index h.0 i (sym h.1 ∙ e)) h.2)
-    where
-      same_index : (i j : ℕ) → node.Number i ≡ node.Number j → i ≡ j
-      same_index i j e = cc
-  number_of null n i o h e f = let k = sym h ∙ e in absurd cc
-  number_of (boolean b) n i o h e f = let k = sym h ∙ e in absurd cc
-  number_of (string cs) n i o h e f = let k = sym h.1 ∙ e in absurd cc
-  number_of (array ts) n i o h e f = let k = sym h.1 ∙ e in absurd cc
-  number_of (object ms) n i o h e f = let k = sym h.1 ∙ e in absurd cc
+  number_of : (t : Tree) (n : Cell) (o : Option Decimal) → Is s t n → ((d : Decimal) → IsNumber s d n → o ≡ Some d)
+      → kind_in n ≡ kind.Number → o ≡ number_in t
+  number_of (number d) n o h f k = f d h
+  number_of t n o h f k = let e : kind_of t ≡ kind.Number = sym (kind_is s t n h) ∙ k in absurd cc
 
-  pub number_known : (n : Cell) (k : Known s n) (i : ℕ) (o : Option Decimal) → n ≡ node.Number i
-      → ((d : Decimal) → IsNumberAt s d i → o ≡ Some d) → o ≡ number_in k.tree
-  number_known n k i o e f = number_of k.tree n i o (known_had n k) e f
+  short_of : (d : Decimal) (p : Span) → IsNumber s d (node.Short p) → IsShort s d p
+  short_of d p (inl h) = let e = h.1 in let same : h.0 ≡ p = cc in subst (IsShort s d) same h.2
+  short_of d p (inr h) = let e = h.1 in absurd cc
+
+  kept_of : (d : Decimal) (i : ℕ) → IsNumber s d (node.Kept i) → IsKeptAt s d i
+  kept_of d i (inl h) = let e = h.1 in absurd cc
+  kept_of d i (inr h) = let e = h.1 in let same : h.0 ≡ i = cc in subst (IsKeptAt s d) same h.2
+
+  pub short_known : (n : Cell) (k : Known s n) (p : Span) (o : Option Decimal) → n ≡ node.Short p
+      → ((d : Decimal) → IsShort s d p → o ≡ Some d) → o ≡ number_in k.tree
+  short_known n k p o e f =
+      number_of k.tree n o (known_had n k) (λ d h. f d (short_of d p (subst (IsNumber s d) e h))) (ap kind_in e)
+
+  pub kept_known : (n : Cell) (k : Known s n) (i : ℕ) (o : Option Decimal) → n ≡ node.Kept i
+      → ((d : Decimal) → IsKeptAt s d i → o ≡ Some d) → o ≡ number_in k.tree
+  kept_known n k i o e f =
+      number_of k.tree n o (known_had n k) (λ d h. f d (kept_of d i (subst (IsNumber s d) e h))) (ap kind_in e)
 
   pub string_known : (n : Cell) (k : Known s n) → string_at s n ≡ string_in k.tree
   string_known n k = string_is k.tree n (known_had n k)
@@ -157,7 +158,8 @@ module _ (s : Store) where
   string_bytes_is : (t : Tree) (p : Span) → Is s t (node.String p) → (cs : List ℕ) × IsBytes cs (part s.texts.items p)
   string_bytes_is null p h = absurd cc
   string_bytes_is (boolean b) p h = absurd cc
-  string_bytes_is (number d) p h = let e = h.1 in absurd cc
+  string_bytes_is (number d) p (inl h) = let e = h.1 in absurd cc
+  string_bytes_is (number d) p (inr h) = let e = h.1 in absurd cc
   string_bytes_is (string cs) p h = let e = h.1 in let same : h.0 ≡ p = cc in
       (cs, subst (λ q. IsBytes cs (part s.texts.items q)) same (text_part s cs h.0 h.2))
   string_bytes_is (array ts) p h = let e = h.1 in absurd cc
@@ -288,16 +290,19 @@ module _ (s : Store) where
 
   -- ---- other kinds
 
-  no_number : (t : Tree) (n : Cell) → Is s t n → ((i : ℕ) → n ≡ node.Number i → ⊥) → None ≡ number_in t
-  no_number (number d) n h k = absurd (k h.0 h.1)
-  no_number null n h k = refl
-  no_number (boolean b) n h k = refl
-  no_number (string cs) n h k = refl
-  no_number (array ts) n h k = refl
-  no_number (object ms) n h k = refl
+  no_number : (t : Tree) (n : Cell) → Is s t n → ((p : Span) → n ≡ node.Short p → ⊥) → ((i : ℕ) → n ≡ node.Kept i → ⊥)
+      → None ≡ number_in t
+  no_number (number d) n (inl h) f g = absurd (f h.0 h.1)
+  no_number (number d) n (inr h) f g = absurd (g h.0 h.1)
+  no_number null n h f g = refl
+  no_number (boolean b) n h f g = refl
+  no_number (string cs) n h f g = refl
+  no_number (array ts) n h f g = refl
+  no_number (object ms) n h f g = refl
 
-  pub number_not : (n : Cell) (k : Known s n) → ((i : ℕ) → n ≡ node.Number i → ⊥) → None ≡ number_in k.tree
-  number_not n k h = no_number k.tree n (known_had n k) h
+  pub number_not : (n : Cell) (k : Known s n) → ((p : Span) → n ≡ node.Short p → ⊥) → ((i : ℕ) → n ≡ node.Kept i → ⊥)
+      → None ≡ number_in k.tree
+  number_not n k f g = no_number k.tree n (known_had n k) f g
 
   pub string_not : (n : Cell) → ((p : Span) → n ≡ node.String p → ⊥) → string_at s n ≡ None
   string_not (node.String p) h = absurd (h p refl)

@@ -56,6 +56,3 @@ read_back d text r c e h few l =
     by (Err OutOfRange) t h n =
         absurd (true≢false (sym t.3 ∙ ap in_range (sym t.2 ∙ ap value (one_numeral text t.0 h.0 t.1 h.1)) ∙ h.2))
     by (Err OutOfMemory) t h n = absurd (n refl)
-
-pub some_same : {A : Type 0} (x y : A) → Some x ≡ Some y → x ≡ y
-some_same x y e = cc

@@ -1,6 +1,6 @@
 -- What a walk writes, piece by piece.
 use Rattle.std.proofs.Common.{◌≡◌, ℕ, zero, suc, ◌+◌, ◌-◌, ◌<◌, ◌≤◌, Bool, true, false, ◌&&◌}
-use Rattle.std.proofs.Common.{Option, Some, Result, Ok, Err, OnOk, cond, slice_get}
+use Rattle.std.proofs.Common.{Option, Some, Result, Ok, Err, OnOk, cond, inl, inr, slice_get}
 use Rattle.std.proofs.Common.{
   List,
   [],
@@ -36,7 +36,7 @@ use Rattle.tinyjson_output.proofs.Callers.{
   sent_written_then as written_then,
   sent_stops_then as stops_then,
 }
-use Rattle.tinyjson_document.specs.Cell.{IsNumberAt, Is, Are, AreMembers, IsBytes}
+use Rattle.tinyjson_document.specs.Cell.{IsKeptAt, IsShort, Is, Are, AreMembers, IsBytes}
 use Rattle.tinyjson_document.specs.Order.{part}
 use Rattle.tinyjson_document.specs.Walking.{head, IsRest, AreLeft, Advanced, AdvancesFrom, cost, rest_cost, left_cost}
 use Rattle.tinyjson_document.specs.declared.store.Span.{Span}
@@ -53,7 +53,8 @@ use Rattle.tinyjson_document.proofs.Slices.{part_empty, run_part, text_part}
 abbrev pub Seen : Store → Cell → Tree → Type 0
 Seen s node.Null t = t ≡ null
 Seen s (node.Boolean b) t = t ≡ boolean b
-Seen s (node.Number i) t = (d : _) × (t ≡ number d) × IsNumberAt s d i
+Seen s (node.Short p) t = (d : _) × (t ≡ number d) × IsShort s d p
+Seen s (node.Kept i) t = (d : _) × (t ≡ number d) × IsKeptAt s d i
 Seen s (node.String p) t = (cs : List ℕ) × (t ≡ string cs) × IsBytes cs (part s.texts.items p)
 Seen s (node.Array p) t = (ts : Items) × (t ≡ array ts) × Are s ts (part s.items.items p)
 Seen s (node.Object p) t = (ms : Members) × (t ≡ object ms) × AreMembers s ms (part s.members.items p)
@@ -61,7 +62,8 @@ Seen s (node.Object p) t = (ms : Members) × (t ≡ object ms) × AreMembers s m
 pub seen : (s : Store) (t : Tree) (n : Cell) → Is s t n → Seen s n t
 seen s null n h = subst (λ m. Seen s m null) (sym h) refl
 seen s (boolean b) n h = subst (λ m. Seen s m (boolean b)) (sym h) refl
-seen s (number d) n h = subst (λ m. Seen s m (number d)) (sym h.1) (d, refl, h.2)
+seen s (number d) n (inl h) = subst (λ m. Seen s m (number d)) (sym h.1) (d, refl, h.2)
+seen s (number d) n (inr h) = subst (λ m. Seen s m (number d)) (sym h.1) (d, refl, h.2)
 seen s (string cs) n h = subst (λ m. Seen s m (string cs)) (sym h.1) (cs, refl, text_part s cs h.0 h.2)
 seen s (array ts) n h =
     subst (λ m. Seen s m (array ts)) (sym h.1) (ts, refl, subst (Are s ts) (sym (run_part s.items.items h.0 h.2 h.3)) h.4)
@@ -169,7 +171,8 @@ cost_some : (s : Store) (f : ℕ) (n : Cell) → 0 < cost s f n
 cost_some s zero n = omega arith
 cost_some s (suc f) node.Null = omega arith
 cost_some s (suc f) (node.Boolean b) = omega arith
-cost_some s (suc f) (node.Number i) = omega arith
+cost_some s (suc f) (node.Short p) = omega arith
+cost_some s (suc f) (node.Kept i) = omega arith
 cost_some s (suc f) (node.String p) = omega arith
 cost_some s (suc f) (node.Array p) = omega arith
 cost_some s (suc f) (node.Object p) = omega arith

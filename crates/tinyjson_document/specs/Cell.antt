@@ -1,5 +1,5 @@
 -- Which tree a cell stands for, by recursion on the tree. For private contracts.
-use Rattle.std.specs.Prelude.{◌≡◌, ◌≤◌, ℕ, ◌+◌, List, [], ◌∷◌, ◌++◌, length, ⊤}
+use Rattle.std.specs.Prelude.{◌≡◌, ◌≤◌, ◌⊎◌, ℕ, ◌+◌, List, [], ◌∷◌, ◌++◌, length, ⊤}
 use Rattle.std.specs.Str.{IsUtf8, chars}
 use Rattle.tinyjson_number.specs.Canonical.{IsDecimal}
 use Rattle.tinyjson_number.specs.Decimal.{Decimal}
@@ -11,8 +11,6 @@ use Rattle.tinyjson_document.specs.declared.store.Span.{Span}
 use Rattle.tinyjson_document.specs.declared.store.Cell.{Cell}
 use Rattle.tinyjson_document.specs.declared.store.Cell.TheVariants as node
 use Rattle.tinyjson_document.specs.declared.store.Member.{Member}
-use Rattle.tinyjson_document.specs.declared.store.Number.{Number}
-use Rattle.tinyjson_document.specs.declared.store.Number.TheVariants as stored
 use Rattle.tinyjson_document.specs.declared.store.Store.{Store}
 
 -- the elements in the range
@@ -49,24 +47,15 @@ pub record IsShort (s : Store) (d : Decimal) (p : Span) : Type 0 where
   pub few : length (decimal_text d) ≤ 24
   pub canonical : IsDecimal d
 
-abbrev pub IsNumber : Store → Decimal → Number → Type 0
-IsNumber s d (stored.Short p) = IsShort s d p
-IsNumber s d (stored.Kept i) = IsKeptAt s d i
-
--- the number at the index
-pub record IsNumberAt (s : Store) (d : Decimal) (n : ℕ) : Type 0 where
-  pub front : List Number
-  pub here : Number
-  pub back : List Number
-  pub whole : s.numbers.items ≡ front ++ (here ∷ back)
-  pub place : n ≡ length front
-  pub number : IsNumber s d here
+-- the cell of a number, short or kept
+abbrev pub IsNumber : Store → Decimal → Cell → Type 0
+IsNumber s d n = ((p : Span) × (n ≡ node.Short p) × IsShort s d p) ⊎ ((i : ℕ) × (n ≡ node.Kept i) × IsKeptAt s d i)
 
 abbrev mutual
   pub Is : Store → Tree → Cell → Type 0
   Is s null n = n ≡ node.Null
   Is s (boolean b) n = n ≡ node.Boolean b
-  Is s (number d) n = (i : ℕ) × (n ≡ node.Number i) × IsNumberAt s d i
+  Is s (number d) n = IsNumber s d n
   Is s (string cs) n = (p : Span) × (n ≡ node.String p) × IsText s cs p
   Is s (array ts) n = (p : Span) × (n ≡ node.Array p) × (ns : List Cell) × IsRun s.items.items p ns × Are s ts ns
   Is s (object ms) n = (p : Span) × (n ≡ node.Object p) × (es : List Member) × IsRun s.members.items p es × AreMembers s ms es
@@ -89,7 +78,6 @@ Extends {A} xs ys = (more : List A) × (ys ≡ xs ++ more)
 
 pub record Grows (old new : Store) : Type 0 where
   pub texts : Extends old.texts.items new.texts.items
-  pub numbers : Extends old.numbers.items new.numbers.items
   pub kept : Extends old.kept.items new.kept.items
   pub items : Extends old.items.items new.items.items
   pub members : Extends old.members.items new.members.items

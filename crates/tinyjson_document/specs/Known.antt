@@ -1,6 +1,6 @@
 -- The tree that a cell stands for: there is at most one.
 use Rattle.std.specs.Prelude.{◌≡◌, ℕ, ◌+◌, List, [], ◌∷◌, ◌++◌, length, take, drop}
-use Rattle.std.proofs.Common.{Bool, true, false, true≢false, refl, sym, ◌∙◌, ap, subst, arith}
+use Rattle.std.proofs.Common.{Bool, true, false, inl, inr, true≢false, refl, sym, ◌∙◌, ap, subst, arith}
 use Rattle.std.proofs.lemmas.List.{take_at, drop_at}
 use mathlib.Core.HLevel.{Discrete, hedberg, is_prop→PathP}
 use Rattle.tinyjson.specs.Equality.{tree_eq, tree_eq_Decides, items_eq, items_eq_Decides, members_eq, members_eq_Decides}
@@ -22,10 +22,8 @@ use Rattle.tinyjson_document.specs.declared.store.Span.{Span}
 use Rattle.tinyjson_document.specs.declared.store.Cell.{Cell}
 use Rattle.tinyjson_document.specs.declared.store.Cell.TheVariants as node
 use Rattle.tinyjson_document.specs.declared.store.Member.{Member}
-use Rattle.tinyjson_document.specs.declared.store.Number.{Number}
-use Rattle.tinyjson_document.specs.declared.store.Number.TheVariants as stored
 use Rattle.tinyjson_document.specs.declared.store.Store.{Store}
-use Rattle.tinyjson_document.specs.Cell.{IsRun, IsText, IsKeptAt, IsShort, IsNumber, IsNumberAt, Is, Are, AreMembers}
+use Rattle.tinyjson_document.specs.Cell.{IsRun, IsText, IsKeptAt, IsShort, IsNumber, Is, Are, AreMembers}
 
 -- the cell stands for a tree that a value may have
 pub record Known (s : Store) (n : Cell) : Type 0 where
@@ -48,7 +46,8 @@ pub record KnownMembers (s : Store) (es : List Member) : Type 0 where
 abbrev pub kind_in : Cell → JsonKind
 kind_in node.Null = kind.Null
 kind_in (node.Boolean b) = kind.Boolean
-kind_in (node.Number i) = kind.Number
+kind_in (node.Short p) = kind.Number
+kind_in (node.Kept i) = kind.Number
 kind_in (node.String p) = kind.String
 kind_in (node.Array p) = kind.Array
 kind_in (node.Object p) = kind.Object
@@ -76,21 +75,23 @@ short_one s a b p h k =
     one_decimal power_width power_width (decimal_text b) a b
     (subst (λ t. IsNumberTextAt power_width t a) same (text_is_number power_width a h.canonical)) (text_is_number power_width b k.canonical)
 
-stored_one : (s : Store) (a b : Decimal) (n : Number) → IsNumber s a n → IsNumber s b n → a ≡ b
-stored_one s a b (stored.Short p) h k = short_one s a b p h k
-stored_one s a b (stored.Kept i) h k = kept_one s a b i h k
-
-pub number_one : (s : Store) (a b : Decimal) (i : ℕ) → IsNumberAt s a i → IsNumberAt s b i → a ≡ b
-number_one s a b i h k =
-    let rest = sym (drop_at h.front (h.here ∷ h.back) (length h.front) refl) ∙ ap (drop (length h.front)) (sym h.whole ∙ k.whole)
-    ∙ drop_at k.front (k.here ∷ k.back) (length h.front) (sym k.place ∙ h.place) in
-    let here : h.here ≡ k.here = cc in
-    stored_one s a b k.here (subst (IsNumber s a) here h.number) k.number
+number_one : (s : Store) (a b : Decimal) (n : Cell) → IsNumber s a n → IsNumber s b n → a ≡ b
+number_one s a b n (inl h) (inl k) =
+    let e = sym h.1 ∙ k.1 in
+    let p : h.0 ≡ k.0 = cc in
+    short_one s a b k.0 (subst (IsShort s a) p h.2) k.2
+number_one s a b n (inr h) (inr k) =
+    let e = sym h.1 ∙ k.1 in
+    let i : h.0 ≡ k.0 = cc in
+    kept_one s a b k.0 (subst (IsKeptAt s a) i h.2) k.2
+number_one s a b n (inl h) (inr k) = let e = sym h.1 ∙ k.1 in absurd cc
+number_one s a b n (inr h) (inl k) = let e = sym h.1 ∙ k.1 in absurd cc
 
 pub kind_is : (s : Store) (t : Tree) (n : Cell) → Is s t n → kind_in n ≡ kind_of t
 kind_is s null n h = ap kind_in h
 kind_is s (boolean b) n h = ap kind_in h
-kind_is s (number d) n h = ap kind_in h.1
+kind_is s (number d) n (inl h) = ap kind_in h.1
+kind_is s (number d) n (inr h) = ap kind_in h.1
 kind_is s (string cs) n h = ap kind_in h.1
 kind_is s (array ts) n h = ap kind_in h.1
 kind_is s (object ms) n h = ap kind_in h.1
@@ -99,10 +100,7 @@ mutual
   pub is_one : (s : Store) (t u : Tree) (n : Cell) → Is s t n → Is s u n → t ≡ u
   is_one s null null n h k = refl
   is_one s (boolean a) (boolean b) n h k = let e = sym h ∙ k in cc
-  is_one s (number a) (number b) n h k =
-      let e = sym h.1 ∙ k.1 in
-      let i : h.0 ≡ k.0 = cc in
-      ap number (number_one s a b k.0 (subst (IsNumberAt s a) i h.2) k.2)
+  is_one s (number a) (number b) n h k = ap number (number_one s a b n h k)
   is_one s (string a) (string b) n h k =
       let e = sym h.1 ∙ k.1 in
       let p : h.0 ≡ k.0 = cc in

@@ -76,7 +76,8 @@ abbrev pub cost : Store → ℕ → Cell → ℕ
 cost s zero n = 1
 cost s (suc f) node.Null = 1
 cost s (suc f) (node.Boolean b) = 1
-cost s (suc f) (node.Number i) = 1
+cost s (suc f) (node.Short p) = 1
+cost s (suc f) (node.Kept i) = 1
 cost s (suc f) (node.String p) = 1
 cost s (suc f) (node.Array p) = suc (suc (sum_by (cost s f) (part s.items.items p)))
 cost s (suc f) (node.Object p) = suc (suc (sum_by (λ e. cost s f e.value) (part s.members.items p)))

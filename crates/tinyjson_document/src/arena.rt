@@ -148,8 +148,8 @@ impl Events for Arena {
     }
 
     fn number(&mut self, value: JsonNumber) -> Result<(), AllocError> {
-        let index = self.store.add_number(value)?;
-        self.values.push(Cell::Number(index))?;
+        let number = self.store.add_number(value)?;
+        self.values.push(number)?;
         Ok(())
     }
 

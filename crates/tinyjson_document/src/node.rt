@@ -51,7 +51,7 @@ impl<'d> Node<'d> {
         match self.cell {
             Cell::Null => JsonKind::Null,
             Cell::Boolean(_) => JsonKind::Boolean,
-            Cell::Number(_) => JsonKind::Number,
+            Cell::Short(_) | Cell::Kept(_) => JsonKind::Number,
             Cell::String(_) => JsonKind::String,
             Cell::Array(_) => JsonKind::Array,
             Cell::Object(_) => JsonKind::Object,
@@ -76,7 +76,7 @@ impl<'d> Node<'d> {
     pub fn is_number(&self) -> bool
         ensures { result ≡ is_number (tree self.now) }
     {
-        matches!(self.cell, Cell::Number(_))
+        matches!(self.cell, Cell::Short(_) | Cell::Kept(_))
     }
 
     /// Whether it is a string.
@@ -123,7 +123,8 @@ impl<'d> Node<'d> {
         ensures { option_map decimal_of result ≡ number_in (tree self.now) }
     {
         match self.cell {
-            Cell::Number(index) => self.document.store.number_at(index),
+            Cell::Short(span) => self.document.store.short_number(span),
+            Cell::Kept(index) => self.document.store.kept_number(index),
             _ => None,
         }
     }

@@ -9,12 +9,12 @@ ghost use Rattle.tinyjson_grammar.specs.Tree.{Tree};
 ghost use Rattle.tinyjson_output.specs.Buffer.{buffered};
 ghost use Rattle.tinyjson_number.specs.Decimal.{Decimal};
 ghost use Rattle.tinyjson_number.specs.Text.{decimal_text};
-ghost use Rattle.tinyjson_document.specs.Cell.{Is, IsBytes, IsNumberAt};
+ghost use Rattle.tinyjson_document.specs.Cell.{Is, IsBytes, IsKeptAt};
 ghost use Rattle.tinyjson_document.specs.Walking.{holds_others};
 ghost use Rattle.tinyjson_document.specs.Order.{part};
 
 use crate::layout::quick_line;
-use crate::store::{Cell, Member, Number, Store, part};
+use crate::store::{Cell, Member, Store, part};
 use tinyjson_output::{Buffer, quick_number, quick_text, quick_word};
 
 /// Where an item or a member begins: the indent, its level, and whether it is the first one of its container.
@@ -37,26 +37,23 @@ fn quick_leaf(buffer: &mut Buffer, store: &Store, node: Cell) -> bool
         Cell::Null => quick_word(buffer, b"null"),
         Cell::Boolean(true) => quick_word(buffer, b"true"),
         Cell::Boolean(false) => quick_word(buffer, b"false"),
-        Cell::Number(index) => quick_stored(buffer, store, index),
+        Cell::Short(span) => quick_word(buffer, part(&store.texts, span)),
+        Cell::Kept(index) => quick_kept(buffer, store, index),
         Cell::String(span) => quick_text(buffer, part(&store.texts, span)),
         Cell::Array(_) => quick_word(buffer, b"[]"),
         Cell::Object(_) => quick_word(buffer, b"{}"),
     }
 }
 
-/// Appends the text of a number to the buffer if it fits, and returns whether it did.
+/// Appends the text of a kept number to the buffer if it fits, and returns whether it did.
 #[inline(always)]
-fn quick_stored(buffer: &mut Buffer, store: &Store, index: u32) -> bool
-    ensures { (d : Decimal) → IsNumberAt store.now d index → MatchBool result
+fn quick_kept(buffer: &mut Buffer, store: &Store, index: u32) -> bool
+    ensures { (d : Decimal) → IsKeptAt store.now d index → MatchBool result
         (buffered buffer.new ≡ buffered buffer.old ++ decimal_text d)
         (buffered buffer.new ≡ buffered buffer.old) }
 {
-    match store.numbers.get(index as usize) {
-        Some(Number::Short(span)) => quick_word(buffer, part(&store.texts, *span)),
-        Some(Number::Kept(index)) => match store.kept.get(*index as usize) {
-            Some(number) => quick_number(buffer, number),
-            None => false,
-        },
+    match store.kept.get(index as usize) {
+        Some(number) => quick_number(buffer, number),
         None => false,
     }
 }

@@ -2,7 +2,7 @@
 ghost use Rattle.std.specs.Prelude.{◌≡◌, ◌≤◌, ◌^◌, ◌⊎◌, ℕ, [], List, IfOk, OnOk, MatchResult, Some};
 ghost use Rattle.std.specs.Prelude.{drop, option_map, take};
 ghost use Rattle.std.specs.Str.{chars};
-ghost use Rattle.tinyjson_document.specs.Cell.{IsBytes, IsNumber, IsNumberAt, IsRun, IsShort, IsText, Grows};
+ghost use Rattle.tinyjson_document.specs.Cell.{IsBytes, IsKeptAt, IsNumber, IsRun, IsShort, IsText, Grows};
 ghost use Rattle.tinyjson_number.specs.Decimal.{Decimal};
 ghost use Rattle.tinyjson_document.specs.Numbers.{decimal_of};
 ghost use Rattle.tinyjson_document.specs.declared.store.Member.{Member};
@@ -71,17 +71,13 @@ pub fn text_at(texts: &[u8], span: Span) -> Option<&str>
 pub enum Cell {
     Null,
     Boolean(bool),
-    Number(u32),
+    /// A number whose normal text is short: the range of that text.
+    Short(Span),
+    /// Another number, by its index among those that are kept.
+    Kept(u32),
     String(Span),
     Array(Span),
     Object(Span),
-}
-
-/// A number: the range of its normal text, which is short, or its index among those that are kept whole.
-#[derive(Clone, Copy)]
-pub enum Number {
-    Short(Span),
-    Kept(u32),
 }
 
 /// How many bytes the text of a short number has at most: a number is then made of it without memory.
@@ -99,7 +95,6 @@ pub struct Member {
 pub struct Store {
     /// The characters of strings, keys and short numbers, in UTF-8.
     pub texts: Vec<u8>,
-    pub numbers: Vec<Number>,
     /// The numbers whose texts are not short.
     pub kept: Vec<JsonNumber>,
     pub items: Vec<Cell>,
@@ -111,7 +106,6 @@ impl Store {
     pub fn new(alloc: Global) -> Self {
         Store {
             texts: Vec::new(alloc),
-            numbers: Vec::new(alloc),
             kept: Vec::new(alloc),
             items: Vec::new(alloc),
             members: Vec::new(alloc),
@@ -129,52 +123,40 @@ impl Store {
         Span::new(from, self.texts.len())
     }
 
-    /// Appends the number.
-    pub fn add_number(&mut self, number: JsonNumber) -> Result<u32, AllocError>
-        ensures number { IfOk result (IsNumberAt self.new number.decimal) }
-        ensures grows { OnOk result (Grows self.old self.new) }
-    {
-        let index = place(self.numbers.len())?;
-        let number = self.stored(number)?;
-        self.numbers.push(number)?;
-        Ok(index)
-    }
-
     /// Appends the text of a short number, and keeps another one.
-    fn stored(&mut self, number: JsonNumber) -> Result<Number, AllocError>
+    pub fn add_number(&mut self, number: JsonNumber) -> Result<Cell, AllocError>
         ensures number { IfOk result (IsNumber self.new number.decimal) }
         ensures grows { OnOk result (Grows self.old self.new) }
-        ensures same { OnOk result (self.new.numbers.items ≡ self.old.numbers.items) }
     {
         let from = self.texts.len();
         if append_number(&mut self.texts, &number)? && self.texts.len() - from <= SHORT {
-            return Ok(Number::Short(Span::new(from, self.texts.len())?));
+            return Ok(Cell::Short(Span::new(from, self.texts.len())?));
         }
         let index = place(self.kept.len())?;
         self.kept.push(number)?;
-        Ok(Number::Kept(index))
+        Ok(Cell::Kept(index))
     }
 
-    /// The number at the index.
-    pub fn number_at(&self, index: u32) -> Option<NumberView<'_>>
-        ensures { (d : Decimal) → IsNumberAt self.now d index →
-            option_map decimal_of result ≡ Some d }
-    {
-        match *self.numbers.get(index as usize)? {
-            Number::Short(span) => Some(NumberView::Made(self.made(span)?)),
-            Number::Kept(index) => Some(NumberView::Kept(self.kept.get(index as usize)?)),
-        }
-    }
-
-    /// The number whose text is in the range.
-    fn made(&self, span: Span) -> Option<JsonNumber>
+    /// The short number whose text is in the range.
+    pub fn short_number(&self, span: Span) -> Option<NumberView<'_>>
         ensures { (d : Decimal) → IsShort self.now d span →
-            option_map (λ n. n.decimal) result ≡ Some d }
+            option_map decimal_of result ≡ Some d }
     {
         let Ok(text) = str::from_utf8(part(&self.texts, span)) else {
             return None;
         };
-        JsonNumber::from_text(self.alloc, text).ok()
+        match JsonNumber::from_text(self.alloc, text) {
+            Ok(number) => Some(NumberView::Made(number)),
+            Err(_) => None,
+        }
+    }
+
+    /// The number that is kept at the index.
+    pub fn kept_number(&self, index: u32) -> Option<NumberView<'_>>
+        ensures { (d : Decimal) → IsKeptAt self.now d index →
+            option_map decimal_of result ≡ Some d }
+    {
+        Some(NumberView::Kept(self.kept.get(index as usize)?))
     }
 
     /// Appends the items of an array.

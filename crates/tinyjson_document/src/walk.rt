@@ -9,7 +9,7 @@ ghost use Rattle.tinyjson_grammar.specs.Characters.{name_separator};
 ghost use Rattle.tinyjson_document.specs.declared.walk.Rest.TheVariants.{Items, Members};
 ghost use Rattle.tinyjson_number.specs.Decimal.{Decimal};
 ghost use Rattle.tinyjson_number.specs.Text.{decimal_text};
-ghost use Rattle.tinyjson_document.specs.Cell.{Is, IsBytes, IsNumberAt};
+ghost use Rattle.tinyjson_document.specs.Cell.{Is, IsBytes, IsKeptAt};
 ghost use Rattle.tinyjson_document.specs.Order.{part};
 ghost use Rattle.tinyjson_document.specs.declared.store.Store.{Store as Nodes};
 ghost use Rattle.tinyjson_document.specs.Walking.{head, holds_others, IsRest, AreLeft, Advances, Passes, cost};
@@ -19,7 +19,7 @@ ghost use Rattle.tinyjson_output.specs.Written.{WritesPrefix};
 
 use crate::layout::separate;
 use crate::quick::{Line, quick_item, quick_key, quick_member};
-use crate::store::{Cell, Member, Number, Span, Store, part};
+use crate::store::{Cell, Member, Span, Store, part};
 use std::alloc::{AllocError, Global};
 use std::io::{self, ErrorKind, Write};
 use tinyjson_output::{Buffer, flush, quick_text, quote, write_bytes, write_colon, write_number};
@@ -431,30 +431,27 @@ fn write_head<W: Write>(
         Cell::Null => write_bytes(out, buffer, b"null"),
         Cell::Boolean(true) => write_bytes(out, buffer, b"true"),
         Cell::Boolean(false) => write_bytes(out, buffer, b"false"),
-        Cell::Number(index) => write_stored(out, buffer, store, index),
+        Cell::Short(span) => write_bytes(out, buffer, part(&store.texts, span)),
+        Cell::Kept(index) => write_kept(out, buffer, store, index),
         Cell::String(span) => write_text(out, buffer, part(&store.texts, span)),
         Cell::Array(_) => write_bytes(out, buffer, b"["),
         Cell::Object(_) => write_bytes(out, buffer, b"{"),
     }
 }
 
-/// Writes the text of a number.
+/// Writes the text of a kept number.
 #[inline(always)]
-fn write_stored<W: Write>(
+fn write_kept<W: Write>(
     out: &mut W,
     buffer: &mut Buffer,
     store: &Store,
     index: u32,
 ) -> io::Result<()>
-    ensures { (d : Decimal) → IsNumberAt store.now d index
+    ensures { (d : Decimal) → IsKeptAt store.now d index
         → SendsText W.contents out.old out.new buffer.old buffer.new (decimal_text d) result }
 {
-    match store.numbers.get(index as usize) {
-        Some(Number::Short(span)) => write_bytes(out, buffer, part(&store.texts, *span)),
-        Some(Number::Kept(index)) => match store.kept.get(*index as usize) {
-            Some(number) => write_number(out, buffer, number),
-            None => Err(io::Error::from(ErrorKind::InvalidData)),
-        },
+    match store.kept.get(index as usize) {
+        Some(number) => write_number(out, buffer, number),
         None => Err(io::Error::from(ErrorKind::InvalidData)),
     }
 }

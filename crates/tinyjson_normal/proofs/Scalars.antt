@@ -1,5 +1,5 @@
 -- The characters of the text of a tree in an arena are scalar values.
-use Rattle.std.proofs.Common.{ℕ, ◌+◌, Bool, true, false, List, [], ◌∷◌, ◌++◌, Option, IfSome, refl, sym, subst}
+use Rattle.std.proofs.Common.{ℕ, ◌+◌, Bool, true, false, List, [], ◌∷◌, ◌++◌, Option, IfSome, inl, inr, refl, sym, subst}
 use Rattle.std.proofs.lemmas.Str.{scalars-chars}
 use Rattle.tinyjson.proofs.Callers.{text_of_scalars}
 use Rattle.tinyjson.proofs.Callers.Laws.{AreScalars, scalars_append, before_scalars, closing_scalars, colon_scalars}
@@ -15,8 +15,6 @@ use Rattle.tinyjson_normal.specs.declared.normal.Content.{Content}
 use Rattle.tinyjson_normal.specs.declared.normal.Content.TheVariants as content
 use Rattle.tinyjson_document.specs.declared.store.Member.{Member}
 use Rattle.tinyjson_document.specs.declared.store.Cell.{Cell}
-use Rattle.tinyjson_document.specs.declared.store.Number.{Number}
-use Rattle.tinyjson_document.specs.declared.store.Number.TheVariants as stored
 use Rattle.tinyjson_document.specs.declared.store.Span.{Span}
 use Rattle.tinyjson_document.specs.declared.store.Store.{Store}
 
@@ -26,17 +24,16 @@ module _ (w : Option (List ℕ)) (indent : IfSome w AreScalars) (s : Store) wher
   quoted_scalars cs p h =
       text_of_scalars w indent 0 (string cs) (subst AreScalars (sym h.characters) (scalars-chars h.bytes h.utf8))
 
-  number_canonical : (d : Decimal) (n : Number) → IsNumber s d n → IsDecimalAt power_width d
-  number_canonical d (stored.Short p) h = h.canonical
-  number_canonical d (stored.Kept i) h = subst (IsDecimalAt power_width) h.decimal h.here.canonical
+  number_canonical : (d : Decimal) (n : Cell) → IsNumber s d n → IsDecimalAt power_width d
+  number_canonical d n (inl h) = h.2.canonical
+  number_canonical d n (inr h) = subst (IsDecimalAt power_width) h.2.decimal h.2.here.canonical
 
   mutual
     pub normal_scalars : (k : ℕ) (t : Tree) (n : Cell) → Is s t n → AreScalars (text w k t)
     normal_scalars k null n h = refl
     normal_scalars k (boolean true) n h = refl
     normal_scalars k (boolean false) n h = refl
-    normal_scalars k (number d) n h =
-        text_of_scalars w indent k (number d) (number_canonical d h.2.here h.2.number)
+    normal_scalars k (number d) n h = text_of_scalars w indent k (number d) (number_canonical d n h)
     normal_scalars k (string cs) n h = quoted_scalars cs h.0 h.2
     normal_scalars k (array ts) n h = scalars_append (items_text w (k + 1) true ts) _ (items_scalars (k + 1) true ts h.2 h.4)
         (closing_scalars w indent k (has_no_items ts) 93 refl)

@@ -1,6 +1,6 @@
 use Rattle.std.proofs.Common.{◌≡◌, ◌∙◌, true, false, ap, rules}
 use Rattle.tinyjson_document.specs.Order.{part}
-use Rattle.tinyjson_document.proofs.Buffering.{same_bytes, null_is, true_is, false_is, number_is, string_is, array_is, object_is}
+use Rattle.tinyjson_document.proofs.Buffering.{same_bytes, null_is, true_is, false_is, short_is, kept_at, string_is, array_is, object_is}
 use Rattle.tinyjson_document.proofs.quick.quick_leaf.Goals as goal
 
 pub returns-in-Null : goal.returns-in-Null
@@ -19,14 +19,20 @@ returns-in-Boolean-false c = λ w k t e h.
     same_bytes c.quick_word-in-Boolean-false.result _ _ _ _ (false_is w k c.args.store.now t c.args.node _ c.in-Boolean-false.is b h)
     c.quick_word-in-Boolean-false.ensures
 
-pub returns-in-Number : goal.returns-in-Number
-returns-in-Number c = λ w k t e h.
-    let v = number_is w k c.args.store.now t c.args.node c.in-Number.index c.in-Number.is h in
-    same_bytes c.quick_stored.result _ _ _ _ v.2 (c.quick_stored.ensures v.0 v.1)
+pub returns-in-Short : goal.returns-in-Short
+returns-in-Short c = λ w k t e h.
+    let is = c.part.ensures ∙ ap (λ z. part z c.in-Short.span) c.deref.ensures.value in
+    same_bytes c.quick_word-in-Short.result _ _ _ _ (short_is w k c.args.store.now t c.args.node _ _ c.in-Short.is is h)
+    c.quick_word-in-Short.ensures
+
+pub returns-in-Kept : goal.returns-in-Kept
+returns-in-Kept c = λ w k t e h.
+    let v = kept_at w k c.args.store.now t c.args.node c.in-Kept.index c.in-Kept.is h in
+    same_bytes c.quick_kept.result _ _ _ _ v.2 (c.quick_kept.ensures v.0 v.1)
 
 pub returns-in-String : goal.returns-in-String
 returns-in-String c = λ w k t e h.
-    let is = c.part.ensures ∙ ap (λ z. part z c.in-String.span) c.deref.ensures.value in
+    let is = c.part-in-String.ensures ∙ ap (λ z. part z c.in-String.span) c.deref-in-String.ensures.value in
     same_bytes c.quick_text.result _ _ _ _ (string_is w k c.args.store.now t c.args.node _ _ c.in-String.is is h) c.quick_text.ensures
 
 pub returns-in-Array : goal.returns-in-Array
