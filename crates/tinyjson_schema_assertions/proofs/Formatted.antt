@@ -29,7 +29,8 @@ pub formatted : (name : String Global) (bs cs : List ℕ) (o : Option Format) �
     → option_map_or (λ f. format.accepts f cs) o true ≡ has_format (string (text name)) (string (chars cs))
 formatted name bs cs o b u h =
     ap (λ x. option_map_or (λ f. format.accepts f cs) x true) (h ∙ ap format.format_named (text_bytes name bs b))
-    ∙ ap (λ xs. option_map_or (λ f. format.accepts f xs) (format.format_named (encode_utf8_all (text name))) true) (sym (encodes-chars cs u))
+    ∙ ap (λ xs. option_map_or (λ f. format.accepts f xs) (format.format_named (encode_utf8_all (text name))) true)
+    (sym (encodes-chars cs u))
 
 -- ---- names
 

@@ -1,5 +1,6 @@
 -- The normal texts of the values that came before.
-use Rattle.std.proofs.Common.{◌≡◌, ◌∷◌, [], ℕ, ◌<◌, ◌+◌, Bool, true, false, not, ◌&&◌, ◌||◌, cond, List, String, Global, string_bytes, bytes_eq}
+use Rattle.std.proofs.Common.{◌≡◌, ◌∷◌, [], ℕ, ◌<◌, ◌+◌, Bool, true, false, not, ◌&&◌, ◌||◌, cond, List, String, Global, string_bytes}
+use Rattle.std.proofs.Common.{bytes_eq}
 use Rattle.std.proofs.Common.{encode_utf8_all, drop, get_or, length, refl, sym, ap, ◌∙◌}
 use Rattle.std.proofs.lemmas.Map.Text.{btree_set_updates_text}
 use Rattle.std.specs.BTreeSet as sorted

@@ -18,7 +18,8 @@ named k t old new a h = h ∙ ap (λ l. put l t old) (chars_literal k a)
 
 -- each member is put to those before it
 all_put : Option ℕ → Finding → Members
-all_put line f = put (codes "valid") (boolean false) (with_line line (put (codes "keywordLocation") (place_tree f.violation.keyword_location)
+all_put line f = put (codes "valid") (boolean false)
+    (with_line line (put (codes "keywordLocation") (place_tree f.violation.keyword_location)
     (put (codes "instanceLocation") (place_tree f.violation.instance_location) (put (codes "error") (string (text f.words)) no_members))))
 
 made : (line : Option ℕ) (f : Finding) → object (all_put line f) ≡ report_tree line f

@@ -10,7 +10,8 @@ use Rattle.tinyjson_schema_words.specs.Ends.{At, ends_at, goes_on, keyword_in, v
 
 module _ (root : Tree) (ts : List (String Global)) (i : ℕ) (at : At) (whole : Option At) where
   split : (x : String Global) → i < length ts → x ≡ get_or ts i x
-      → ends_at root at (map text (drop i ts)) ≡ option_and_then (λ n. ends_at root n (map text (drop (i + 1) ts))) (goes_on root at (text x))
+      → ends_at root at (map text (drop i ts))
+      ≡ option_and_then (λ n. ends_at root n (map text (drop (i + 1) ts))) (goes_on root at (text x))
   split x h e = ap (λ xs. ends_at root at (map text xs)) (drop_item ts i x h e)
 
   pub led_on : (x : String Global) (next : At) → i < length ts → x ≡ get_or ts i x → Some next ≡ goes_on root at (text x)

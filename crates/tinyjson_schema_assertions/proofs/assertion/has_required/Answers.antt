@@ -9,4 +9,5 @@ returns-in-Object c = c.has_keys.ensures
     ∙ keys_required (view c.args.keys.now) (tree_of c.args.value.now) (sym c.in-Object.is ∙ c.kind.ensures)
 
 pub returns-in_default : goal.returns-in_default
-returns-in_default c = none_required (view c.args.keys.now) (tree_of c.args.value.now) (λ e. c.in_default.not-Object (c.kind.ensures ∙ sym e))
+returns-in_default c = none_required (view c.args.keys.now) (tree_of c.args.value.now)
+    (λ e. c.in_default.not-Object (c.kind.ensures ∙ sym e))

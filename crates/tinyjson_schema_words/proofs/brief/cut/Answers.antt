@@ -18,7 +18,8 @@ loop-c-preserved c =
     let parts = c.in-Some.ensures.steps.0 in
     let x = c.in-Some.c in (
       IsUtf8-past_char _ _ x held.0 parts,
-      one_more _ _ _ x c.loop-c.left c.in-Some-checked_sub.less _ _ (omega (arith, c.in-Some-checked_sub.ensures)) (chars_past_char _ _ x held.0 parts)
+      one_more _ _ _ x c.loop-c.left c.in-Some-checked_sub.less _ _ (omega (arith, c.in-Some-checked_sub.ensures))
+          (chars_past_char _ _ x held.0 parts)
           c.in_ok-push.ensures.bytes held.1,
     )
 

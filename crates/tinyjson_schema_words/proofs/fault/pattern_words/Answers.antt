@@ -15,5 +15,6 @@ returns c =
     let text = c.as_str-2.ensures.value ∙ (c.in_ok-text.ensures ∙ ap brief value) in
     let found = c.construct_of-found.ensures ∙ ap (construct_of c.args.error.kind) (c.as_str.ensures.value ∙ c.in_ok-rest.ensures) in
     subst (λ x. IfOk c.format.result (λ s. string_bytes s ≡ x))
-    (ap₂ (λ t f. codes "must be a pattern, is " ++ (t ++ (codes ": " ++ (f ++ (codes " at character " ++ decimal c.args.error.place))))) text found)
+    (ap₂ (λ t f. codes "must be a pattern, is " ++ (t ++ (codes ": " ++ (f ++ (codes " at character " ++ decimal c.args.error.place)))))
+    text found)
     c.format.ensures.ok
