@@ -3,7 +3,8 @@ ghost use Rattle.std.specs.Prelude.{◌≡◌, ◌∷◌, [], encode_utf8_all};
 ghost use Rattle.std.specs.Str.{chars};
 ghost use Rattle.tinyjson.specs.Written.{WritesPrefix};
 ghost use Rattle.json_path.specs.Shapes.{layout_text, line_of, lines_of, raw_text, shape_text};
-ghost use Rattle.tinyjson_path.specs.Nodes.{path_view, part_view, parts_view, tree_of};
+ghost use Rattle.tinyjson_path.specs.Nodes.{path_view, part_view, parts_view};
+ghost use Rattle.tinyjson_path.specs.Views.{tree_of};
 ghost use Rattle.tinyjson_path.specs.Paths.{path_text};
 
 use crate::selected::{Layout, Shape};
@@ -11,7 +12,7 @@ use std::alloc::Global;
 use std::io::{self, Write};
 use tinyjson_document::JsonView;
 use tinyjson_lines::write_all;
-use tinyjson_path::{Location, Node, NodeValue, path_text};
+use tinyjson_path::{Location, Node, ValueView, path_text};
 
 /// Writes a line for each node.
 pub fn write_lines<W: Write>(
@@ -50,7 +51,7 @@ fn write_node<W: Write>(alloc: Global, node: &Node, shape: Shape, output: &mut W
 
 fn write_raw<W: Write>(
     alloc: Global,
-    value: &NodeValue<'_>,
+    value: &ValueView<'_>,
     layout: Layout,
     output: &mut W,
 ) -> io::Result<()>
@@ -65,7 +66,7 @@ fn write_raw<W: Write>(
 
 fn write_text<W: Write>(
     alloc: Global,
-    value: &NodeValue<'_>,
+    value: &ValueView<'_>,
     layout: Layout,
     output: &mut W,
 ) -> io::Result<()>

@@ -4,7 +4,8 @@ ghost use Rattle.tinyjson.specs.Text.{compact};
 ghost use Rattle.tinyjson.specs.View.{view};
 ghost use Rattle.tinyjson_c.specs.Select.{FindsIn, FindsInText, IsReadQuery, IsUnselected, Selects};
 ghost use Rattle.tinyjson_c.specs.Select.{part_line, part_lines, unselected_place, unselected_status};
-ghost use Rattle.tinyjson_path.specs.Nodes.{Part, part_view, parts_view, path_view, tree_of};
+ghost use Rattle.tinyjson_path.specs.Nodes.{Part, part_view, parts_view, path_view};
+ghost use Rattle.tinyjson_path.specs.Views.{tree_of};
 ghost use Rattle.tinyjson_path.specs.Paths.{path_text};
 
 use crate::place::TinyjsonPlace;
@@ -14,7 +15,7 @@ use crate::value::read;
 use std::alloc::{AllocError, Global};
 use std::str;
 use tinyjson::JsonValue;
-use tinyjson_path::{FindError, Location, Node, NodeValue, ParseErrorKind, Query, find, path_text};
+use tinyjson_path::{FindError, Location, Node, ParseErrorKind, Query, ValueView, find, path_text};
 
 /// Why nothing is selected.
 #[derive(Clone, Copy)]
@@ -164,7 +165,7 @@ fn push_line(
 }
 
 /// Appends the normal form of the value of a node.
-fn push_value(alloc: Global, value: &NodeValue, written: &mut Vec<u8>) -> Result<(), AllocError>
+fn push_value(alloc: Global, value: &ValueView, written: &mut Vec<u8>) -> Result<(), AllocError>
     ensures { OnOk result (written.new.items
         ≡ written.old.items ++ encode_utf8_all (compact (tree_of value.now))) }
 {

@@ -1,3 +1,3 @@
 -- For proofs of callers: that the answers for patterns are right, and loops over nodes.
-pub use Rattle.tinyjson_path.proofs.Items.{drop_at}
 pub use Rattle.tinyjson_path.proofs.Judging.{judged_right}
+pub use Rattle.tinyjson_view.proofs.Callers.{drop_at}

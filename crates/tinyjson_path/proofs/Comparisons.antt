@@ -4,7 +4,6 @@ use Rattle.std.proofs.lemmas.Str.{encodes-chars}
 use Rattle.std.specs.Cmp.Lexicographic.{slice_cmp}
 use Rattle.std.specs.Ordering.{nat_cmp, is_lt}
 use Rattle.std.specs.Str.{IsUtf8, chars}
-use Rattle.tinyjson.specs.Equality.{tree_eq, tree_eq_Decides}
 use Rattle.tinyjson.specs.Tree.{Tree, null, boolean, number, string, array, object, key_cmp, Items, no_items, Members, no_members}
 use Rattle.tinyjson.specs.View.{view}
 use Rattle.tinyjson.specs.declared.value.JsonValue.{JsonValue}
@@ -16,17 +15,6 @@ use Rattle.tinyjson_path.specs.Comparing.{size_of, is_tree_less}
 use Rattle.tinyjson_path.specs.Nodes.{Step, Part, items_from, members_at, children}
 use Rattle.tinyjson_path.specs.Seen.{numbers_less, texts_less}
 use Rattle.tinyjson_path.specs.Selecting.{items_in}
-
--- ---- equality
-
-pub tree_eq_sym : (t u : Tree) → tree_eq t u ≡ tree_eq u t
-tree_eq_sym t u = by (tree_eq t u) (tree_eq u t) refl refl
-  where
-    by : (a b : Bool) → tree_eq t u ≡ a → tree_eq u t ≡ b → a ≡ b
-    by true true e h = refl
-    by false false e h = refl
-    by true false e h = sym ((tree_eq_Decides u t).1 (sym ((tree_eq_Decides t u).0 e))) ∙ h
-    by false true e h = sym e ∙ (tree_eq_Decides t u).1 (sym ((tree_eq_Decides u t).0 h))
 
 -- ---- the order
 

@@ -6,12 +6,13 @@ use Rattle.std.specs.Prelude.{IsErrAnd, IfErr, IfOk}
 use Rattle.tinyjson.specs.Tree.{Tree}
 use Rattle.tinyjson_path.specs.Answers.{answer_of, found_view}
 use Rattle.tinyjson_path.specs.Comparing.{origin_tree}
-use Rattle.tinyjson_path.specs.Nodes.{Part, part_view, parts_view, tree_of}
+use Rattle.tinyjson_path.specs.Nodes.{Part, part_view, parts_view}
+use Rattle.tinyjson_view.specs.Views.{tree_of}
 use Rattle.tinyjson_path.specs.Queries.{found_by, filter_parts, comparable_value}
 use Rattle.tinyjson_path.specs.Strings.{Texts, joined, strings_in, strings_at, strings_of, comparable_strings, IsFrom, IsFromAny}
 use Rattle.tinyjson_path.specs.declared.answers.Found.{Found}
 use Rattle.tinyjson_path.specs.declared.node.Node.{Node}
-use Rattle.tinyjson_path.specs.declared.value.NodeValue.{NodeValue}
+use Rattle.tinyjson_view.specs.declared.view.ValueView.{ValueView}
 use Rattle.tinyjson_path.specs.declared.patterns.FindError.{FindError}
 use Rattle.tinyjson_path.proofs.Stated.{comparable_keeps}
 use Rattle.tinyjson_path.proofs.Selected.{AreWithin, are_within, is_origin}
@@ -121,7 +122,7 @@ error_of_root whole part root r e k =
     k
 
 -- of a root that is the same
-pub error_at : (part below : Texts) (d : FindError) {r s : NodeValue} → r ≡ s → IsFromAny part (tree_of r) below d
+pub error_at : (part below : Texts) (d : FindError) {r s : ValueView} → r ≡ s → IsFromAny part (tree_of r) below d
     → IsFromAny part (tree_of s) below d
 error_at part below d e k = subst (λ x. IsFromAny part (tree_of x) below d) e k
 

@@ -1,25 +1,12 @@
 -- Loops over the items of an array, by what is left to do.
-use Rattle.std.proofs.Common.{◌≡◌, ℕ, zero, suc, ◌+◌, ◌<◌, ◌≤◌, Bool, true, false, cond, List, [], ◌∷◌, ◌++◌, reverse, drop, length, get_or}
+use Rattle.std.proofs.Common.{◌≡◌, ℕ, zero, suc, ◌+◌, ◌≤◌, Bool, true, false, cond, List, [], ◌∷◌, ◌++◌, reverse}
 use Rattle.std.proofs.Common.{Option, Some, None, refl, sym, ap, ◌∙◌, arith, append_assoc, append-nil}
-use Rattle.std.proofs.Math.Seq.{drop-cons}
 use Rattle.std.proofs.lemmas.List.{reverse-append}
 use Rattle.tinyjson.specs.Index.{nth, tree_at, item_count}
 use Rattle.tinyjson.specs.Tree.{Tree, null, boolean, number, string, array, object, Items, no_items, item}
 use Rattle.tinyjson_document.specs.Parts.{items_in as listed_items, size}
 use Rattle.tinyjson_path.specs.Nodes.{Step, at_index, Part, items_from}
 use Rattle.tinyjson_path.specs.Selecting.{one_below, taken}
-
--- the element that a loop is at
-pub drop_at : {A : Type 0} (xs : List A) (i : ℕ) (x : A) → i < length xs → x ≡ get_or xs i x → drop i xs ≡ x ∷ drop (i + 1) xs
-drop_at xs i x h e =
-    drop-cons xs i x h
-    ∙ (ap (λ z. z ∷ drop (suc i) xs) (sym e) ∙ (let more : suc i ≡ i + 1 = omega arith in ap (λ j. x ∷ drop j xs) more))
-
-pub drop_past : {A : Type 0} (xs : List A) (i : ℕ) → length xs ≤ i → drop i xs ≡ []
-drop_past [] zero h = refl
-drop_past [] (suc i) h = refl
-drop_past (y ∷ ys) zero h = absurd (omega arith)
-drop_past (y ∷ ys) (suc i) h = drop_past ys i (omega arith)
 
 -- ---- the items from an index on, and those before it
 

@@ -11,7 +11,7 @@ use Rattle.tinyjson_path.specs.Waiting.{Wait, waits_view, rest_of, waits_at, wai
 use Rattle.tinyjson_path.specs.declared.children.Wanted.TheVariants.{Containers}
 use Rattle.tinyjson_path.specs.declared.node.Node.{Node}
 use Rattle.tinyjson_path.specs.declared.select.Waiting.{Waiting}
-use Rattle.tinyjson_path.proofs.Items.{drop_at}
+use Rattle.tinyjson_view.proofs.Callers.{drop_at}
 use Rattle.tinyjson_path.proofs.Parts.{each_append, each_of_each, visited_of, visited_is}
 use Rattle.tinyjson_path.proofs.Selected.{AreWithin, are_both, are_first, are_last}
 use Rattle.tinyjson_path.proofs.Stated.{segment_keeps}

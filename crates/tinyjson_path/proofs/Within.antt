@@ -5,12 +5,12 @@ use Rattle.std.proofs.lemmas.List.Elements.{Contains-append_left, Contains-appen
 use Rattle.std.specs.Prelude.{Contains, flat_map, IsErrAnd, IfErr}
 use Rattle.tinyjson.specs.Tree.{Tree, null, boolean, number, string, array, object}
 use Rattle.tinyjson_document.specs.Parts.{string_in}
-use Rattle.tinyjson_path.specs.Nodes.{tree_of}
+use Rattle.tinyjson_view.specs.Views.{tree_of}
 use Rattle.tinyjson_path.specs.Seen.{value_tree}
 use Rattle.tinyjson_path.specs.Strings.{Texts, strings_in, strings_at, IsFrom}
 use Rattle.tinyjson_path.specs.declared.patterns.FindError.{FindError}
 use Rattle.tinyjson_path.specs.declared.patterns.FindError.TheVariants.{Pattern, OutOfMemory}
-use Rattle.tinyjson_path.specs.declared.value.NodeValue.{NodeValue}
+use Rattle.tinyjson_view.specs.declared.view.ValueView.{ValueView}
 
 -- each of the first stands among the second
 abbrev pub Within : Texts → Texts → Type 0
@@ -104,6 +104,6 @@ text_within (string ds) cs e = within_same (cs ∷ []) (ds ∷ []) (let same : c
 text_within _ cs e = absurd cc
 
 -- a value that there is
-pub value_within : (o : Option NodeValue) (t : Option Tree) (v : NodeValue) → value_tree o ≡ t → o ≡ Some v
+pub value_within : (o : Option ValueView) (t : Option Tree) (v : ValueView) → value_tree o ≡ t → o ≡ Some v
     → Within (strings_in (tree_of v)) (strings_at t)
 value_within o t v h e = within_same (strings_in (tree_of v)) (strings_at t) (ap strings_at (sym (ap value_tree e) ∙ h))

@@ -18,6 +18,8 @@ pub use Rattle.tinyjson_path_query.specs.Refusing
 pub use Rattle.tinyjson_path_query.specs.declared.error.ParseError
 pub use Rattle.tinyjson_path_query.specs.declared.error.ParseErrorKind
 pub use Rattle.tinyjson_path_query.specs.declared.query.Query
+-- and the trees of values, from `tinyjson_view`
+pub use Rattle.tinyjson_view.specs.Views
 -- for private contracts
 pub mod Answers
 pub mod Seen

@@ -2,12 +2,9 @@
 use Rattle.std.specs.Prelude.{ℕ, ◌+◌, List, [], ◌∷◌, ◌++◌, map}
 use Rattle.tinyjson.specs.Tree.{Tree, null, boolean, number, string, array, object, Items, no_items, item, Members, no_members, member}
 use Rattle.std.specs.Str.{chars}
-use Rattle.tinyjson.specs.View.{view}
-use Rattle.tinyjson_document.specs.Document.{tree as node_tree}
 use Rattle.tinyjson_path.specs.declared.node.Location.{Location, fold-Location, Location-F}
 use Rattle.tinyjson_path.specs.declared.node.Node.{Node}
-use Rattle.tinyjson_path.specs.declared.value.NodeValue.{NodeValue}
-use Rattle.tinyjson_path.specs.declared.value.NodeValue.TheVariants.{InDocument, InValue}
+use Rattle.tinyjson_view.specs.Views.{tree_of}
 
 -- a step to a member or to an item
 pub data Step : Type 0 where
@@ -58,11 +55,6 @@ abbrev mutual
   visited_members path (member k t ms) = visited (path ++ at_key k ∷ []) t ++ visited_members path ms
 
 -- ---- the view of the code's nodes
-
--- the tree of a node's value
-abbrev pub tree_of : NodeValue → Tree
-tree_of (InDocument n) = node_tree n
-tree_of (InValue v) = view v.now
 
 abbrev pub path_step : Location-F (List Step) → List Step
 path_step Location-F.Root = []

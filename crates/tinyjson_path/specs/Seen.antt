@@ -7,14 +7,15 @@ use Rattle.tinyjson.specs.Tree.{Tree, key_cmp}
 use Rattle.tinyjson.specs.View.{view}
 use Rattle.tinyjson_compare.specs.Order.{is_less}
 use Rattle.tinyjson.specs.Number.{Decimal}
-use Rattle.tinyjson_path.specs.Nodes.{Step, at_key, at_index, tree_of}
+use Rattle.tinyjson_path.specs.Nodes.{Step, at_key, at_index}
+use Rattle.tinyjson_view.specs.Views.{tree_of}
 use Rattle.tinyjson_path.specs.declared.operand.Operand.{Operand}
 use Rattle.tinyjson_path.specs.declared.operand.Operand.TheVariants.{Part, Own}
 use Rattle.tinyjson_path.specs.declared.path.Step as last
 use Rattle.tinyjson_path.specs.declared.path.Step.TheVariants.{Name, Index}
 use Rattle.tinyjson_path.specs.declared.slice.Steps.{Steps}
 use Rattle.tinyjson_path.specs.declared.slice.Steps.TheVariants.{Up, Down}
-use Rattle.tinyjson_path.specs.declared.value.NodeValue.{NodeValue}
+use Rattle.tinyjson_view.specs.declared.view.ValueView.{ValueView}
 
 -- the direction and the size of a slice's steps; up by one if there is no step
 abbrev pub steps_of : Option ℤ → Steps
@@ -31,7 +32,7 @@ abbrev pub operand_tree : Operand → Tree
 operand_tree (Part v) = tree_of v
 operand_tree (Own b) = view (box_value b)
 
-abbrev pub value_tree : Option NodeValue → Option Tree
+abbrev pub value_tree : Option ValueView → Option Tree
 value_tree o = option_map tree_of o
 
 -- ---- the order of numbers and of strings, which there may not be

@@ -8,14 +8,14 @@ ghost use Rattle.tinyjson_path.specs.Queries.{found_by};
 use crate::node::Node;
 use crate::operand::only_value;
 use crate::same::are_same;
-use crate::value::NodeValue;
 use tinyjson_path_query::Segment;
+use tinyjson_view::ValueView;
 
 /// What filters ask of nodes: how many there are, and the value of the only one.
 #[derive(Clone, Copy)]
 pub(crate) struct Found<'v> {
     pub(crate) count: usize,
-    pub(crate) only: Option<NodeValue<'v>>,
+    pub(crate) only: Option<ValueView<'v>>,
 }
 
 /// What the segments select from the root.

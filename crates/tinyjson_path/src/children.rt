@@ -6,7 +6,8 @@ ghost use Rattle.tinyjson.specs.View.{members_listed};
 ghost use Rattle.tinyjson_document.specs.Document.{members_left};
 ghost use Rattle.tinyjson_document.specs.Parts.{items_in as items_of, members_in};
 ghost use Rattle.tinyjson_path.specs.Comparing.{one_child};
-ghost use Rattle.tinyjson_path.specs.Nodes.{at_key, at_index, path_of, parts_view, tree_of};
+ghost use Rattle.tinyjson_path.specs.Nodes.{at_key, at_index, path_of, parts_view};
+ghost use Rattle.tinyjson_view.specs.Views.{tree_of};
 ghost use Rattle.tinyjson_path.specs.Nodes.{items_from, members_at, children};
 ghost use Rattle.tinyjson_path.specs.Queries.{kept};
 ghost use Rattle.tinyjson_path.specs.Selecting.{one_below, by_name, by_index, by_slice, taken};
@@ -17,11 +18,11 @@ ghost use Rattle.tinyjson_path.specs.declared.children.Wanted.TheVariants.{Conta
 
 use crate::node::Node;
 use crate::slice::{Bounds, Steps, bound, bound_after, is_down, is_up, place, steps_of};
-use crate::value::NodeValue;
 use std::alloc::{AllocError, Global};
 use tinyjson::{JsonKind, JsonValue, sorted_members};
 use tinyjson_document::{JsonView, Members};
 use tinyjson_path_query::SingularSegment;
+use tinyjson_view::ValueView;
 
 /// Which children are wanted.
 #[derive(Clone, Copy)]
@@ -31,7 +32,7 @@ pub(crate) enum Wanted {
     Containers,
 }
 
-fn wants(wanted: Wanted, value: &NodeValue<'_>) -> bool
+fn wants(wanted: Wanted, value: &ValueView<'_>) -> bool
     ensures { result ≡ wants wanted (tree_of value.now) }
 {
     match wanted {
@@ -98,12 +99,12 @@ fn push_members<'v>(
         (members_at (path_of node.now) (members_in (tree_of node.now.value)))) }
 {
     match node.value {
-        NodeValue::InDocument(value) => push_ordered(alloc, node, value.members(), wanted, nodes),
-        NodeValue::InValue(JsonValue::Object(members)) => {
+        ValueView::InDocument(value) => push_ordered(alloc, node, value.members(), wanted, nodes),
+        ValueView::InValue(JsonValue::Object(members)) => {
             let sorted = sorted_members(alloc, members)?;
             push_sorted(alloc, node, sorted.as_slice(), wanted, nodes)
         }
-        NodeValue::InValue(_) => Ok(()),
+        ValueView::InValue(_) => Ok(()),
     }
 }
 
@@ -123,7 +124,7 @@ fn push_ordered<'v>(
             alloc,
             node,
             name,
-            NodeValue::InDocument(value),
+            ValueView::InDocument(value),
             wanted,
             nodes,
         )?;
@@ -147,7 +148,7 @@ fn push_sorted<'v>(
             alloc,
             node,
             member.0.as_str(),
-            NodeValue::InValue(member.1),
+            ValueView::InValue(member.1),
             wanted,
             nodes,
         )?;
@@ -160,7 +161,7 @@ fn push_member_if<'v>(
     alloc: Global,
     node: &Node<'v>,
     name: &'v str,
-    value: NodeValue<'v>,
+    value: ValueView<'v>,
     wanted: Wanted,
     nodes: &mut Vec<Node<'v>>,
 ) -> Result<(), AllocError>
@@ -179,7 +180,7 @@ fn push_member<'v>(
     alloc: Global,
     node: &Node<'v>,
     name: &'v str,
-    value: NodeValue<'v>,
+    value: ValueView<'v>,
     nodes: &mut Vec<Node<'v>>,
 ) -> Result<(), AllocError>
     ensures { OnOk result (parts_view nodes.new.items ≡ parts_view nodes.old.items
@@ -274,7 +275,7 @@ pub(crate) fn push_indexed<'v>(
 }
 
 /// The number of items of an array; 0 for other values.
-fn item_count<'v>(value: NodeValue<'v>) -> usize
+fn item_count<'v>(value: ValueView<'v>) -> usize
     ensures { result ≡ items_in (tree_of value.entry) }
 {
     match value.kind() {
@@ -286,8 +287,8 @@ fn item_count<'v>(value: NodeValue<'v>) -> usize
 /// The child that a segment of a singular query selects, if there is one.
 pub(crate) fn one_child<'v>(
     segment: &SingularSegment,
-    value: NodeValue<'v>,
-) -> Option<NodeValue<'v>>
+    value: ValueView<'v>,
+) -> Option<ValueView<'v>>
     ensures { option_map tree_of result ≡ one_child segment.now (tree_of value.entry) }
 {
     match segment {
@@ -296,7 +297,7 @@ pub(crate) fn one_child<'v>(
     }
 }
 
-fn child_at<'v>(value: NodeValue<'v>, index: i64) -> Option<NodeValue<'v>>
+fn child_at<'v>(value: ValueView<'v>, index: i64) -> Option<ValueView<'v>>
     ensures { option_map tree_of result
         ≡ tree_at_place (tree_of value.entry) (place_of index (items_in (tree_of value.entry))) }
 {

@@ -16,11 +16,10 @@ mod patterns;
 mod same;
 mod select;
 mod slice;
-mod value;
 
 pub use node::{Location, Node};
 pub use path::path_text;
 pub use patterns::{FindError, PatternLimit};
 pub use select::{find, find_in};
 pub use tinyjson_path_query::{ParseError, ParseErrorKind, Query};
-pub use value::NodeValue;
+pub use tinyjson_view::ValueView;

@@ -2,11 +2,11 @@
 ghost use Rattle.std.specs.Prelude.{◌≡◌, ◌++◌, ◌∷◌, [], IfOk};
 ghost use Rattle.std.specs.Str.{chars};
 ghost use Rattle.tinyjson_path.specs.Nodes.{at_key, at_index, path_of, part_view, root_part, below};
-ghost use Rattle.tinyjson_path.specs.Nodes.{tree_of};
+ghost use Rattle.tinyjson_view.specs.Views.{tree_of};
 
-use crate::value::NodeValue;
 use std::alloc::{AllocError, Global};
 use std::rc::Rc;
+use tinyjson_view::ValueView;
 
 /// The place of a node in the queried value, as its normalized path (RFC 9535, 2.7). It shares the path of its
 /// parent.
@@ -37,11 +37,11 @@ impl Drop for Location<'_> {
 #[derive(Drop)]
 pub struct Node<'v> {
     pub location: Rc<Location<'v>>,
-    pub value: NodeValue<'v>,
+    pub value: ValueView<'v>,
 }
 
 impl<'v> Node<'v> {
-    pub(crate) fn root(alloc: Global, value: NodeValue<'v>) -> Result<Node<'v>, AllocError>
+    pub(crate) fn root(alloc: Global, value: ValueView<'v>) -> Result<Node<'v>, AllocError>
         ensures { IfOk result (λ n. part_view n ≡ root_part (tree_of value.entry)) }
     {
         Ok(Node {
@@ -55,7 +55,7 @@ impl<'v> Node<'v> {
         &self,
         alloc: Global,
         name: &'v str,
-        value: NodeValue<'v>,
+        value: ValueView<'v>,
     ) -> Result<Node<'v>, AllocError>
         ensures { IfOk result (λ n. part_view n
             ≡ below (path_of self.now) (at_key (chars name.now)) (tree_of value.entry)) }
@@ -71,7 +71,7 @@ impl<'v> Node<'v> {
         &self,
         alloc: Global,
         index: usize,
-        value: NodeValue<'v>,
+        value: ValueView<'v>,
     ) -> Result<Node<'v>, AllocError>
         ensures { IfOk result (λ n. part_view n
             ≡ below (path_of self.now) (at_index index) (tree_of value.entry)) }

@@ -5,35 +5,36 @@ ghost use Rattle.tinyjson_document.specs.Numbers.{decimal_of};
 ghost use Rattle.tinyjson_path.specs.Comparing.{compares, is_same, is_below, is_tree_less, literal_tree};
 ghost use Rattle.tinyjson_path.specs.Comparing.{one_at, one_tree, origin_tree};
 ghost use Rattle.tinyjson_path.specs.Comparing.{length_of, value_of, size_of, whole};
-ghost use Rattle.tinyjson_path.specs.Nodes.{parts_view, tree_of};
+ghost use Rattle.tinyjson_path.specs.Nodes.{parts_view};
+ghost use Rattle.tinyjson_view.specs.Views.{tree_of};
 ghost use Rattle.tinyjson_path.specs.declared.patterns.FindError.{FindError};
 ghost use Rattle.tinyjson_path.specs.Seen.{numbers_less, operand_tree, texts_less, value_tree};
 
 use crate::children::one_child;
 use crate::node::Node;
 use crate::patterns::FindError;
-use crate::value::NodeValue;
 use std::alloc::{AllocError, Global};
 use tinyjson::{JsonKind, JsonNumber, JsonValue};
 use tinyjson_compare::is_less;
 use tinyjson_document::{JsonView, NumberView};
 use tinyjson_path_query::{ComparisonOperator, Literal, Origin, SingularQuery, SingularSegment};
+use tinyjson_view::ValueView;
 
 /// A value that is compared: a part of the input, or a value of the filter's own.
 pub(crate) enum Operand<'v> {
-    Part(NodeValue<'v>),
+    Part(ValueView<'v>),
     // In a box, for the stack that a filter in a filter takes.
     Own(Box<JsonValue>),
 }
 
 /// The value, if there is one.
-pub(crate) fn value_of<'a>(operand: &'a Option<Operand>) -> Option<NodeValue<'a>>
+pub(crate) fn value_of<'a>(operand: &'a Option<Operand>) -> Option<ValueView<'a>>
     ensures { value_tree result ≡ option_map operand_tree operand.now }
 {
     match operand {
         None => None,
         Some(Operand::Part(value)) => Some(*value),
-        Some(Operand::Own(value)) => Some(NodeValue::InValue(value)),
+        Some(Operand::Own(value)) => Some(ValueView::InValue(value)),
     }
 }
 
@@ -66,7 +67,7 @@ pub(crate) fn compare(
     is_so
 }
 
-fn compares(operator: ComparisonOperator, left: Option<NodeValue>, right: Option<NodeValue>) -> bool
+fn compares(operator: ComparisonOperator, left: Option<ValueView>, right: Option<ValueView>) -> bool
     ensures { result ≡ compares operator (value_tree left.entry) (value_tree right.entry) }
 {
     match operator {
@@ -79,7 +80,7 @@ fn compares(operator: ComparisonOperator, left: Option<NodeValue>, right: Option
     }
 }
 
-fn is_same(left: Option<NodeValue>, right: Option<NodeValue>) -> bool
+fn is_same(left: Option<ValueView>, right: Option<ValueView>) -> bool
     ensures { result ≡ is_same (value_tree left.entry) (value_tree right.entry) }
 {
     match (left, right) {
@@ -89,7 +90,7 @@ fn is_same(left: Option<NodeValue>, right: Option<NodeValue>) -> bool
     }
 }
 
-fn is_below(left: Option<NodeValue>, right: Option<NodeValue>) -> bool
+fn is_below(left: Option<ValueView>, right: Option<ValueView>) -> bool
     ensures { result ≡ is_below (value_tree left.entry) (value_tree right.entry) }
 {
     match (left, right) {
@@ -98,7 +99,7 @@ fn is_below(left: Option<NodeValue>, right: Option<NodeValue>) -> bool
     }
 }
 
-fn is_value_less(left: NodeValue, right: NodeValue) -> bool
+fn is_value_less(left: ValueView, right: ValueView) -> bool
     ensures { result ≡ is_tree_less (tree_of left.entry) (tree_of right.entry) }
 {
     match left.kind() {
@@ -153,7 +154,7 @@ pub(crate) fn literal_value<'v>(
 }
 
 /// Where a query inside a filter begins.
-pub(crate) fn start<'v>(origin: Origin, root: &NodeValue<'v>, here: &NodeValue<'v>) -> NodeValue<'v>
+pub(crate) fn start<'v>(origin: Origin, root: &ValueView<'v>, here: &ValueView<'v>) -> ValueView<'v>
     ensures { tree_of result ≡ origin_tree origin (tree_of root.now) (tree_of here.now) }
 {
     match origin {
@@ -166,8 +167,8 @@ pub(crate) fn start<'v>(origin: Origin, root: &NodeValue<'v>, here: &NodeValue<'
 #[inline(never)]
 pub(crate) fn singular_value<'v>(
     query: &SingularQuery,
-    root: &NodeValue<'v>,
-    here: &NodeValue<'v>,
+    root: &ValueView<'v>,
+    here: &ValueView<'v>,
 ) -> Option<Operand<'v>>
     ensures { option_map operand_tree result
         ≡ one_tree query.now (tree_of root.now) (tree_of here.now) }
@@ -176,7 +177,7 @@ pub(crate) fn singular_value<'v>(
 }
 
 /// The part of the input, if there is one.
-pub(crate) fn part<'v>(value: Option<NodeValue<'v>>) -> Option<Operand<'v>>
+pub(crate) fn part<'v>(value: Option<ValueView<'v>>) -> Option<Operand<'v>>
     ensures { option_map operand_tree result ≡ value_tree value.entry }
 {
     match value {
@@ -185,7 +186,7 @@ pub(crate) fn part<'v>(value: Option<NodeValue<'v>>) -> Option<Operand<'v>>
     }
 }
 
-fn descend_singly<'v>(segments: &[SingularSegment], value: NodeValue<'v>) -> Option<NodeValue<'v>>
+fn descend_singly<'v>(segments: &[SingularSegment], value: ValueView<'v>) -> Option<ValueView<'v>>
     ensures { value_tree result ≡ one_at segments.now (tree_of value.entry) }
 {
     let mut here = value;
@@ -218,7 +219,7 @@ pub(crate) fn length<'v>(
 }
 
 /// The number of characters of a string, of items of an array, or of members of an object.
-fn size(value: NodeValue) -> Option<usize>
+fn size(value: ValueView) -> Option<usize>
     ensures { result ≡ size_of (tree_of value.entry) }
 {
     match value.kind() {
@@ -246,7 +247,7 @@ pub(crate) fn whole<'v>(alloc: Global, value: usize) -> Result<Option<Operand<'v
 }
 
 /// `value` (RFC 9535, 2.4.8) of the nodes.
-pub(crate) fn only_value<'v>(nodes: &[Node<'v>]) -> Option<NodeValue<'v>>
+pub(crate) fn only_value<'v>(nodes: &[Node<'v>]) -> Option<ValueView<'v>>
     ensures { value_tree result ≡ value_of (parts_view nodes.now) }
 {
     match nodes {

@@ -4,7 +4,7 @@ ghost use Rattle.std.specs.Prelude.{option_map, vec_len};
 ghost use Rattle.std.specs.Str.{chars};
 ghost use Rattle.tinyjson.specs.View.{text};
 ghost use Rattle.tinyjson_path.specs.Limits.{limit_message};
-ghost use Rattle.tinyjson_path.specs.Nodes.{tree_of};
+ghost use Rattle.tinyjson_view.specs.Views.{tree_of};
 ghost use Rattle.tinyjson_path.specs.Patterns.{judged, answer_of, holds_of_trees, pattern_holds};
 ghost use Rattle.tinyjson_path.specs.Seen.{operand_tree, value_tree};
 ghost use Rattle.tinyjson_path.specs.Strings.{strings_in, strings_at, IsFrom};
@@ -12,12 +12,12 @@ ghost use Rattle.tinyjson_path.specs.declared.patterns.FindError.{FindError};
 ghost use Rattle.tinyjson_path_query.specs.declared.query.PatternFunction.{PatternFunction};
 
 use crate::operand::{Operand, release, value_of};
-use crate::value::NodeValue;
 use i_regexp::{IRegexp, IRegexpErrorKind};
 use std::alloc::{AllocError, AllocFailed, Global};
 use std::fmt;
 use tinyjson_document::JsonView;
 use tinyjson_path_query::PatternFunction;
+use tinyjson_view::ValueView;
 
 /// Which limit a regular expression exceeds.
 #[derive(Clone, Copy)]
@@ -162,8 +162,8 @@ impl Patterns {
         &mut self,
         function: PatternFunction,
         is_kept: bool,
-        value: NodeValue,
-        pattern: NodeValue,
+        value: ValueView,
+        pattern: ValueView,
     ) -> Result<bool, FindError>
         ensures ok { IfOk result (λ b. b
             ≡ holds_of_trees judged function (tree_of value.entry) (tree_of pattern.entry)) }

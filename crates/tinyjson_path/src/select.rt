@@ -6,7 +6,7 @@ ghost use Rattle.tinyjson_document.specs.Document.{tree};
 ghost use Rattle.tinyjson_document.specs.Known.{Tree_set};
 ghost use Rattle.tinyjson_path.specs.Answers.{AreKnown, answer_of, found_view};
 ghost use Rattle.tinyjson_path.specs.Nodes.{path_of, part_view, parts_view, root_part, children};
-ghost use Rattle.tinyjson_path.specs.Nodes.{tree_of};
+ghost use Rattle.tinyjson_view.specs.Views.{tree_of};
 ghost use Rattle.tinyjson_path.specs.Queries.{query_parts, selector_parts, selected_by};
 ghost use Rattle.tinyjson_path.specs.Queries.{found_by, holds_of, kept, comparable_value};
 ghost use Rattle.tinyjson_path.specs.Queries.{filter_parts, is_some_part};
@@ -24,13 +24,13 @@ use crate::children::{children, containers, push_children, push_indexed, push_na
 use crate::node::Node;
 use crate::operand::{self, Operand, compare, literal_value, part, release, singular_value, whole};
 use crate::patterns::{FindError, Patterns};
-use crate::value::NodeValue;
 use std::alloc::{AllocError, Global};
 use tinyjson::JsonValue;
 use tinyjson_path_query::{
     Comparable, ComparisonOperator, Expression, FilterQuery, FunctionExpression, Origin,
     PatternFunction, Query, Segment, Selector,
 };
+use tinyjson_view::ValueView;
 
 /// Returns the nodes that the query selects in the value, in the order of RFC 9535, 2.1.2. A node that is selected
 /// twice is returned twice. The members of an object come in the order of their keys' bytes, since the RFC leaves
@@ -60,7 +60,7 @@ pub fn find<'v>(
         ≡ query_parts judged query.now (view value.now)) }
     ensures err { IfErr result (IsFrom (query_strings query.now ++ strings_in (view value.now))) }
 {
-    find_below(query, alloc, NodeValue::InValue(value))
+    find_below(query, alloc, ValueView::InValue(value))
 }
 
 /// Returns the nodes that the query selects in a value of a document, as [`find`] does in a `JsonValue`.
@@ -80,13 +80,13 @@ pub fn find_in<'v>(
         ≡ query_parts judged query.now (tree value.entry)) }
     ensures err { IfErr result (IsFrom (query_strings query.now ++ strings_in (tree value.entry))) }
 {
-    find_below(query, alloc, NodeValue::InDocument(value))
+    find_below(query, alloc, ValueView::InDocument(value))
 }
 
 fn find_below<'v>(
     query: &'v Query,
     alloc: Global,
-    root: NodeValue<'v>,
+    root: ValueView<'v>,
 ) -> Result<Vec<Node<'v>>, FindError>
     ensures ok { IfOk result (λ v. parts_view v.items
         ≡ query_parts judged query.now (tree_of root.entry)) }
@@ -107,7 +107,7 @@ fn find_below<'v>(
 struct Finder<'v> {
     alloc: Global,
     /// The value of `$`.
-    root: NodeValue<'v>,
+    root: ValueView<'v>,
     /// What queries from the root select, as far as filters asked for it.
     answers: Vec<Answer<'v>>,
     patterns: Patterns,
@@ -121,7 +121,7 @@ impl<'v> Finder<'v> {
     fn find_from(
         &mut self,
         segments: &'v [Segment],
-        value: NodeValue<'v>,
+        value: ValueView<'v>,
     ) -> Result<Vec<Node<'v>>, FindError>
         ensures root { self.new.root ≡ self.old.root }
         ensures ok { IfOk result (λ v. parts_view v.items
@@ -241,7 +241,7 @@ impl<'v> Finder<'v> {
     /// Whether the expression holds of the value. What only one kind of expression needs is in functions of its own,
     /// for the stack that a filter in a filter takes.
     #[cycle(selecting)]
-    fn holds(&mut self, expression: &'v Expression, here: &NodeValue<'v>) -> Result<bool, FindError>
+    fn holds(&mut self, expression: &'v Expression, here: &ValueView<'v>) -> Result<bool, FindError>
         ensures root { self.new.root ≡ self.old.root }
         ensures ok { IfOk result (λ b. b
             ≡ holds_of expression.now (tree_of self.old.root) (tree_of here.now)) }
@@ -286,7 +286,7 @@ impl<'v> Finder<'v> {
         operator: ComparisonOperator,
         left: Option<Operand<'v>>,
         right: &'v Comparable,
-        here: &NodeValue<'v>,
+        here: &ValueView<'v>,
     ) -> Result<bool, FindError>
         ensures root { self.new.root ≡ self.old.root }
         ensures ok { IfOk result (λ b. b ≡ compares operator (option_map operand_tree left.entry)
@@ -311,7 +311,7 @@ impl<'v> Finder<'v> {
         function: PatternFunction,
         value: Option<Operand<'v>>,
         pattern: &'v Comparable,
-        here: &NodeValue<'v>,
+        here: &ValueView<'v>,
     ) -> Result<bool, FindError>
         ensures root { self.new.root ≡ self.old.root }
         ensures ok { IfOk result (λ b. b
@@ -335,7 +335,7 @@ impl<'v> Finder<'v> {
     fn compared(
         &mut self,
         comparable: &'v Comparable,
-        here: &NodeValue<'v>,
+        here: &ValueView<'v>,
     ) -> Result<Option<Operand<'v>>, FindError>
         ensures root { self.new.root ≡ self.old.root }
         ensures ok { IfOk result (λ o. option_map operand_tree o
@@ -359,7 +359,7 @@ impl<'v> Finder<'v> {
     fn length(
         &mut self,
         argument: &'v Comparable,
-        here: &NodeValue<'v>,
+        here: &ValueView<'v>,
     ) -> Result<Option<Operand<'v>>, FindError>
         ensures root { self.new.root ≡ self.old.root }
         ensures ok { IfOk result (λ o. option_map operand_tree o ≡ length_of
@@ -375,7 +375,7 @@ impl<'v> Finder<'v> {
     fn count(
         &mut self,
         query: &'v FilterQuery,
-        here: &NodeValue<'v>,
+        here: &ValueView<'v>,
     ) -> Result<Option<Operand<'v>>, FindError>
         ensures root { self.new.root ≡ self.old.root }
         ensures ok { IfOk result (λ o. option_map operand_tree o
@@ -392,7 +392,7 @@ impl<'v> Finder<'v> {
     fn only_value(
         &mut self,
         query: &'v FilterQuery,
-        here: &NodeValue<'v>,
+        here: &ValueView<'v>,
     ) -> Result<Option<Operand<'v>>, FindError>
         ensures root { self.new.root ≡ self.old.root }
         ensures ok { IfOk result (λ o. option_map operand_tree o
@@ -407,7 +407,7 @@ impl<'v> Finder<'v> {
     /// Whether the query selects a node.
     #[cycle(selecting)]
     #[inline(never)]
-    fn is_found(&mut self, query: &'v FilterQuery, here: &NodeValue<'v>) -> Result<bool, FindError>
+    fn is_found(&mut self, query: &'v FilterQuery, here: &ValueView<'v>) -> Result<bool, FindError>
         ensures root { self.new.root ≡ self.old.root }
         ensures ok { IfOk result (λ b. b ≡ is_some_part
             (filter_parts query.now (tree_of self.old.root) (tree_of here.now))) }
@@ -423,7 +423,7 @@ impl<'v> Finder<'v> {
     fn found(
         &mut self,
         query: &'v FilterQuery,
-        here: &NodeValue<'v>,
+        here: &ValueView<'v>,
     ) -> Result<Found<'v>, FindError>
         ensures root { self.new.root ≡ self.old.root }
         ensures ok { IfOk result (λ f. found_view f
@@ -458,7 +458,7 @@ impl<'v> Finder<'v> {
     fn found_from(
         &mut self,
         segments: &'v [Segment],
-        value: NodeValue<'v>,
+        value: ValueView<'v>,
     ) -> Result<Found<'v>, FindError>
         ensures root { self.new.root ≡ self.old.root }
         ensures ok { IfOk result (λ f. found_view f ≡ answer_of
@@ -479,7 +479,7 @@ struct Waiting<'v> {
 }
 
 /// What waits at first: the node of the value, for all segments.
-fn first<'v>(alloc: Global, value: NodeValue<'v>) -> Result<Vec<Waiting<'v>>, AllocError>
+fn first<'v>(alloc: Global, value: ValueView<'v>) -> Result<Vec<Waiting<'v>>, AllocError>
     ensures { IfOk result (λ v. waits_view v.items ≡ (0, root_part (tree_of value.entry)) ∷ []) }
 {
     let mut waiting = Vec::new(alloc);

@@ -1,6 +1,6 @@
 -- Turns of the loops over members, items and schemas at keys.
 use Rattle.std.proofs.Common.{◌≡◌, ◌≢◌, ℕ, suc, ◌<◌, ◌≤◌, ◌+◌, Bool, true, false, not, ◌&&◌, ◌||◌}
-use Rattle.std.proofs.Common.{List, Option, Some, None, option_map, length, get_or, drop, is_some}
+use Rattle.std.proofs.Common.{List, Some, None, length, get_or, drop, is_some}
 use Rattle.std.proofs.Common.{refl, sym, ap, ◌∙◌, add-one}
 use Rattle.std.proofs.lemmas.Bool.{or_left, or_right}
 use Rattle.std.specs.Option.{option_map_or}
@@ -81,10 +81,6 @@ pub found_turn : (q : Tree → Bool) (p : List ℕ) (ps : List MemberView) (i : 
     → found_pass q p (members_of (drop (i + 1) ps)) ≡ found_pass q p (members_of ps)
 found_turn q p ps i m h e good left = turn_next (λ xs. found_pass q p (members_of xs)) ps i m h e
     (ap (λ b. b && found_pass q p (members_of (drop (i + 1) ps))) good) left
-
-pub some_mapped : {A B : Type 0} (f : A → B) (o : Option A) → is_some o ≡ is_some (option_map f o)
-some_mapped f None = refl
-some_mapped f (Some x) = refl
 
 -- ---- values by their kinds
 

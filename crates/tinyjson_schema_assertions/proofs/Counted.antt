@@ -1,5 +1,5 @@
 -- What keywords say of a tree by its kind, its number or its string.
-use Rattle.std.proofs.Common.{◌≡◌, ◌≢◌, ℕ, suc, Bool, true, false, not, List, Option, Some, None, option_map, is_some, refl, sym, ap, ◌∙◌}
+use Rattle.std.proofs.Common.{◌≡◌, ◌≢◌, ℕ, suc, Bool, true, false, not, List, Some, None, refl, sym, ap, ◌∙◌}
 use Rattle.tinyjson.specs.Kind.{kind_of}
 use Rattle.tinyjson.specs.JsonKind.TheVariants as kind
 use Rattle.tinyjson.specs.Tree.{Tree, boolean, number, string, array, object, Members, no_members, member}
@@ -9,10 +9,6 @@ use Rattle.tinyjson_document.specs.Parts.{number_in, string_in, size}
 use Rattle.tinyjson_schema_assertions.specs.Assertions.{is_whole, are_ordered, are_apart, are_multiple, has_pattern, has_format, has_keys}
 use Rattle.tinyjson_schema_assertions.specs.Assertions.{member_count, length_of, items_count_of, members_count_of, are_unique}
 use Rattle.tinyjson_schema_assertions.specs.Assertions.{has_required, has_dependent_required, has_dependents}
-
-pub some_mapped : {A B : Type 0} (f : A → B) (o : Option A) → is_some o ≡ is_some (option_map f o)
-some_mapped f None = refl
-some_mapped f (Some x) = refl
 
 -- ---- counts
 

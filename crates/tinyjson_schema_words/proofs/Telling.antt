@@ -1,5 +1,5 @@
 -- The words of strings, counts and names.
-use Rattle.std.proofs.Common.{◌≡◌, ◌≢◌, ℕ, suc, List, [], ◌∷◌, ◌++◌, Option, Some, None, is_some, option_map, String, Global, string_bytes}
+use Rattle.std.proofs.Common.{◌≡◌, ◌≢◌, ℕ, suc, List, [], ◌∷◌, ◌++◌, Option, Some, None, String, Global, string_bytes}
 use Rattle.std.proofs.Common.{codes}
 use Rattle.std.proofs.Common.{refl, sym, ap, ap₂, ◌∙◌}
 use Rattle.std.specs.Prelude.{option_and_then}
@@ -54,10 +54,6 @@ no_length (string cs) h = absurd cc
 no_length _ h = refl
 
 -- ---- names
-
-pub some_mapped : {A B : Type 0} (f : A → B) (o : Option A) → is_some o ≡ is_some (option_map f o)
-some_mapped f None = refl
-some_mapped f (Some x) = refl
 
 pub none_missing : (w t : Tree) → None ≡ missing (items_in w) t → [] ≡ required_words w t
 none_missing w t h = ap (λ o. option_map_or (λ k. brief k ++ codes " is required") o []) h

@@ -1,6 +1,6 @@
 -- Trees by their kinds and their parts, and trees of values.
-use Rattle.std.proofs.Common.{◌≡◌, ◌∷◌, ℕ, List, Bool, Option, Some, None, String, Global, bytes_eq, encode_utf8_all}
-use Rattle.std.proofs.Common.{string_bytes, Ordering, Less, Equal, Greater, Result, Ok, Err, Vec, IfOk, refl, sym, ap, ◌∙◌, subst}
+use Rattle.std.proofs.Common.{◌≡◌, ◌∷◌, ℕ, List, Bool, true, false, Option, Some, None, is_some, option_map, String, Global, bytes_eq}
+use Rattle.std.proofs.Common.{encode_utf8_all, string_bytes, Ordering, Less, Equal, Greater, Result, Ok, Err, Vec, IfOk, refl, sym, ap, ◌∙◌, subst}
 use Rattle.std.specs.declared.alloc.AllocError.{AllocError}
 use Rattle.std.proofs.lemmas.Bool.Decides.{same_from_decides}
 use Rattle.std.proofs.lemmas.Slice.Eq.{bytes_eq-Decides}
@@ -46,6 +46,23 @@ string_is _ cs h = absurd cc
 pub key_at : (t : Tree) (k : List ℕ) → tree_at_key t k ≡ find k (members_in t)
 key_at (object ms) k = refl
 key_at _ k = refl
+
+-- ---- equality
+
+pub tree_eq_sym : (t u : Tree) → tree_eq t u ≡ tree_eq u t
+tree_eq_sym t u = by (tree_eq t u) (tree_eq u t) refl refl
+  where
+    by : (a b : Bool) → tree_eq t u ≡ a → tree_eq u t ≡ b → a ≡ b
+    by true true e h = refl
+    by false false e h = refl
+    by true false e h = sym ((tree_eq_Decides u t).1 (sym ((tree_eq_Decides t u).0 e))) ∙ h
+    by false true e h = sym e ∙ (tree_eq_Decides t u).1 (sym ((tree_eq_Decides u t).0 h))
+
+-- ---- a part that there may be
+
+pub some_mapped : {A B : Type 0} (f : A → B) (o : Option A) → is_some o ≡ is_some (option_map f o)
+some_mapped f None = refl
+some_mapped f (Some x) = refl
 
 -- ---- trees of values
 

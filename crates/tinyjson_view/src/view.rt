@@ -2,13 +2,15 @@
 ghost use Rattle.std.specs.Prelude.{◌≡◌, IfOk, codes, string_bytes};
 ghost use Rattle.std.specs.Str.{chars};
 ghost use Rattle.tinyjson.specs.Equality.{tree_eq};
-ghost use Rattle.tinyjson.specs.Text.{compact};
+ghost use Rattle.tinyjson.specs.Text.{compact, indented};
 ghost use Rattle.tinyjson.specs.View.{view};
+ghost use Rattle.tinyjson.specs.Written.{WritesText};
 ghost use Rattle.tinyjson_grammar.specs.Tree.{Tree};
 ghost use Rattle.tinyjson_document.specs.Document.{tree as node_tree};
 ghost use Rattle.tinyjson_view.specs.Views.{tree_of};
 
 use std::alloc::Global;
+use std::io::{self, Write};
 use tinyjson::{JsonGenerateResult, JsonKind, JsonValue};
 use tinyjson_document::{JsonView, Node, NumberView};
 
@@ -78,6 +80,52 @@ impl<'v> ValueView<'v> {
         match self {
             ValueView::InDocument(node) => node.to_string(alloc),
             ValueView::InValue(value) => value.stringify(alloc),
+        }
+    }
+
+    /// Writes the compact text in UTF-8. The errors are those of `JsonValue::write_to`.
+    ///
+    /// ```
+    /// view.write_to(alloc, &mut output)?; // of 2.50: writes 2.5
+    /// ```
+    pub fn write_to<W: Write>(&self, alloc: Global, out: &mut W) -> io::Result<()>
+        ensures { WritesText (W.contents out.old) (W.contents out.new)
+            (compact (tree_of self.now)) result }
+    {
+        match self {
+            ValueView::InDocument(node) => node.write_to(alloc, out),
+            ValueView::InValue(value) => value.write_to(alloc, out),
+        }
+    }
+
+    /// Writes the text indented with two spaces, in UTF-8. The errors are those of `JsonValue::format_to`.
+    ///
+    /// ```
+    /// view.format_to(alloc, &mut output)?; // of [2.50]: writes "[\n  2.5\n]"
+    /// ```
+    pub fn format_to<W: Write>(&self, alloc: Global, out: &mut W) -> io::Result<()>
+        ensures { WritesText (W.contents out.old) (W.contents out.new)
+            (indented (tree_of self.now) (codes "  ") 0) result }
+    {
+        match self {
+            ValueView::InDocument(node) => node.format_to(alloc, out),
+            ValueView::InValue(value) => value.format_to(alloc, out),
+        }
+    }
+
+    /// Whether both values are equal, by their trees.
+    ///
+    /// ```
+    /// view.equals(&other) // of 1.50 and 1.5: true
+    /// ```
+    pub fn equals(&self, other: &ValueView<'_>) -> bool
+        ensures { result ≡ tree_eq (tree_of self.now) (tree_of other.now) }
+    {
+        match (self, other) {
+            (ValueView::InDocument(left), ValueView::InDocument(right)) => *left == *right,
+            (ValueView::InDocument(left), ValueView::InValue(right)) => left.equals_value(right),
+            (ValueView::InValue(left), ValueView::InDocument(right)) => right.equals_value(left),
+            (ValueView::InValue(left), ValueView::InValue(right)) => **left == **right,
         }
     }
 

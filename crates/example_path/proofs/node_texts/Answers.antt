@@ -2,7 +2,8 @@ use Rattle.std.proofs.Common.{◌≡◌, ℕ, ◌+◌, ◌<◌, List, [], ◌∷
 use Rattle.std.proofs.lemmas.List.{map-append}
 use Rattle.tinyjson.specs.Words.{text, compact}
 use Rattle.tinyjson_path.proofs.Callers.{drop_at}
-use Rattle.tinyjson_path.specs.Nodes.{parts_view, tree_of}
+use Rattle.tinyjson_path.specs.Nodes.{parts_view}
+use Rattle.tinyjson_path.specs.Views.{tree_of}
 use Rattle.tinyjson_path.specs.declared.node.Node.{Node}
 use Rattle.example_path.specs.Texts.{part_texts}
 use Rattle.example_path.proofs.node_texts.Goals as goal

@@ -1,7 +1,7 @@
 use mir.Syntax.{w64}
 use Rattle.std.proofs.Common.{◌≡◌, ◌∙◌, Some, None, ap}
 use Rattle.std.proofs.lemmas.Int.{to_z-of_z}
-use Rattle.tinyjson_path.specs.Nodes.{tree_of}
+use Rattle.tinyjson_view.specs.Views.{tree_of}
 use Rattle.tinyjson_path.specs.Selecting.{items_in, tree_at_place}
 use Rattle.tinyjson_path.specs.Slices.{place_of}
 use Rattle.tinyjson_path.proofs.children.child_at.Goals as goal

@@ -1,5 +1,5 @@
 use Rattle.std.proofs.Common.{◌∙◌, sym}
-use Rattle.tinyjson_path.specs.Nodes.{tree_of}
+use Rattle.tinyjson_view.specs.Views.{tree_of}
 use Rattle.tinyjson_path.proofs.Comparisons.{array_items, no_array}
 use Rattle.tinyjson_path.proofs.children.item_count.Goals as goal
 

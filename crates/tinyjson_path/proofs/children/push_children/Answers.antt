@@ -1,5 +1,6 @@
 use Rattle.std.proofs.Common.{◌≡◌, ◌++◌, OnOk, subst}
-use Rattle.tinyjson_path.specs.Nodes.{path_of, parts_view, children, tree_of}
+use Rattle.tinyjson_path.specs.Nodes.{path_of, parts_view, children}
+use Rattle.tinyjson_view.specs.Views.{tree_of}
 use Rattle.tinyjson_path.proofs.Wanting.{kept_all}
 use Rattle.tinyjson_path.proofs.children.push_children.Goals as goal
 

@@ -1,5 +1,6 @@
 use Rattle.std.proofs.Common.{◌≡◌, ◌-◌, ◌++◌, ◌∙◌, suc, ap, append-nil, arith, sym}
-use Rattle.tinyjson_path.specs.Nodes.{path_of, parts_view, tree_of}
+use Rattle.tinyjson_path.specs.Nodes.{path_of, parts_view}
+use Rattle.tinyjson_view.specs.Views.{tree_of}
 use Rattle.tinyjson_path.specs.Slices.{is_down}
 use Rattle.tinyjson_path.proofs.Items.{down_taken, down_passed, first_down, taken_down}
 use Rattle.tinyjson_path.proofs.children.push_down.Goals as goal

@@ -1,7 +1,8 @@
 use mir.Syntax.{w64}
 use Rattle.std.proofs.Common.{◌≡◌, ◌++◌, ◌∙◌, Some, None, OnOk, ap, append-nil, subst, sym}
 use Rattle.std.proofs.lemmas.Int.{to_z-of_z}
-use Rattle.tinyjson_path.specs.Nodes.{path_of, parts_view, tree_of}
+use Rattle.tinyjson_path.specs.Nodes.{path_of, parts_view}
+use Rattle.tinyjson_view.specs.Views.{tree_of}
 use Rattle.tinyjson_path.specs.Selecting.{item_below, items_in}
 use Rattle.tinyjson_path.specs.Slices.{place_of}
 use Rattle.tinyjson_path.proofs.children.push_indexed.Goals as goal

@@ -1,6 +1,7 @@
 use Rattle.std.proofs.Common.{◌≤◌, ◌+◌, [], arith, refl}
 use Rattle.tinyjson_document.specs.Parts.{items_in, size}
-use Rattle.tinyjson_path.specs.Nodes.{path_of, parts_view, items_from, tree_of}
+use Rattle.tinyjson_path.specs.Nodes.{path_of, parts_view, items_from}
+use Rattle.tinyjson_view.specs.Views.{tree_of}
 use Rattle.tinyjson_path.specs.Waiting.{wants}
 use Rattle.tinyjson_path.proofs.Items.{dropped, step_items, last_items, one_at}
 use Rattle.tinyjson_path.proofs.Wanting.{keep_step, keep_last}

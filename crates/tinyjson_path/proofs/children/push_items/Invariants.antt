@@ -1,6 +1,7 @@
 use Rattle.std.proofs.Common.{◌≡◌, ◌++◌}
 use Rattle.tinyjson_document.specs.Parts.{items_in}
-use Rattle.tinyjson_path.specs.Nodes.{path_of, parts_view, items_from, tree_of}
+use Rattle.tinyjson_path.specs.Nodes.{path_of, parts_view, items_from}
+use Rattle.tinyjson_view.specs.Views.{tree_of}
 use Rattle.tinyjson_path.specs.Queries.{kept}
 use Rattle.tinyjson_path.specs.Waiting.{wants}
 use Rattle.tinyjson_path.proofs.Items.{dropped}

@@ -1,6 +1,7 @@
 use Rattle.std.proofs.Common.{◌≡◌, ◌++◌, ◌∙◌, OnOk, ap, subst, sym}
 use Rattle.tinyjson_document.specs.Parts.{members_in}
-use Rattle.tinyjson_path.specs.Nodes.{path_of, parts_view, members_at, tree_of}
+use Rattle.tinyjson_path.specs.Nodes.{path_of, parts_view, members_at}
+use Rattle.tinyjson_view.specs.Views.{tree_of}
 use Rattle.tinyjson_path.specs.Queries.{kept}
 use Rattle.tinyjson_path.specs.Waiting.{wants}
 use Rattle.tinyjson_path.proofs.children.push_members.Goals as goal

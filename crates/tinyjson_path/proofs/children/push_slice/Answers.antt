@@ -1,5 +1,6 @@
 use Rattle.std.proofs.Common.{◌≡◌, ◌++◌, OnOk, subst}
-use Rattle.tinyjson_path.specs.Nodes.{path_of, parts_view, tree_of}
+use Rattle.tinyjson_path.specs.Nodes.{path_of, parts_view}
+use Rattle.tinyjson_view.specs.Views.{tree_of}
 use Rattle.tinyjson_path.proofs.Values.{up_is, down_is}
 use Rattle.tinyjson_path.proofs.children.push_slice.Goals as goal
 

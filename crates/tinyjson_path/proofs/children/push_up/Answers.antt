@@ -1,6 +1,7 @@
 use Rattle.std.proofs.Common.{◌≡◌, ◌≤◌, ◌+◌, ◌++◌, ◌∙◌, ap, arith, subst, sym}
 use Rattle.tinyjson_document.specs.Parts.{items_in, size}
-use Rattle.tinyjson_path.specs.Nodes.{path_of, parts_view, tree_of}
+use Rattle.tinyjson_path.specs.Nodes.{path_of, parts_view}
+use Rattle.tinyjson_view.specs.Views.{tree_of}
 use Rattle.tinyjson_path.specs.Selecting.{taken}
 use Rattle.tinyjson_path.specs.Slices.{is_up}
 use Rattle.tinyjson_path.proofs.Items.{up_taken, up_passed, last_up, taken_left}

@@ -1,6 +1,7 @@
 use Rattle.std.proofs.Common.{◌≡◌, ◌++◌}
 use Rattle.tinyjson_document.specs.Parts.{items_in}
-use Rattle.tinyjson_path.specs.Nodes.{path_of, parts_view, tree_of}
+use Rattle.tinyjson_path.specs.Nodes.{path_of, parts_view}
+use Rattle.tinyjson_view.specs.Views.{tree_of}
 use Rattle.tinyjson_path.specs.Selecting.{taken}
 use Rattle.tinyjson_path.specs.Slices.{is_up}
 use Rattle.tinyjson_path.proofs.Items.{taken_left}

@@ -1,6 +1,6 @@
 use Rattle.std.proofs.Common.{◌≡◌, drop}
 use Rattle.tinyjson_path.specs.Comparing.{one_at}
-use Rattle.tinyjson_path.specs.Nodes.{tree_of}
+use Rattle.tinyjson_view.specs.Views.{tree_of}
 use Rattle.tinyjson_path.proofs.operand.descend_singly.Given as goal
 
 abbrev pub invariant-loop-segment : goal.invariant-loop-segment

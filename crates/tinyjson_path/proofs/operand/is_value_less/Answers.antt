@@ -1,5 +1,5 @@
 use Rattle.std.proofs.Common.{◌∙◌, ap₂, sym}
-use Rattle.tinyjson_path.specs.Nodes.{tree_of}
+use Rattle.tinyjson_view.specs.Views.{tree_of}
 use Rattle.tinyjson_path.specs.Seen.{numbers_less, texts_less}
 use Rattle.tinyjson_path.proofs.Comparisons.{by_numbers, by_strings, by_neither}
 use Rattle.tinyjson_path.proofs.operand.is_value_less.Goals as goal

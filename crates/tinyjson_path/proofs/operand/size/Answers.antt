@@ -1,5 +1,5 @@
 use Rattle.std.proofs.Common.{◌∙◌, Some, chars, option_map, sym, ap, ⊎_elim}
-use Rattle.tinyjson_path.specs.Nodes.{tree_of}
+use Rattle.tinyjson_view.specs.Views.{tree_of}
 use Rattle.tinyjson_path.proofs.Comparisons.{characters_counted, array_size, object_size, no_size}
 use Rattle.tinyjson_path.proofs.operand.size.Goals as goal
 

@@ -1,6 +1,6 @@
 use Rattle.std.proofs.Common.{ap, sym}
 use Rattle.tinyjson_path.proofs.Errors.{error_of_root}
-use Rattle.tinyjson_path.specs.Nodes.{tree_of}
+use Rattle.tinyjson_view.specs.Views.{tree_of}
 use Rattle.tinyjson_path.specs.Strings.{query_strings, segments_strings}
 use Rattle.tinyjson_path.proofs.select.find_below.Goals as goal
 

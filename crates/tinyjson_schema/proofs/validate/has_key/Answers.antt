@@ -1,6 +1,6 @@
 use Rattle.std.proofs.Common.{◌∙◌, is_some, ap}
 use Rattle.tinyjson_view.specs.Views.{tree_of}
-use Rattle.tinyjson_schema.proofs.Loops.{some_mapped}
+use Rattle.tinyjson_view.proofs.Callers.{some_mapped}
 use Rattle.tinyjson_schema.proofs.validate.has_key.Goals as goal
 
 pub returns : goal.returns

@@ -4,7 +4,7 @@ use Rattle.tinyjson.specs.Index.{tree_at_key}
 use Rattle.tinyjson.specs.View.{text}
 use Rattle.tinyjson_view.proofs.Callers.{key_at}
 use Rattle.tinyjson_view.specs.Views.{tree_of}
-use Rattle.tinyjson_schema_assertions.proofs.Counted.{some_mapped}
+use Rattle.tinyjson_view.proofs.Callers.{some_mapped}
 use Rattle.tinyjson_schema_assertions.proofs.assertion.has_key.Goals as goal
 
 pub returns : goal.returns

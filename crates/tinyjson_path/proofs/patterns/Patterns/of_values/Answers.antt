@@ -1,6 +1,6 @@
 use Rattle.std.proofs.Common.{◌∷◌, [], ◌∙◌, ap, option_map, sym}
 use Rattle.std.specs.Str.{chars}
-use Rattle.tinyjson_path.specs.Nodes.{tree_of}
+use Rattle.tinyjson_view.specs.Views.{tree_of}
 use Rattle.tinyjson_path.specs.Strings.{strings_in}
 use Rattle.tinyjson_path.proofs.Within.{from_error, text_within}
 use Rattle.tinyjson_path.proofs.patterns.Patterns.of_values.Goals as goal

@@ -1,5 +1,5 @@
 use Rattle.std.proofs.Common.{false, sym, subst, option_map, IfErr}
-use Rattle.tinyjson_path.specs.Nodes.{tree_of}
+use Rattle.tinyjson_view.specs.Views.{tree_of}
 use Rattle.tinyjson_path.specs.Seen.{operand_tree}
 use Rattle.tinyjson_path.specs.Strings.{strings_in, strings_at, IsFrom}
 use Rattle.tinyjson_path.proofs.Within.{from_none, from_result, value_within}

@@ -4,7 +4,7 @@ use Rattle.std.proofs.lemmas.List.{map-append}
 use Rattle.std.specs.Box.{box_value}
 use Rattle.tinyjson_path.proofs.Errors.{is_whole, is_left, is_right, is_one, node_in, node_within, error_of, error_from, error_of_pattern}
 use Rattle.tinyjson_path.proofs.Errors.{same_result, part_result, answered, error_at}
-use Rattle.tinyjson_path.proofs.Items.{drop_past}
+use Rattle.tinyjson_view.proofs.Callers.{drop_past}
 use Rattle.tinyjson_path.proofs.Selected.{AreWithin, are_children, are_in}
 use Rattle.tinyjson_path.proofs.Stated.{are_kept, child_strings, descendant_strings, filter_strings_are, or_strings, and_strings}
 use Rattle.tinyjson_path.proofs.Stated.{not_strings, comparison_strings, test_strings, pattern_strings, length_strings, count_strings, value_strings, segments_of_query}
@@ -13,7 +13,8 @@ use Rattle.tinyjson_path.proofs.Waits.{goes_on, takes_one, are_popped, are_pushe
 use Rattle.tinyjson_path.proofs.Within.{Within, within_self, of_query, from_same}
 use Rattle.tinyjson_path.specs.Answers.{answer_of, found_view}
 use Rattle.tinyjson_path.specs.Comparing.{origin_tree}
-use Rattle.tinyjson_path.specs.Nodes.{path_of, part_view, parts_view, children, tree_of}
+use Rattle.tinyjson_path.specs.Nodes.{path_of, part_view, parts_view, children}
+use Rattle.tinyjson_view.specs.Views.{tree_of}
 use Rattle.tinyjson_path.specs.Queries.{selected_by, found_by, kept}
 use Rattle.tinyjson_path.specs.Seen.{operand_tree}
 use Rattle.tinyjson_path.specs.Strings.{strings_in, segment_strings, selector_strings, expression_strings, comparable_strings}

@@ -1,5 +1,6 @@
 use Rattle.std.proofs.Common.{◌≡◌, ◌++◌, length, map, drop}
-use Rattle.tinyjson_path.specs.Nodes.{path_of, part_view, parts_view, children, tree_of}
+use Rattle.tinyjson_path.specs.Nodes.{path_of, part_view, parts_view, children}
+use Rattle.tinyjson_view.specs.Views.{tree_of}
 use Rattle.tinyjson_path.specs.Queries.{found_by, union, selector_parts, selected_by, holds_of, kept, some_hold, all_hold}
 use Rattle.tinyjson_path.specs.Strings.{strings_in}
 use Rattle.tinyjson_path.proofs.Waits.{pops_of, waits_parts}

@@ -1,8 +1,8 @@
 use Rattle.std.proofs.Common.{◌∙◌, ap₂, sym, ap}
 use Rattle.tinyjson.specs.Equality.{tree_eq}
-use Rattle.tinyjson_path.specs.Nodes.{tree_of}
-use Rattle.tinyjson_path.proofs.Comparisons.{tree_eq_sym}
-use Rattle.tinyjson_path.proofs.value.NodeValue.equals.Goals as goal
+use Rattle.tinyjson_view.specs.Views.{tree_of}
+use Rattle.tinyjson_view.proofs.Shapes.{tree_eq_sym}
+use Rattle.tinyjson_view.proofs.view.ValueView.equals.Goals as goal
 
 pub returns-in-InValue-InDocument : goal.returns-in-InValue-InDocument
 returns-in-InValue-InDocument c =
