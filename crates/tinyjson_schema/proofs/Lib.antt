@@ -1,4 +1,5 @@
 pub mod Forms
+pub mod Leaves
 pub mod Loops
 pub mod Marks
 pub mod Operands

@@ -1,9 +1,9 @@
 -- The marks of a schema's names.
-use Rattle.std.proofs.Common.{◌≡◌, ◌==◌, ◌∷◌, ◌^◌, ◌%◌, ◌*◌, ◌<◌, ℕ, zero, suc, Bool, true, false, true≢false, cond, List}
-use Rattle.std.proofs.Common.{Option, Some, None, is_some, option_map, String, Global, bit_or, bytes_eq, string_bytes, w64, refl}
+use Rattle.std.proofs.Common.{◌≡◌, ◌==◌, ◌∷◌, ◌^◌, ◌%◌, ◌*◌, ◌<◌, ℕ, zero, suc, Bool, true, false, true≢false, cond, not, List}
+use Rattle.std.proofs.Common.{Option, Some, None, is_some, option_map, String, Global, bit_and, bit_or, bytes_eq, string_bytes, w64, refl}
 use Rattle.std.proofs.Common.{sym, ap, ◌∙◌, arith, ⊎_elim}
-use Rattle.std.proofs.lemmas.Bool.{cases_eq}
-use Rattle.std.proofs.lemmas.Nat.Bits.{bit_at_set_same, bit_at_set_other, bit_at-lt}
+use Rattle.std.proofs.lemmas.Bool.{cases_eq, eqb-true, not-false}
+use Rattle.std.proofs.lemmas.Nat.Bits.{bit_at_set_same, bit_at_set_other, bit_at-lt, bit_at_and, bit_at-zero}
 use Rattle.std.proofs.lemmas.Slice.Eq.{bytes_eq-Decides}
 use Rattle.std.specs.HashMap.{get_by_text}
 use Rattle.std.specs.Int.{bit_at}
@@ -28,13 +28,24 @@ unset n i h = by (bit_at n i) (bit_at-lt n i) h
     by (suc zero) l e = absurd (true≢false e)
     by (suc (suc b)) l e = absurd (omega (arith, l))
 
+absent_from : (o : Option Tree) → is_some o ≡ false → o ≡ None
+absent_from None n = refl
+absent_from (Some t) n = absurd (true≢false n)
+
 -- a keyword whose mark is not in the set is not in the schema
 pub absent : (marks : ℕ) (s : Tree) (k : Keyword) → HasMarks marks s → (bit_at marks (mark (name k)) == 1) ≡ false → schema_at s k ≡ None
-absent marks s k h e = by (schema_at s k) (h k (unset marks (mark (name k)) e))
-  where
-    by : (o : Option Tree) → is_some o ≡ false → o ≡ None
-    by None n = refl
-    by (Some t) n = absurd (true≢false n)
+absent marks s k h e = absent_from (schema_at s k) (h k (unset marks (mark (name k)) e))
+
+-- a keyword whose mark is in a set that has nothing in common with the schema's is not in the schema
+module _ (marks set : ℕ) (apart : not (bit_and marks set == 0) ≡ false) where
+  unset_beside : (i : ℕ) → bit_at set i ≡ 1 → bit_at marks i ≡ 0
+  unset_beside i one =
+      let none : bit_at (bit_and marks set) i ≡ 0 =
+      ap (λ x. bit_at x i) (eqb-true (bit_and marks set) 0 (not-false (bit_and marks set == 0) apart)) ∙ bit_at-zero i in
+      omega (arith, none, bit_at_and marks set i, one)
+
+  pub absent_beside : (s : Tree) (k : Keyword) → HasMarks marks s → bit_at set (mark (name k)) ≡ 1 → schema_at s k ≡ None
+  absent_beside s k h one = absent_from (schema_at s k) (h k (unset_beside (mark (name k)) one))
 
 -- a set with the marks of a map's names has those of the schema's keywords
 pub has_marks : (marks : ℕ) (v : JsonValue) (m : JsonMap) → v ≡ is.Object m

@@ -1,15 +1,40 @@
 -- Marks of names: a set of names is a number that has the bits of their marks.
 use Rattle.std.specs.Int.{bit_at}
-use Rattle.std.specs.Prelude.{◌≡◌, ℕ, ◌+◌, ◌*◌, ◌%◌, nat_lt, false, List, is_some, length, get_or, cond}
+use Rattle.std.specs.Prelude.{◌≡◌, ℕ, ◌+◌, ◌*◌, ◌%◌, nat_lt, false, List, None, is_some, length, get_or, cond}
 use Rattle.tinyjson.specs.Tree.{Tree}
 use Rattle.tinyjson_schema_keywords.specs.Applied.{schema_at}
 use Rattle.tinyjson_schema_keywords.specs.Names.{name}
 use Rattle.tinyjson_schema_keywords.specs.declared.keyword.Keyword.{Keyword}
+use Rattle.tinyjson_schema_keywords.specs.declared.keyword.Keyword.TheVariants as kw
 
 -- A number below 64 for a name, from its length and two of its bytes. It tells most keywords apart.
 abbrev pub mark : List ℕ → ℕ
-mark bs = cond (nat_lt (length bs) 3) 0 ((length bs % 64 + 36 * get_or bs 1 0 + 30 * get_or bs 2 0) % 64)
+mark bs = cond (nat_lt (length bs) 3) 0 ((47 * (length bs % 64) + 3 * get_or bs 1 0 + 38 * get_or bs 2 0) % 64)
 
 -- The set has the marks of all keywords of the schema.
 abbrev pub HasMarks : ℕ → Tree → Type 0
 HasMarks marks s = (k : Keyword) → bit_at marks (mark (name k)) ≡ 0 → is_some (schema_at s k) ≡ false
+
+-- The schema has no keyword that counts or combines what its subschemas accept.
+pub record TestsNothing (s : Tree) : Type 0 where
+  pub any_of : schema_at s kw.AnyOf ≡ None
+  pub one_of : schema_at s kw.OneOf ≡ None
+  pub not_of : schema_at s kw.Not ≡ None
+  pub names : schema_at s kw.PropertyNames ≡ None
+  pub contains : schema_at s kw.Contains ≡ None
+
+-- The schema applies no other.
+pub record AppliesNothing (s : Tree) : Type 0 where
+  pub tests : TestsNothing s
+  pub all_of : schema_at s kw.AllOf ≡ None
+  pub if_of : schema_at s kw.If ≡ None
+  pub dependents : schema_at s kw.DependentSchemas ≡ None
+  pub patterns : schema_at s kw.PatternProperties ≡ None
+  pub reference : schema_at s kw.Ref ≡ None
+  pub dynamic : schema_at s kw.DynamicRef ≡ None
+  pub properties : schema_at s kw.Properties ≡ None
+  pub additional : schema_at s kw.AdditionalProperties ≡ None
+  pub prefix : schema_at s kw.PrefixItems ≡ None
+  pub items : schema_at s kw.Items ≡ None
+  pub members_left : schema_at s kw.UnevaluatedProperties ≡ None
+  pub items_left : schema_at s kw.UnevaluatedItems ≡ None

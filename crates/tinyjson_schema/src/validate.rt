@@ -69,6 +69,9 @@ fn violation_in(
     if let Some(keyword) = unmet(assertions(walk.ground.formats), here, value, walk)? {
         return Ok(Some(Violation::of_keyword(walk.alloc, keyword)?));
     }
+    if !here.may_apply() {
+        return Ok(None);
+    }
     if let Some(keyword) = unmet_test(value, here, inner)? {
         return Ok(Some(Violation::of_keyword(walk.alloc, keyword)?));
     }

@@ -33,6 +33,9 @@ pub fn unmet_test(
         (λ found. IsUnapplied walk.entry tests (view here.entry.schema.now) (tree_of value.now)
         found) }
 {
+    if !here.may_test() {
+        return Ok(None);
+    }
     let any = is_any_met(value, here.schemas_at(Keyword::AnyOf), walk)?;
     if !any {
         return Ok(Some(Keyword::AnyOf));

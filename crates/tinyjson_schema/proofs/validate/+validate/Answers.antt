@@ -33,6 +33,7 @@ use Rattle.tinyjson_schema.specs.Valid.{answers_in, FindsRest, reference_accepts
 use Rattle.tinyjson_schema.specs.Valid.{unmet, not_applied, in_all_of, in_dependent, in_patterned, in_reference, in_part, IsInvalidAt}
 use Rattle.tinyjson_schema.specs.Valid.{FindsFound, root_of}
 use Rattle.tinyjson_schema.specs.declared.validate.unevaluated.Source.{Source}
+use Rattle.tinyjson_schema.proofs.Leaves.{decided_alone, untested}
 use Rattle.tinyjson_schema.proofs.Loops.{items_turn, items_end, item_passes, item_free, members_turn, member_passes, member_free, same_members}
 use Rattle.tinyjson_schema.proofs.Loops.{dependents_turn, dependent_passes, dependent_free, no_parts, found_holds, not_found, found_turn}
 use Rattle.tinyjson_schema.proofs.Sourcing.{adds_none, adds_both, adds_as, adds_turn, adds_end, within_pushed, within_at, schema_added}
@@ -122,6 +123,16 @@ violation_in-returns-in-Some t c =
     (subst (λ o. IsUnmet c.args.walk.ground.now.formats s v o) c.in-Some.is
     (subst (λ ks. IsUnmetAmong ks s v c.in_ok-keyword.field-0) c.assertions.ensures c.in_ok-keyword.ensures)))))
 
+pub violation_in-returns-then-not-may_apply : goal.violation_in-returns-then-not-may_apply
+violation_in-returns-then-not-may_apply t c =
+    let inner = c.in_ok-inner.inner in
+    let s = view c.args.schema.now in
+    let v = tree_of c.args.value.now in
+    before c.args.walk inner c.in_ok-inner.ensures s v (Ok None)
+    (decided_alone s (c.may_apply.ensures c.if-not-may_apply.true) inner v (sym c.refuses_all.ensures ∙ c.if-refuses_all.false)
+    (subst (λ f. IsUnmet f s v None) (sym (ap (λ g. g.now.formats) c.in_ok-inner.ensures.0)) (subst (λ o. IsUnmet c.args.walk.ground.now.formats s v o) c.in_default.is
+    (subst (λ ks. IsUnmetAmong ks s v c.in_ok-keyword.field-0) c.assertions.ensures c.in_ok-keyword.ensures))))
+
 pub violation_in-returns-in-Some-2 : goal.violation_in-returns-in-Some-2
 violation_in-returns-in-Some-2 t c =
     let inner = c.in_ok-inner.inner in
@@ -203,6 +214,11 @@ pub is_accepted-returns : goal.is_accepted-returns
 is_accepted-returns t c g = flipped c.is_none.result _ c.is_none.ensures
     ∙ verdict (root_of c.args.walk) c.args.walk.steps (view c.args.schema.now) (tree_of c.args.value.now) c.in_ok-found.found
     c.in_ok-found.ensures g
+
+pub tested::unmet_test-returns-then-not-may_test : goal.tested::unmet_test-returns-then-not-may_test
+tested::unmet_test-returns-then-not-may_test t c g =
+    untested (says c.args.walk g) (view c.args.here.schema.now) (tree_of c.args.value.now)
+    (c.may_test.ensures c.if-not-may_test.true)
 
 pub tested::unmet_test-returns-then-not-any : goal.tested::unmet_test-returns-then-not-any
 tested::unmet_test-returns-then-not-any t c g =
