@@ -444,12 +444,12 @@ def valid(text: bytes, schema: Text, depth: int = ...) -> Optional[bytes]: ...
 def valid(text: Text, schema: Text, depth: int = DEPTH) -> Optional[Text]:
     """The report of a text that is not valid by a schema, or None.
 
-    The schema is of JSON Schema 2020-12, or of the draft that its $schema names. Both texts may be no deeper than 100
-    containers.
+    It has the words, the line and the column of the part, and JSON pointers to the part and to the keyword. The schema
+    is of JSON Schema 2020-12, or of the draft that its $schema names. Both texts may be no deeper than 100 containers.
 
     >>> valid('[1, 2.0]', '{"items": {"type": "integer"}}')
-    >>> part(valid('[1.5]', '{"items": {"type": "integer"}}'), "/error")
-    '"must be an integer, is a number"'
+    >>> valid('[1.5]', '{"items": {"type": "integer"}}')
+    '{"column":2,"error":"must be an integer, is a number","instanceLocation":"/0","keywordLocation":"/items/type","line":1,"valid":false}'
     """
     return _like(text, _judged(_valid, depth, text, schema))
 
@@ -459,7 +459,7 @@ def valid_lines(text: str, schema: Text, depth: int = ...) -> List[str]: ...
 @overload
 def valid_lines(text: bytes, schema: Text, depth: int = ...) -> List[bytes]: ...
 def valid_lines(text: Text, schema: Text, depth: int = DEPTH) -> Any:
-    """The report of each line that is not valid by a schema, with the line's number, from 1 on.
+    """The report of each line that is not valid by a schema. Its line is that of all the text.
 
     The last line may lack its line feed.
 

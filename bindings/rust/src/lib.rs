@@ -403,7 +403,8 @@ impl fmt::Display for SchemaError {
 impl error::Error for SchemaError {}
 
 /// Checks a text by a schema: JSON Schema 2020-12, or the draft that its `$schema` names. It returns `None` for a value
-/// that is valid, or the report of one that is not. Both texts may be no deeper than 100 containers, whatever the limit.
+/// that is valid, or the report of one that is not: the words, the line and the column of the part, and JSON pointers to
+/// the part and to the keyword. Both texts may be no deeper than 100 containers, whatever the limit.
 ///
 /// ```
 /// use tinyjson_proved::{valid, SchemaError};
@@ -411,6 +412,7 @@ impl error::Error for SchemaError {}
 /// let schema = r#"{"items": {"type": "integer"}}"#;
 /// assert_eq!(valid("[1, 2.0]", schema, 9)?, None);
 /// let report = valid("[1.5]", schema, 9)?.unwrap();
+/// assert_eq!(tinyjson_proved::part(&report, "/column", 9), Ok(Some("2".into())));
 /// let words = tinyjson_proved::part(report, "/error", 9);
 /// assert_eq!(words, Ok(Some(r#""must be an integer, is a number""#.into())));
 /// assert_eq!(valid("1", r#"{"type": 5}"#, 9), Err(SchemaError::Fault("/type".into())));

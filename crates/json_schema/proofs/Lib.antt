@@ -2,7 +2,6 @@ mod Cutting
 pub mod Examples
 pub mod Handling
 pub mod Outcomes
-pub mod Placing
 pub mod Running
 mod Sharing
 pub mod Verdicts

@@ -1,24 +1,13 @@
 -- The report of a value that is not valid, with the line and the column at which the part begins.
 use Rattle.std.specs.Fmt.{decimal}
-use Rattle.std.specs.Prelude.{ℕ, pos, List, [], ◌∷◌, ◌++◌, Option, Some, None, codes, cond, length, ◌==◌}
+use Rattle.std.specs.Prelude.{ℕ, List, [], ◌∷◌, ◌++◌, Option, Some, None, codes, cond, length, ◌==◌}
 use Rattle.std.specs.Str.{chars}
 use Rattle.tinyjson.specs.Characters.{line_feed}
-use Rattle.tinyjson.specs.Number.{integer_decimal}
-use Rattle.tinyjson.specs.Tree.{Tree, number, object, put}
 use Rattle.tinyjson.specs.View.{text}
 use Rattle.tinyjson_pointer.specs.Text.{pointer_text}
 use Rattle.tinyjson_pointer.specs.Tokens.{tokens_of}
 use Rattle.tinyjson_cli.specs.Shown.{shown}
-use Rattle.tinyjson_schema_report.specs.Report.{report_tree}
-use Rattle.json_schema.specs.declared.verdict.Located.{Located}
-
--- the report with its column as a member
-abbrev pub with_column : ℕ → Tree → Tree
-with_column n (object ms) = object (put (codes "column") (number (integer_decimal (pos n))) ms)
-with_column n t = t
-
-abbrev pub located_tree : ℕ → Located → Tree
-located_tree line l = with_column l.place.column (report_tree (Some line) l.finding)
+use Rattle.tinyjson_schema_report.specs.declared.located.Located.{Located}
 
 -- the text behind the place at which the part begins, in the file with this name or in standard input
 abbrev pub text_at : Option (List ℕ) → ℕ → ℕ → List ℕ → List ℕ

@@ -8,7 +8,8 @@ use Rattle.tinyjson_cli.specs.declared.status.Status.{Status}
 use Rattle.tinyjson_cli.specs.declared.status.Status.TheVariants as ended
 use Rattle.tinyjson_lines.specs.Line.{line_of}
 use Rattle.tinyjson_lines.specs.Lines.{AnswersAll, StopsAmong, content}
-use Rattle.json_schema.specs.Report.{located_tree, text_line}
+use Rattle.tinyjson_schema_report.specs.Located.{located_tree}
+use Rattle.json_schema.specs.Report.{text_line}
 use Rattle.json_schema.specs.Told.{told_line}
 use Rattle.json_schema.specs.Verdicts.{judged, GivesWithin}
 use Rattle.json_schema.specs.declared.lines.Check.{Check}
@@ -18,7 +19,7 @@ use Rattle.json_schema.specs.declared.lines.Shows.{Shows}
 use Rattle.json_schema.specs.declared.lines.Shows.TheVariants.{Reports, Texts, ValidLines, OtherLines}
 use Rattle.json_schema.specs.declared.verdict.Cause.{Cause}
 use Rattle.json_schema.specs.declared.verdict.Cause.TheVariants.{TooLong}
-use Rattle.json_schema.specs.declared.verdict.Located.{Located}
+use Rattle.tinyjson_schema_report.specs.declared.located.Located.{Located}
 use Rattle.json_schema.specs.declared.verdict.Verdict.{Verdict}
 use Rattle.json_schema.specs.declared.verdict.Verdict.TheVariants.{Valid, Invalid, Refused}
 

@@ -9,15 +9,14 @@ use Rattle.tinyjson.specs.Tree.{Tree}
 use Rattle.tinyjson.specs.declared.parser.error.JsonParseError.{JsonParseError}
 use Rattle.tinyjson_lines.specs.Lines.{content}
 use Rattle.tinyjson_lines.specs.Within.{IsLonger, IsWithin}
-use Rattle.tinyjson_places.specs.Places.{Locates}
-use Rattle.tinyjson_pointer.specs.Tokens.{tokens_of}
 use Rattle.tinyjson_schema.specs.Reading.{root_in}
 use Rattle.tinyjson_schema.specs.Valid.{Root}
 use Rattle.tinyjson_schema_keywords.specs.declared.walk.CheckError.TheVariants as check
 use Rattle.tinyjson_schema_report.specs.Finds.{FindsIn}
+use Rattle.tinyjson_schema_report.specs.Located.{IsLocated}
 use Rattle.json_schema.specs.declared.verdict.Cause.TheVariants as cause
 use Rattle.json_schema.specs.declared.verdict.Judge.{Judge}
-use Rattle.json_schema.specs.declared.verdict.Located.{Located}
+use Rattle.tinyjson_schema_report.specs.declared.located.Located.{Located}
 use Rattle.json_schema.specs.declared.verdict.Verdict.{Verdict}
 use Rattle.json_schema.specs.declared.verdict.Verdict.TheVariants.{Valid, Invalid, Refused}
 
@@ -31,10 +30,6 @@ step_limit = 200
 -- the root schema, in which `format` is an assertion or not
 abbrev pub judged : Judge → Root
 judged j = root_in j.schema.now j.formats
-
--- The place is where the part begins in the text xs that is not valid.
-abbrev pub IsLocated : List ℕ → Located → Type 0
-IsLocated xs l = Locates xs (tokens_of l.finding.violation.instance_location) (Ok (Some l.place))
 
 -- the verdict on the tree t of the text xs by the schema s
 abbrev pub ValueGives : List ℕ → Root → Tree → Verdict → Type 0

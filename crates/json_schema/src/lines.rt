@@ -9,11 +9,12 @@ ghost use Rattle.json_schema.specs.Run.{is_line_shown, is_others, is_kept};
 
 use crate::refusal::{Unchecked, tell_line};
 use crate::report::{write_report, write_text};
-use crate::verdict::{Cause, Judge, Located, Verdict, check_line};
+use crate::verdict::{Cause, Judge, Verdict, check_line};
 use std::alloc::Global;
 use std::io::{self, BufRead, ErrorKind, Write};
 use tinyjson_cli::Status;
 use tinyjson_lines::{LineRead, content, read_line_within, write_all};
+use tinyjson_schema_report::Located;
 
 /// The schema that lines are checked against, and the file that they are from.
 #[derive(Clone, Copy)]

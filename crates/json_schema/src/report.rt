@@ -2,21 +2,17 @@
 ghost use Rattle.std.specs.Prelude.{◌≡◌, ◌++◌, ◌∷◌, [], IfOk, option_map, string_bytes};
 ghost use Rattle.std.specs.Str.{chars};
 ghost use Rattle.tinyjson.specs.Characters.{line_feed};
-ghost use Rattle.tinyjson.specs.View.{view};
 ghost use Rattle.tinyjson.specs.Written.{WritesPrefix};
 ghost use Rattle.tinyjson_lines.specs.Line.{line_of};
 ghost use Rattle.tinyjson_cli.specs.Shown.{shown};
-ghost use Rattle.json_schema.specs.Report.{located_tree, with_column};
+ghost use Rattle.tinyjson_schema_report.specs.Located.{located_tree};
 ghost use Rattle.json_schema.specs.Report.{text_line, text_at, headed};
 
-use crate::verdict::Located;
 use std::alloc::{AllocError, Global};
 use std::io::{self, Write};
-use tinyjson::{JsonNumber, JsonValue};
 use tinyjson_cli::Shown;
 use tinyjson_lines::{write_all, write_line};
-use tinyjson_pointer::put_member;
-use tinyjson_schema_report::output_unit;
+use tinyjson_schema_report::{Located, located_unit};
 
 /// Writes an output unit (Core, 12.4.2) as one line of normal text, with a line and the column at which the part
 /// begins.
@@ -33,27 +29,6 @@ pub fn write_report<W: Write>(
 {
     let unit = located_unit(alloc, line, located)?;
     write_line(alloc, &unit, w)
-}
-
-fn located_unit(alloc: Global, line: u64, located: &Located) -> Result<JsonValue, AllocError>
-    ensures { IfOk result (λ unit. view unit ≡ located_tree line located.now) }
-{
-    let unit = output_unit(alloc, Some(line), &located.finding)?;
-    with_column(alloc, unit, located.place.column)
-}
-
-/// The report with its column as a member.
-fn with_column(alloc: Global, unit: JsonValue, column: usize) -> Result<JsonValue, AllocError>
-    ensures { IfOk result (λ located. view located ≡ with_column column (view unit)) }
-{
-    match unit {
-        JsonValue::Object(mut members) => {
-            let number = JsonNumber::from_u64(alloc, column as u64)?;
-            put_member(&mut members, "column", JsonValue::Number(number), alloc)?;
-            Ok(JsonValue::Object(members))
-        }
-        other => Ok(other),
-    }
 }
 
 /// Writes a report for people as one line, as `data.json:3:7: /a must be at most 10, is 12`: the name of the file if it

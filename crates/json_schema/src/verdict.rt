@@ -1,12 +1,8 @@
 //! The verdict on a text.
-ghost use Rattle.std.specs.Prelude.{◌≡◌, IfOk, IsSome, Ok, Some};
+ghost use Rattle.std.specs.Prelude.{◌≡◌, IfOk};
 ghost use Rattle.std.specs.Str.{chars};
 ghost use Rattle.tinyjson.specs.Grammar.{IsText};
-ghost use Rattle.tinyjson.specs.Tree.{Tree};
 ghost use Rattle.tinyjson_document.specs.Document.{tree};
-ghost use Rattle.tinyjson_pointer.specs.Tokens.{tokens_of};
-ghost use Rattle.tinyjson_pointer.specs.Walk.{part_at};
-ghost use Rattle.tinyjson_places.specs.Places.{Locates};
 ghost use Rattle.json_schema.specs.Verdicts.{judged, ValueGives, TextGives, LineGives, depth_limit};
 
 use std::alloc::{AllocError, Global};
@@ -14,10 +10,8 @@ use std::str;
 use tinyjson::JsonParseError;
 use tinyjson_document::{Document, Node};
 use tinyjson_lines::content;
-use tinyjson_places::{Place, place_of};
-use tinyjson_pointer::Pointer;
 use tinyjson_schema::{CheckError, Checks, Schema};
-use tinyjson_schema_report::{Finding, find_by, limits_of};
+use tinyjson_schema_report::{Located, find_by, limits_of, locate};
 
 /// How many containers may be nested in a schema or a value: the check takes stack with the nesting.
 pub const DEPTH_LIMIT: usize = 100;
@@ -28,15 +22,6 @@ pub struct Judge<'a, 's> {
     pub schema: &'a Schema<'s>,
     /// Whether `format` is an assertion.
     pub formats: bool,
-}
-
-/// What a value violates of the schema, and where in its text.
-#[derive(Drop)]
-pub struct Located {
-    /// What it violates, with the words.
-    pub finding: Finding,
-    /// Where the part begins that is not valid.
-    pub place: Place,
 }
 
 /// The verdict on a text.
@@ -97,28 +82,12 @@ fn check_value(
     match find_by(judge.schema, value, checks, alloc) {
         Ok(None) => Ok(Verdict::Valid),
         Ok(Some(finding)) => {
-            let place = begin_of(alloc, text, &finding.violation.instance_location)?;
-            Ok(Verdict::Invalid(Located { finding, place }))
+            let located = locate(alloc, text, finding)?;
+            Ok(Verdict::Invalid(located))
         }
         Err(CheckError::TooDeep) => Ok(Verdict::Refused(Cause::TooDeep)),
         Err(CheckError::TooMuch) => Ok(Verdict::Refused(Cause::TooMuch)),
         Err(CheckError::OutOfMemory) => Err(AllocError),
-    }
-}
-
-/// Where the part of the text's value begins to which the pointer leads. Not inlined, so that the check before it has
-/// all of the stack.
-#[inline(never)]
-fn begin_of(alloc: Global, text: &str, pointer: &Pointer) -> Result<Place, AllocError>
-    requires { (t : Tree) × IsText depth_limit (chars text.now) t
-        × IsSome (part_at t (tokens_of pointer.now)) }
-    ensures { IfOk result (λ place.
-        Locates (chars text.now) (tokens_of pointer.now) (Ok (Some place))) }
-{
-    match place_of(alloc, text, pointer) {
-        Ok(Some(place)) => Ok(place),
-        Ok(None) => unreachable!(),
-        Err(_) => Err(AllocError),
     }
 }
 

@@ -8,7 +8,7 @@ use Rattle.tinyjson_c.specs.Buffer.{HasWritten, LacksRoom}
 use Rattle.tinyjson_c.specs.Place.{length_place, memory_place}
 use Rattle.tinyjson_c.specs.Schema.{Decides, DecidesBy, DecidesTree, IsBadSchema, IsMisfit, IsSchemaOf, IsSchemaTree, IsUncheckable}
 use Rattle.tinyjson_c.specs.Schema.{IsUnchecked, IsValidText}
-use Rattle.tinyjson_c.specs.Schema.{HasPlace, IsFaultyAt, IsNoSchema, IsSchemaBy, Judges, JudgesTree, PutsBytes}
+use Rattle.tinyjson_c.specs.Schema.{FindsText, FindsTree, HasPlace, IsFaultyAt, IsNoSchema, IsSchemaBy, PutsBytes}
 use Rattle.tinyjson_c.specs.Schema.{Puts, Violates, misfit_text, report_text, schema_status, unchecked_place, unchecked_status}
 use Rattle.tinyjson_c.specs.Stop.{IsStopped, IsTextOf, Stops, stop_place}
 use Rattle.tinyjson_c.specs.declared.place.TinyjsonPlace.{TinyjsonPlace}
@@ -25,16 +25,15 @@ use Rattle.tinyjson_c.specs.declared.stop.Stop.TheVariants as stop
 use Rattle.tinyjson_grammar.specs.Tree.{Tree}
 use Rattle.tinyjson_schema.specs.Reading.{tree_of}
 use Rattle.tinyjson_schema.specs.declared.schema.Schema.{Schema}
-use Rattle.tinyjson_schema_report.specs.declared.found.Finding.{Finding}
+use Rattle.tinyjson_schema_report.specs.declared.located.Located.{Located}
 
 -- what is known of a text's tree is known of the text
-pub judges : (limit : Option ℕ) (s t : Tree) (text : List ℕ) (line : Option ℕ) (old new : List ℕ) (r : Result Bool Unchecked)
-    → IsTextOf limit text t → JudgesTree s t line old new r → Judges limit s text line old new r
-judges limit s t text line old new (Ok true) i h = (t, i, h.0, h.1)
-judges limit s t text line old new (Ok false) i h = (t, i, h.0, h.1, h.2)
-judges limit s t text line old new (Err (un.Text e)) i h = subst (IsStopped limit text) (sym h) i.0
-judges limit s t text line old new (Err (un.Schema e)) i h = absurd h
-judges limit s t text line old new (Err un.StepLimit) i h = (i.0, (t, i.1))
+pub finds_text : (limit : Option ℕ) (s t : Tree) (text : List ℕ) (r : Result (Option Located) Unchecked)
+    → IsTextOf limit text t → FindsTree s text t r → FindsText limit s text r
+finds_text limit s t text (Ok o) i h = (t, i, h)
+finds_text limit s t text (Err (un.Text e)) i h = subst (IsStopped limit text) (sym h) i.0
+finds_text limit s t text (Err (un.Schema e)) i h = absurd h
+finds_text limit s t text (Err un.StepLimit) i h = (i.0, (t, i.1))
 
 -- why a tree is no schema, by the place of a fault
 pub faulty : (s : Tree) (ks : List (List ℕ)) (n : NoSchema) → IsFaultyAt s ks → HasPlace ks n → IsNoSchema s n
@@ -49,14 +48,23 @@ puts_bytes bytes old new written put status place (inl e) w l s a b = inl (a e, 
 puts_bytes bytes old new written put status place (inr e) w l s a b =
     let other : put ≢ OK = λ k. cc in inr (b other ∙ e, l e, s other)
 
--- the report of a text alone
-pub judged_valid : (limit : Option ℕ) (s : Tree) (text old new : List ℕ) → Judges limit s text None old new (Ok true)
-    → DecidesBy limit s text (Ok Valid)
-judged_valid limit s text old new h = (h.0, h.1, h.2)
+-- what is found is decided
+pub found_valid : (limit : Option ℕ) (s : Tree) (text : List ℕ) → FindsText limit s text (Ok None) → DecidesBy limit s text (Ok Valid)
+found_valid limit s text h = h
 
-pub judged_invalid : (limit : Option ℕ) (s : Tree) (text old : List ℕ) (report : Vec ℕ Global) → old ≡ []
-    → Judges limit s text None old report.items (Ok false) → DecidesBy limit s text (Ok (Invalid report))
-judged_invalid limit s text old report none (t, i, f, w, e) = (t, i, f, w, e ∙ ap (λ o. o ++ report_text None f) none)
+pub found_invalid : (limit : Option ℕ) (s : Tree) (text : List ℕ) (report : Vec ℕ Global) (l : Located)
+    → report.items ≡ report_text l.place.line l → FindsText limit s text (Ok (Some l)) → DecidesBy limit s text (Ok (Invalid report))
+found_invalid limit s text report l e (t, i, w) = (t, i, l, w, e)
+
+pub found_without_memory : (limit : Option ℕ) (s : Tree) (text : List ℕ) (o : Option Located) → FindsText limit s text (Ok o)
+    → DecidesBy limit s text (Err (un.Text stop.OutOfMemory))
+found_without_memory limit s text o (t, i, w) = i.0
+
+pub not_found : (limit : Option ℕ) (s : Tree) (text : List ℕ) (u : Unchecked) → FindsText limit s text (Err u)
+    → DecidesBy limit s text (Err u)
+not_found limit s text (un.Text e) h = h
+not_found limit s text (un.Schema e) h = h
+not_found limit s text un.StepLimit h = h
 
 -- what is known by a schema is known by its tree
 pub decides_tree : (limit : Option ℕ) (s : Tree) (schema : Schema) (text : List ℕ) (r : Result Verdict Unchecked) → IsSchemaBy s schema
@@ -74,7 +82,7 @@ pub decided : (limit : Option ℕ) (text schema : List ℕ) (s : Tree) (r : Resu
 decided limit text schema s (Ok Valid) h (k, (t, i, v)) =
     record { by = s; tree = t; is_schema = (h, k); is_text = i; is_valid = v }
 decided limit text schema s (Ok (Invalid r)) h (k, (t, i, v, w, e)) =
-    (v, record { by = s; tree = t; is_schema = (h, k); is_text = i; violates = w }, e)
+    (v, record { by = s; tree = t; is_schema = (h, k); is_text = i; found = w }, e)
 decided limit text schema s (Ok (Misfit p)) h (ks, f, e) = (ks, (s, h, f), e)
 decided limit text schema s (Err (un.Text (stop.Refused e))) h (k, i) = (s, (h, k), i)
 decided limit text schema s (Err (un.Text (stop.NotUtf8 n))) h (k, i) = (s, (h, k), i)
@@ -97,7 +105,7 @@ module _ (limit : Option ℕ) (text schema old new : List ℕ) (place : Tinyjson
   verdict_valid (Misfit p) d (inr (i, w, l)) k = no_two TOO_SMALL OK status refl i k
 
   pub verdict_invalid : (v : Verdict) → Decides limit text schema v → Puts v old new place status → status ≡ INVALID
-      → (f : Finding) × Violates limit text schema f × HasWritten (report_text None f) old new place
+      → (l : Located) × Violates limit text schema l × HasWritten (report_text l.place.line l) old new place
   verdict_invalid Valid d (i, p, l) k = no_two OK INVALID status refl i k
   verdict_invalid (Invalid r) d (inl (i, w)) k = (d.0, d.1, subst (λ b. HasWritten b old new place) d.2 w)
   verdict_invalid (Invalid r) d (inr (i, w, l)) k = no_two TOO_SMALL INVALID status refl i k
@@ -113,7 +121,7 @@ module _ (limit : Option ℕ) (text schema old new : List ℕ) (place : Tinyjson
   verdict_fault (Misfit p) d (inr (i, w, l)) k = no_two TOO_SMALL SCHEMA_FAULT status refl i k
 
   pub verdict_small : (v : Verdict) → Decides limit text schema v → Puts v old new place status → status ≡ TOO_SMALL
-      → ((f : Finding) × Violates limit text schema f × LacksRoom (report_text None f) old place)
+      → ((l : Located) × Violates limit text schema l × LacksRoom (report_text l.place.line l) old place)
       ⊎ ((ks : List (List ℕ)) × IsMisfit limit schema ks × LacksRoom (misfit_text ks) old place)
   verdict_small Valid d (i, p, l) k = no_two OK TOO_SMALL status refl i k
   verdict_small (Invalid r) d (inl (i, w)) k = no_two INVALID TOO_SMALL status refl i k

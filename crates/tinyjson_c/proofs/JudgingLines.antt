@@ -8,10 +8,10 @@ use Rattle.tinyjson_c.proofs.SelectingLines.{line_stops}
 use Rattle.tinyjson_c.specs.Buffer.{HasWritten, LacksRoom}
 use Rattle.tinyjson_c.specs.Lines.{AreFirst, AreLines, IsStoppedAt, StopsAtLine, first_line, later_lines}
 use Rattle.tinyjson_c.specs.Place.{length_place}
-use Rattle.tinyjson_c.specs.Schema.{IsBadSchema, IsMisfit, IsSchemaBy, IsSchemaOf, IsSchemaTree, IsUncheckable, Judges, Puts, misfit_text}
-use Rattle.tinyjson_c.specs.Schema.{report_text, step_limit, unchecked_place, unchecked_status}
+use Rattle.tinyjson_c.specs.Schema.{FindsText, IsBadSchema, IsFound, IsMisfit, IsSchemaBy, IsSchemaOf, IsSchemaTree, IsUncheckable, Puts}
+use Rattle.tinyjson_c.specs.Schema.{misfit_text, unchecked_place, unchecked_status}
 use Rattle.tinyjson_c.specs.SchemaLines.{AreJudged, DecidesLines, DecidesLinesBy, DecidesLinesTree, IsNotJudged, IsStoppedLine}
-use Rattle.tinyjson_c.specs.SchemaLines.{IsUncheckedAt, JudgesLines, report_of, reports_text}
+use Rattle.tinyjson_c.specs.SchemaLines.{IsUncheckedAt, JudgesLine, JudgesLines, report_of, reports_text}
 use Rattle.tinyjson_c.specs.SelectLines.{IsLineAt}
 use Rattle.tinyjson_c.specs.Stop.{IsAcceptedText, IsStopped, IsTextOf}
 use Rattle.tinyjson_c.specs.declared.place.TinyjsonPlace.{TinyjsonPlace}
@@ -28,23 +28,25 @@ use Rattle.tinyjson_grammar.specs.Characters.{line_feed}
 use Rattle.tinyjson_grammar.specs.Tree.{Tree}
 use Rattle.tinyjson_schema.specs.Reading.{tree_of}
 use Rattle.tinyjson_schema.specs.declared.schema.Schema.{Schema}
-use Rattle.tinyjson_schema_report.specs.Finds.{Finds}
-use Rattle.tinyjson_schema_report.specs.declared.found.Finding.{Finding}
+use Rattle.tinyjson_schema_report.specs.declared.located.Located.{Located}
 
-judged_more : (s : Tree) (ts : List Tree) (os : List (Option Finding)) (t : Tree) (o : Option Finding) → AreJudged s ts os
-    → Finds step_limit s t (Ok o) → AreJudged s (ts ++ t ∷ []) (os ++ o ∷ [])
-judged_more s [] [] t o h v = (v, tt)
-judged_more s [] (p ∷ os) t o h v = absurd h
-judged_more s (u ∷ ts) [] t o h v = absurd h
-judged_more s (u ∷ ts) (p ∷ os) t o h v = (h.0, judged_more s ts os t o h.1 v)
+judged_more : (s : Tree) (limit : Option ℕ) (bytes rest : List ℕ) (ts : List Tree) (os : List (Option Located)) (t : Tree)
+    (o : Option Located) → AreFirst limit bytes ts rest → AreJudged s bytes ts os → IsFound s (first_line rest) t o
+    → AreJudged s bytes (ts ++ t ∷ []) (os ++ o ∷ [])
+judged_more s limit bytes rest [] [] t o a h v = (subst (λ z. IsFound s (first_line z) t o) (sym a) v, tt)
+judged_more s limit bytes rest [] (p ∷ os) t o a h v = absurd h
+judged_more s limit bytes rest (u ∷ ts) [] t o a h v = absurd h
+judged_more s limit bytes rest (u ∷ ts) (p ∷ os) t o a h v =
+    (h.0, judged_more s limit (later_lines bytes) rest ts os t o a.2 h.1 v)
 
-judged_length : (s : Tree) (ts : List Tree) (os : List (Option Finding)) → AreJudged s ts os → length ts ≡ length os
-judged_length s [] [] h = refl
-judged_length s [] (p ∷ os) h = absurd h
-judged_length s (u ∷ ts) [] h = absurd h
-judged_length s (u ∷ ts) (p ∷ os) h = ap (λ n. suc n) (judged_length s ts os h.1)
+judged_length : (s : Tree) (bytes : List ℕ) (ts : List Tree) (os : List (Option Located)) → AreJudged s bytes ts os
+    → length ts ≡ length os
+judged_length s bytes [] [] h = refl
+judged_length s bytes [] (p ∷ os) h = absurd h
+judged_length s bytes (u ∷ ts) [] h = absurd h
+judged_length s bytes (u ∷ ts) (p ∷ os) h = ap (λ n. suc n) (judged_length s (later_lines bytes) ts os h.1)
 
-reports_more : (n : ℕ) (os : List (Option Finding)) (o : Option Finding)
+reports_more : (n : ℕ) (os : List (Option Located)) (o : Option Located)
     → reports_text n (os ++ o ∷ []) ≡ reports_text n os ++ report_of (length os + n) o
 reports_more n [] o = let at : n ≡ 0 + n = omega arith in append-nil _ ∙ ap (λ k. report_of k o) at
 reports_more n (p ∷ os) o =
@@ -55,20 +57,20 @@ reports_more n (p ∷ os) o =
 -- these lines were read, and the reports of those that are not valid are written
 abbrev pub HasJudged : Tree → Option ℕ → List ℕ → List ℕ → List ℕ → ℕ → Type 0
 HasJudged s limit bytes rest reports number = (ts : List Tree) × AreFirst limit bytes ts rest
-    × (os : List (Option Finding)) × AreJudged s ts os × (reports ≡ reports_text 1 os) × (number ≡ length ts)
+    × (os : List (Option Located)) × AreJudged s bytes ts os × (reports ≡ reports_text 1 os) × (number ≡ length ts)
 
 pub one_more_judged : (s : Tree) (limit : Option ℕ) (bytes rest line later old new : List ℕ) (number : ℕ)
     → HasJudged s limit bytes rest old number → rest ≢ [] → line ≡ first_line rest → later ≡ later_lines rest
-    → (t : Tree) × IsTextOf limit line t × (o : Option Finding) × Finds step_limit s t (Ok o) × (new ≡ old ++ report_of (number + 1) o)
+    → (t : Tree) × IsTextOf limit line t × (o : Option Located) × IsFound s line t o × (new ≡ old ++ report_of (number + 1) o)
     → HasJudged s limit bytes later new (number + 1)
 one_more_judged s limit bytes rest line later old new number (ts, first, os, judged, done, counted) more is after (t, text, o, valid, w) =
     let P : List ℕ → Type 0 = λ z. AreFirst limit bytes (ts ++ t ∷ []) z in
     let Q : List ℕ → Type 0 = λ z. IsTextOf limit z t in
-    let at : number + 1 ≡ length os + 1 = ap (λ n. n + 1) (counted ∙ judged_length s ts os judged) in (
+    let at : number + 1 ≡ length os + 1 = ap (λ n. n + 1) (counted ∙ judged_length s bytes ts os judged) in (
       ts ++ t ∷ [],
       subst P (sym after) (first_more limit bytes ts rest t first more (subst Q is text)),
       os ++ o ∷ [],
-      judged_more s ts os t o judged valid,
+      judged_more s limit bytes rest ts os t o first judged (subst (λ z. IsFound s z t o) is valid),
       w ∙ (ap (λ x. x ++ report_of (number + 1) o) done ∙ (ap (λ k. reports_text 1 os ++ report_of k o) at ∙ sym (reports_more 1 os o))),
       ap (λ n. n + 1) counted ∙ sym (length_more ts t),
     )
@@ -100,7 +102,7 @@ module _ (s : Tree) (limit : Option ℕ) (text rest line reports : List ℕ) (nu
 -- all lines are read
 pub all_judged : (s : Tree) (limit : Option ℕ) (text rest reports : List ℕ) (number : ℕ) → HasJudged s limit text rest reports number
     → rest ≡ []
-    → (ts : List Tree) × AreLines limit text ts × (os : List (Option Finding)) × AreJudged s ts os × (reports ≡ reports_text 1 os)
+    → (ts : List Tree) × AreLines limit text ts × (os : List (Option Located)) × AreJudged s text ts os × (reports ≡ reports_text 1 os)
 all_judged s limit text rest reports number h none = (h.0, subst (AreFirst limit text h.0) none h.1, h.2, h.3, h.4)
 
 -- reports of which a test finds whether there are any
@@ -112,12 +114,12 @@ some_reports reports is_empty e f = not_empty reports.items is_empty (e ∙ ap (
 
 -- the reports of all lines
 pub judged_all_valid : (limit : Option ℕ) (s : Tree) (text reports : List ℕ) → reports ≡ []
-    → (ts : List Tree) × AreLines limit text ts × (os : List (Option Finding)) × AreJudged s ts os × (reports ≡ reports_text 1 os)
+    → (ts : List Tree) × AreLines limit text ts × (os : List (Option Located)) × AreJudged s text ts os × (reports ≡ reports_text 1 os)
     → DecidesLinesBy limit s text (Ok Valid)
 judged_all_valid limit s text reports none (ts, l, os, j, w) = (ts, l, os, j, sym w ∙ none)
 
 pub judged_all : (limit : Option ℕ) (s : Tree) (text : List ℕ) (reports : Vec ℕ Global) → reports.items ≢ []
-    → (ts : List Tree) × AreLines limit text ts × (os : List (Option Finding)) × AreJudged s ts os × (reports.items ≡ reports_text 1 os)
+    → (ts : List Tree) × AreLines limit text ts × (os : List (Option Located)) × AreJudged s text ts os × (reports.items ≡ reports_text 1 os)
     → DecidesLinesBy limit s text (Ok (Invalid reports))
 judged_all limit s text reports some (ts, l, os, j, w) = (ts, l, os, j, w, some)
 
@@ -129,23 +131,20 @@ decides_lines_tree limit s schema text (Ok (Invalid r)) (e, k) h = (k, subst (λ
 decides_lines_tree limit s schema text (Ok (Misfit p)) (e, k) h = absurd h
 decides_lines_tree limit s schema text (Err l) (e, k) h = inl (k, h)
 
--- the report of a line, and a line feed
-pub judged_line : (limit : Option ℕ) (s : Tree) (line : List ℕ) (n : ℕ) (old new : List ℕ) → Judges limit s line (Some n) old new (Ok true)
-    → (t : Tree) × IsTextOf limit line t × (o : Option Finding) × Finds step_limit s t (Ok o) × (new ≡ old ++ report_of n o)
-judged_line limit s line n old new (t, i, v, e) = (t, i, None, v, e ∙ sym (append-nil old))
+-- the report of a line
+pub judged_line : (limit : Option ℕ) (s : Tree) (line : List ℕ) (n : ℕ) (old new : List ℕ) (o : Option Located)
+    → FindsText limit s line (Ok o) → new ≡ old ++ report_of n o → JudgesLine limit s line n old new (Ok tt)
+judged_line limit s line n old new o (t, i, v) e = (t, i, o, v, e)
 
-pub judged_line_feed : (limit : Option ℕ) (s : Tree) (line : List ℕ) (n : ℕ) (old mid new : List ℕ) → new ≡ mid ++ line_feed ∷ []
-    → Judges limit s line (Some n) old mid (Ok false)
-    → (t : Tree) × IsTextOf limit line t × (o : Option Finding) × Finds step_limit s t (Ok o) × (new ≡ old ++ report_of n o)
-judged_line_feed limit s line n old mid new w (t, i, f, v, e) =
-    (t, i, Some f, v, w ∙ (ap (λ x. x ++ line_feed ∷ []) e ∙ append_assoc old (report_text (Some n) f) (line_feed ∷ [])))
+pub unreported_line : (limit : Option ℕ) (s : Tree) (line : List ℕ) (o : Option Located) → FindsText limit s line (Ok o)
+    → IsNotJudged limit line (un.Text stop.OutOfMemory)
+unreported_line limit s line o (t, i, v) = i.0
 
 -- why a line is not judged
-pub unjudged : (limit : Option ℕ) (s : Tree) (line : List ℕ) (n : Option ℕ) (old new : List ℕ) (u : Unchecked)
-    → Judges limit s line n old new (Err u) → IsNotJudged limit line u
-unjudged limit s line n old new (un.Text e) h = h
-unjudged limit s line n old new (un.Schema e) h = h
-unjudged limit s line n old new un.StepLimit h = h
+pub unjudged : (limit : Option ℕ) (s : Tree) (line : List ℕ) (u : Unchecked) → FindsText limit s line (Err u) → IsNotJudged limit line u
+unjudged limit s line (un.Text e) h = h
+unjudged limit s line (un.Schema e) h = h
+unjudged limit s line un.StepLimit h = h
 
 -- what is known of a schema's tree is known of its text
 pub decided_lines : (limit : Option ℕ) (text schema : List ℕ) (s : Tree) (r : Result Verdict UncheckedLine) → IsSchemaTree limit schema s
@@ -169,7 +168,7 @@ decided_lines limit text schema s (Err l) h (inr e) = subst (IsUncheckedAt limit
 -- what a call returns that checks all lines
 module _ (limit : Option ℕ) (text schema old new : List ℕ) (place : TinyjsonPlace) (status : ℕ) where
   pub lines_valid : (v : Verdict) → DecidesLines limit text schema v → Puts v old new place status → status ≡ OK
-      → (os : List (Option Finding)) × JudgesLines limit text schema os × (reports_text 1 os ≡ []) × (place ≡ length_place 0 0)
+      → (os : List (Option Located)) × JudgesLines limit text schema os × (reports_text 1 os ≡ []) × (place ≡ length_place 0 0)
   lines_valid Valid (os, j, e) (i, p, l) k = (os, j, e, p)
   lines_valid (Invalid r) d (inl (i, w)) k = no_two INVALID OK status refl i k
   lines_valid (Invalid r) d (inr (i, w, l)) k = no_two TOO_SMALL OK status refl i k
@@ -177,7 +176,7 @@ module _ (limit : Option ℕ) (text schema old new : List ℕ) (place : Tinyjson
   lines_valid (Misfit p) d (inr (i, w, l)) k = no_two TOO_SMALL OK status refl i k
 
   pub lines_invalid : (v : Verdict) → DecidesLines limit text schema v → Puts v old new place status → status ≡ INVALID
-      → (os : List (Option Finding)) × JudgesLines limit text schema os × (reports_text 1 os ≢ [])
+      → (os : List (Option Located)) × JudgesLines limit text schema os × (reports_text 1 os ≢ [])
       × HasWritten (reports_text 1 os) old new place
   lines_invalid Valid d (i, p, l) k = no_two OK INVALID status refl i k
   lines_invalid (Invalid r) (os, j, e, n) (inl (i, w)) k = (os, j, (λ z. n (e ∙ z)), subst (λ b. HasWritten b old new place) e w)
@@ -194,7 +193,7 @@ module _ (limit : Option ℕ) (text schema old new : List ℕ) (place : Tinyjson
   lines_fault (Misfit p) d (inr (i, w, l)) k = no_two TOO_SMALL SCHEMA_FAULT status refl i k
 
   pub lines_small : (v : Verdict) → DecidesLines limit text schema v → Puts v old new place status → status ≡ TOO_SMALL
-      → ((os : List (Option Finding)) × JudgesLines limit text schema os × LacksRoom (reports_text 1 os) old place)
+      → ((os : List (Option Located)) × JudgesLines limit text schema os × LacksRoom (reports_text 1 os) old place)
       ⊎ ((ks : List (List ℕ)) × IsMisfit limit schema ks × LacksRoom (misfit_text ks) old place)
   lines_small Valid d (i, p, l) k = no_two OK TOO_SMALL status refl i k
   lines_small (Invalid r) d (inl (i, w)) k = no_two INVALID TOO_SMALL status refl i k

@@ -1,6 +1,7 @@
 -- Whether a text is valid by a schema (JSON Schema), and the report if it is not.
 use Rattle.std.specs.Prelude.{◌≡◌, ◌⊎◌, ℕ, Bool, true, false, List, ◌++◌, Option, None, Some, Result, Ok, Err, min}
 use Rattle.std.specs.Prelude.{encode_utf8_all, string_bytes}
+use Rattle.std.specs.Str.{chars}
 use Rattle.tinyjson.specs.Text.{compact}
 use Rattle.tinyjson_c.specs.Buffer.{HasWritten, LacksRoom}
 use Rattle.tinyjson_c.specs.Place.{length_place}
@@ -27,8 +28,8 @@ use Rattle.tinyjson_schema_drafts.specs.Reading.{read_as}
 use Rattle.tinyjson_schema_drafts.specs.declared.draft.Draft.TheVariants.{Draft202012}
 use Rattle.tinyjson_schema_keywords.specs.declared.keyword.Form.TheVariants as form
 use Rattle.tinyjson_schema_report.specs.Finds.{Finds}
-use Rattle.tinyjson_schema_report.specs.Report.{report_tree}
-use Rattle.tinyjson_schema_report.specs.declared.found.Finding.{Finding}
+use Rattle.tinyjson_schema_report.specs.Located.{IsLocated, located_tree}
+use Rattle.tinyjson_schema_report.specs.declared.located.Located.{Located}
 
 -- how many containers may be nested in a schema and in a text that is checked, in a call with this limit
 abbrev pub schema_depth : ℕ → ℕ
@@ -55,13 +56,18 @@ pub record IsValidText (limit : Option ℕ) (text schema : List ℕ) : Type 0 wh
   pub is_text : IsTextOf limit text tree
   pub is_valid : IsValid by tree
 
--- The text's tree is not valid by the schema: this is where, and what was wanted.
-pub record Violates (limit : Option ℕ) (text schema : List ℕ) (f : Finding) : Type 0 where
+-- The tree of a text is valid by the schema, or not: then this is what it violates, and where.
+abbrev pub IsFound : Tree → List ℕ → Tree → Option Located → Type 0
+IsFound s text t None = Finds step_limit s t (Ok None)
+IsFound s text t (Some l) = Finds step_limit s t (Ok (Some l.finding)) × IsLocated (chars text) l
+
+-- The text's tree is not valid by the schema: this is what it violates, and where.
+pub record Violates (limit : Option ℕ) (text schema : List ℕ) (l : Located) : Type 0 where
   pub by : Tree
   pub tree : Tree
   pub is_schema : IsSchemaOf limit schema by
   pub is_text : IsTextOf limit text tree
-  pub violates : Finds step_limit by tree (Ok (Some f))
+  pub found : IsFound by text tree (Some l)
 
 -- The schema can't be applied at the place with these tokens, or a pattern there is too deep or too large.
 abbrev pub IsFaultyAt : Tree → List (List ℕ) → Type 0
@@ -79,9 +85,9 @@ IsBadSchema limit schema place = (status : ℕ) × Stops limit schema 1 status p
 abbrev pub IsUncheckable : Option ℕ → List ℕ → List ℕ → Type 0
 IsUncheckable limit text schema = (s : Tree) × IsSchemaOf limit schema s × IsAcceptedText limit text
 
--- the report of what is not valid, with the number of the value's line if it has one
-abbrev pub report_text : Option ℕ → Finding → List ℕ
-report_text line f = encode_utf8_all (compact (report_tree line f))
+-- the report of what is not valid, with this line, and the column at which the part begins
+abbrev pub report_text : ℕ → Located → List ℕ
+report_text line l = encode_utf8_all (compact (located_tree line l))
 
 abbrev pub misfit_text : List (List ℕ) → List ℕ
 misfit_text ks = encode_utf8_all (pointer_text ks)
@@ -91,7 +97,8 @@ misfit_text ks = encode_utf8_all (pointer_text ks)
 -- what is known of a text and a schema
 abbrev pub Decides : Option ℕ → List ℕ → List ℕ → Verdict → Type 0
 Decides limit text schema Valid = IsValidText limit text schema
-Decides limit text schema (Invalid report) = (f : Finding) × Violates limit text schema f × (report.items ≡ report_text None f)
+Decides limit text schema (Invalid report) =
+    (l : Located) × Violates limit text schema l × (report.items ≡ report_text l.place.line l)
 Decides limit text schema (Misfit place) =
     (ks : List (List ℕ)) × IsMisfit limit schema ks × (string_bytes place ≡ misfit_text ks)
 
@@ -127,28 +134,25 @@ abbrev pub IsNoSchema : Tree → NoSchema → Type 0
 IsNoSchema s (no.Misfit place) = (ks : List (List ℕ)) × IsFaultyAt s ks × (string_bytes place ≡ misfit_text ks)
 IsNoSchema s no.OutOfMemory = Unit {0}
 
--- the report of a text, given the tree of a schema, is appended if the text is not valid; or why it is not checked
-abbrev pub Judges : Option ℕ → Tree → List ℕ → Option ℕ → List ℕ → List ℕ → Result Bool Unchecked → Type 0
-Judges limit s text line old new (Ok true) = (t : Tree) × IsTextOf limit text t × IsValid s t × (new ≡ old)
-Judges limit s text line old new (Ok false) = (t : Tree) × IsTextOf limit text t
-    × (f : Finding) × Finds step_limit s t (Ok (Some f)) × (new ≡ old ++ report_text line f)
-Judges limit s text line old new (Err (un.Text e)) = IsStopped limit text e
-Judges limit s text line old new (Err (un.Schema e)) = ⊥
-Judges limit s text line old new (Err un.StepLimit) = IsAcceptedText limit text
+-- what a text violates, given the tree of a schema; or why it is not checked
+abbrev pub FindsText : Option ℕ → Tree → List ℕ → Result (Option Located) Unchecked → Type 0
+FindsText limit s text (Ok o) = (t : Tree) × IsTextOf limit text t × IsFound s text t o
+FindsText limit s text (Err (un.Text e)) = IsStopped limit text e
+FindsText limit s text (Err (un.Schema e)) = ⊥
+FindsText limit s text (Err un.StepLimit) = IsAcceptedText limit text
 
--- the same for a tree
-abbrev pub JudgesTree : Tree → Tree → Option ℕ → List ℕ → List ℕ → Result Bool Unchecked → Type 0
-JudgesTree s t line old new (Ok true) = IsValid s t × (new ≡ old)
-JudgesTree s t line old new (Ok false) = (f : Finding) × Finds step_limit s t (Ok (Some f)) × (new ≡ old ++ report_text line f)
-JudgesTree s t line old new (Err (un.Text e)) = e ≡ stop.OutOfMemory
-JudgesTree s t line old new (Err (un.Schema e)) = ⊥
-JudgesTree s t line old new (Err un.StepLimit) = Unit {0}
+-- the same for the tree of a text
+abbrev pub FindsTree : Tree → List ℕ → Tree → Result (Option Located) Unchecked → Type 0
+FindsTree s text t (Ok o) = IsFound s text t o
+FindsTree s text t (Err (un.Text e)) = e ≡ stop.OutOfMemory
+FindsTree s text t (Err (un.Schema e)) = ⊥
+FindsTree s text t (Err un.StepLimit) = Unit {0}
 
 -- `Decides` and `IsUnchecked`, given a schema that can be applied
 abbrev pub DecidesBy : Option ℕ → Tree → List ℕ → Result Verdict Unchecked → Type 0
 DecidesBy limit s text (Ok Valid) = (t : Tree) × IsTextOf limit text t × IsValid s t
 DecidesBy limit s text (Ok (Invalid report)) = (t : Tree) × IsTextOf limit text t
-    × (f : Finding) × Finds step_limit s t (Ok (Some f)) × (report.items ≡ report_text None f)
+    × (l : Located) × IsFound s text t (Some l) × (report.items ≡ report_text l.place.line l)
 DecidesBy limit s text (Ok (Misfit place)) = ⊥
 DecidesBy limit s text (Err (un.Text e)) = IsStopped limit text e
 DecidesBy limit s text (Err (un.Schema e)) = ⊥

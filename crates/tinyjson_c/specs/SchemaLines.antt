@@ -1,7 +1,7 @@
 -- Whether texts that are lines are valid by a schema, and the reports of those that are not.
 use Rattle.std.specs.Prelude.{◌≡◌, ◌≢◌, ◌⊎◌, ℕ, ◌+◌, true, List, [], ◌∷◌, ◌++◌, Option, None, Some, Result, Ok, Err, length, string_bytes}
-use Rattle.tinyjson_c.specs.Lines.{AreFirst, AreLines, IsStoppedAt}
-use Rattle.tinyjson_c.specs.Schema.{IsFaultyAt, IsMisfit, IsSchemaOf, misfit_text, report_text, step_limit}
+use Rattle.tinyjson_c.specs.Lines.{AreFirst, AreLines, IsStoppedAt, first_line, later_lines}
+use Rattle.tinyjson_c.specs.Schema.{IsFaultyAt, IsFound, IsMisfit, IsSchemaOf, misfit_text, report_text}
 use Rattle.tinyjson_c.specs.SelectLines.{IsLineAt}
 use Rattle.tinyjson_c.specs.Stop.{IsAcceptedText, IsStopped, IsTextOf}
 use Rattle.tinyjson_c.specs.declared.schema.Unchecked.{Unchecked}
@@ -13,39 +13,38 @@ use Rattle.tinyjson_c.specs.declared.valid_lines.UncheckedLine.{UncheckedLine}
 use Rattle.tinyjson_grammar.specs.Characters.{line_feed}
 use Rattle.tinyjson_grammar.specs.Tree.{Tree}
 use Rattle.tinyjson_schema.specs.Schemas.{is_schema}
-use Rattle.tinyjson_schema_report.specs.Finds.{Finds}
-use Rattle.tinyjson_schema_report.specs.declared.found.Finding.{Finding}
+use Rattle.tinyjson_schema_report.specs.declared.located.Located.{Located}
 
--- each tree is valid by the schema, or not for this reason
-abbrev pub AreJudged : Tree → List Tree → List (Option Finding) → Type 0
-AreJudged s [] [] = Unit {0}
-AreJudged s (t ∷ ts) (o ∷ os) = Finds step_limit s t (Ok o) × AreJudged s ts os
-AreJudged s _ _ = ⊥
+-- the tree of each line is valid by the schema, or not for this reason
+abbrev pub AreJudged : Tree → List ℕ → List Tree → List (Option Located) → Type 0
+AreJudged s bytes [] [] = Unit {0}
+AreJudged s bytes (t ∷ ts) (o ∷ os) = IsFound s (first_line bytes) t o × AreJudged s (later_lines bytes) ts os
+AreJudged s bytes _ _ = ⊥
 
 -- the reports of the lines from the one with this number on, each with a line feed
-abbrev pub report_of : ℕ → Option Finding → List ℕ
+abbrev pub report_of : ℕ → Option Located → List ℕ
 report_of n None = []
-report_of n (Some f) = report_text (Some n) f ++ line_feed ∷ []
+report_of n (Some l) = report_text n l ++ line_feed ∷ []
 
-abbrev pub reports_text : ℕ → List (Option Finding) → List ℕ
+abbrev pub reports_text : ℕ → List (Option Located) → List ℕ
 reports_text n [] = []
 reports_text n (o ∷ os) = report_of n o ++ reports_text (n + 1) os
 
 -- Each line's tree is valid by the schema, or not for this reason.
-pub record JudgesLines (limit : Option ℕ) (text schema : List ℕ) (found : List (Option Finding)) : Type 0 where
+pub record JudgesLines (limit : Option ℕ) (text schema : List ℕ) (found : List (Option Located)) : Type 0 where
   pub by : Tree
   pub trees : List Tree
   pub is_schema : IsSchemaOf limit schema by
   pub are_lines : AreLines limit text trees
-  pub are_judged : AreJudged by trees found
+  pub are_judged : AreJudged by text trees found
 
 -- ---- for private contracts
 
 -- what is known of lines and a schema
 abbrev pub DecidesLines : Option ℕ → List ℕ → List ℕ → Verdict → Type 0
-DecidesLines limit text schema Valid = (os : List (Option Finding)) × JudgesLines limit text schema os × (reports_text 1 os ≡ [])
+DecidesLines limit text schema Valid = (os : List (Option Located)) × JudgesLines limit text schema os × (reports_text 1 os ≡ [])
 DecidesLines limit text schema (Invalid r) =
-    (os : List (Option Finding)) × JudgesLines limit text schema os × (r.items ≡ reports_text 1 os) × (r.items ≢ [])
+    (os : List (Option Located)) × JudgesLines limit text schema os × (r.items ≡ reports_text 1 os) × (r.items ≢ [])
 DecidesLines limit text schema (Misfit p) = (ks : List (List ℕ)) × IsMisfit limit schema ks × (string_bytes p ≡ misfit_text ks)
 
 -- why the line with this index is not checked, by a schema
@@ -70,15 +69,15 @@ IsNotJudged limit line un.StepLimit = IsAcceptedText limit line
 -- the report of a line is appended if it is not valid; or why it is not checked
 abbrev pub JudgesLine : Option ℕ → Tree → List ℕ → ℕ → List ℕ → List ℕ → Result (Unit {0}) Unchecked → Type 0
 JudgesLine limit s line n old new (Ok _) = (t : Tree) × IsTextOf limit line t
-    × (o : Option Finding) × Finds step_limit s t (Ok o) × (new ≡ old ++ report_of n o)
+    × (o : Option Located) × IsFound s line t o × (new ≡ old ++ report_of n o)
 JudgesLine limit s line n old new (Err u) = IsNotJudged limit line u
 
 -- `DecidesLines` and `IsUncheckedAt`, given a schema that can be applied
 abbrev pub DecidesLinesBy : Option ℕ → Tree → List ℕ → Result Verdict UncheckedLine → Type 0
 DecidesLinesBy limit s text (Ok Valid) = (ts : List Tree) × AreLines limit text ts
-    × (os : List (Option Finding)) × AreJudged s ts os × (reports_text 1 os ≡ [])
+    × (os : List (Option Located)) × AreJudged s text ts os × (reports_text 1 os ≡ [])
 DecidesLinesBy limit s text (Ok (Invalid r)) = (ts : List Tree) × AreLines limit text ts
-    × (os : List (Option Finding)) × AreJudged s ts os × (r.items ≡ reports_text 1 os) × (r.items ≢ [])
+    × (os : List (Option Located)) × AreJudged s text ts os × (r.items ≡ reports_text 1 os) × (r.items ≢ [])
 DecidesLinesBy limit s text (Ok (Misfit p)) = ⊥
 DecidesLinesBy limit s text (Err l) = IsStoppedLine limit text l.number l.error
 

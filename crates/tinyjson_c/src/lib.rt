@@ -29,7 +29,7 @@ ghost use Rattle.tinyjson_grammar.specs.Refusal.{MayGrow};
 ghost use Rattle.tinyjson_normal.specs.Normal.{IsNormal};
 ghost use Rattle.tinyjson_path.specs.Nodes.{Part};
 ghost use Rattle.tinyjson_path.specs.Query.{Query};
-ghost use Rattle.tinyjson_schema_report.specs.declared.found.Finding.{Finding};
+ghost use Rattle.tinyjson_schema_report.specs.declared.located.Located.{Located};
 
 mod buffer;
 mod lines;
@@ -436,8 +436,9 @@ pub extern "C" fn tinyjson_select_lines_paths(
 }
 
 /// Checks a text by a schema: JSON Schema 2020-12, or the draft that its `$schema` names. Writes to the front of a
-/// buffer, if it fits, the report of a value that is not valid, or a pointer to what can't be applied in the
-/// schema. At most `depth` containers may be nested in both, and at most 100. The schema is read first.
+/// buffer, if it fits, the report of a value that is not valid, with the line and the column of the part, or a pointer
+/// to what can't be applied in the schema. At most `depth` containers may be nested in both, and at most 100. The
+/// schema is read first.
 #[unsafe(no_mangle)]
 pub extern "C" fn tinyjson_valid(
     alloc: Global,
@@ -449,15 +450,15 @@ pub extern "C" fn tinyjson_valid(
 ) -> u32
     ensures valid { result ≡ OK → IsValidText (Some (schema_depth depth)) text.now schema.now
         × (place.new ≡ length_place 0 0) }
-    ensures invalid { result ≡ INVALID → (f : Finding)
-        × Violates (Some (schema_depth depth)) text.now schema.now f
-        × HasWritten (report_text None f) buffer.old buffer.new place.new }
+    ensures invalid { result ≡ INVALID → (l : Located)
+        × Violates (Some (schema_depth depth)) text.now schema.now l
+        × HasWritten (report_text l.place.line l) buffer.old buffer.new place.new }
     ensures fault { result ≡ SCHEMA_FAULT → (ks : List (List ℕ))
         × IsMisfit (Some (schema_depth depth)) schema.now ks
         × HasWritten (misfit_text ks) buffer.old buffer.new place.new }
-    ensures too_small { result ≡ TOO_SMALL → ((f : Finding)
-        × Violates (Some (schema_depth depth)) text.now schema.now f
-        × LacksRoom (report_text None f) buffer.old place.new)
+    ensures too_small { result ≡ TOO_SMALL → ((l : Located)
+        × Violates (Some (schema_depth depth)) text.now schema.now l
+        × LacksRoom (report_text l.place.line l) buffer.old place.new)
         ⊎ ((ks : List (List ℕ)) × IsMisfit (Some (schema_depth depth)) schema.now ks
         × LacksRoom (misfit_text ks) buffer.old place.new) }
     ensures bad_schema { result ≡ BAD_SCHEMA
@@ -492,17 +493,17 @@ pub extern "C" fn tinyjson_valid_lines(
     buffer: &mut [u8],
     place: &mut TinyjsonPlace,
 ) -> u32
-    ensures valid { result ≡ OK → (os : List (Option Finding))
+    ensures valid { result ≡ OK → (os : List (Option Located))
         × JudgesLines (Some (schema_depth depth)) text.now schema.now os
         × (reports_text 1 os ≡ []) × (place.new ≡ length_place 0 0) }
-    ensures invalid { result ≡ INVALID → (os : List (Option Finding))
+    ensures invalid { result ≡ INVALID → (os : List (Option Located))
         × JudgesLines (Some (schema_depth depth)) text.now schema.now os
         × (reports_text 1 os ≢ [])
         × HasWritten (reports_text 1 os) buffer.old buffer.new place.new }
     ensures fault { result ≡ SCHEMA_FAULT → (ks : List (List ℕ))
         × IsMisfit (Some (schema_depth depth)) schema.now ks
         × HasWritten (misfit_text ks) buffer.old buffer.new place.new }
-    ensures too_small { result ≡ TOO_SMALL → ((os : List (Option Finding))
+    ensures too_small { result ≡ TOO_SMALL → ((os : List (Option Located))
         × JudgesLines (Some (schema_depth depth)) text.now schema.now os
         × LacksRoom (reports_text 1 os) buffer.old place.new)
         ⊎ ((ks : List (List ℕ)) × IsMisfit (Some (schema_depth depth)) schema.now ks

@@ -1,26 +1,31 @@
 //! Checks a text by a schema (JSON Schema).
-ghost use Rattle.std.specs.Prelude.{◌≡◌, ◌++◌, MatchResult, OnOk, Some};
+ghost use Rattle.std.specs.Prelude.{◌≡◌, ◌++◌, ◌∷◌, [], ℕ, IfOk, MatchResult, OnOk, Option, Some};
+ghost use Rattle.std.specs.Str.{chars};
 ghost use Rattle.tinyjson.specs.View.{view};
 ghost use Rattle.tinyjson_c.specs.Schema.{Decides, DecidesBy, DecidesTree, IsNoSchema, IsSchemaBy, IsSchemaTree, IsUnchecked};
-ghost use Rattle.tinyjson_c.specs.Schema.{Judges, JudgesTree, report_text, schema_depth};
+ghost use Rattle.tinyjson_c.specs.Schema.{FindsText, FindsTree, report_text, schema_depth};
 ghost use Rattle.tinyjson_c.specs.Schema.{HasPlace, Puts, PutsBytes, schema_status};
 ghost use Rattle.tinyjson_c.specs.Schema.{unchecked_place, unchecked_status};
 ghost use Rattle.tinyjson_c.specs.Stop.{IsStopped};
+ghost use Rattle.tinyjson_document.specs.Document.{tree};
+ghost use Rattle.tinyjson_grammar.specs.Characters.{line_feed};
+ghost use Rattle.tinyjson_grammar.specs.Grammar.{IsText};
 ghost use Rattle.tinyjson_pointer.specs.Tokens.{tokens_of};
 ghost use Rattle.tinyjson_schema.specs.Reading.{tree_of};
 
 use crate::buffer::put;
 use crate::place::TinyjsonPlace;
 use crate::status::{BAD_SCHEMA, INVALID, OK, OUT_OF_MEMORY, SCHEMA_FAULT, STEP_LIMIT};
-use crate::stop::Stop;
-use crate::value::{push_value, read};
+use crate::stop::{Stop, text_of};
+use crate::value::{push_value, read, written};
 use std::alloc::{AllocError, Global};
 use tinyjson::JsonValue;
+use tinyjson_document::{Document, Node};
 use tinyjson_pointer::Pointer;
-use tinyjson_schema::{CheckError, Limits, Schema, SchemaError};
+use tinyjson_schema::{CheckError, Schema, SchemaError};
 use tinyjson_schema_bundle::bundled;
 use tinyjson_schema_drafts::{Draft, read_as};
-use tinyjson_schema_report::{Finding, find, limits_of, output_unit};
+use tinyjson_schema_report::{Located, find, limits_of, locate, located_unit};
 
 /// How many containers may be nested in a schema and in a text that is checked, whatever the limit of the call:
 /// the check takes stack with the nesting.
@@ -205,53 +210,49 @@ fn check(
 ) -> Result<Verdict, Unchecked>
     ensures { DecidesBy (Some (schema_depth depth)) (tree_of schema.now) text.now result }
 {
-    let mut report = Vec::new(alloc);
-    match push_report(alloc, schema, text, depth, None, &mut report) {
-        Ok(true) => Ok(Verdict::Valid),
-        Ok(false) => Ok(Verdict::Invalid(report)),
+    match found(alloc, schema, text, depth) {
+        Ok(None) => Ok(Verdict::Valid),
+        Ok(Some(located)) => match report_of(alloc, located.place.line as u64, &located) {
+            Ok(report) => Ok(Verdict::Invalid(report)),
+            Err(AllocError) => Err(Unchecked::Text(Stop::OutOfMemory)),
+        },
         Err(error) => Err(error),
     }
 }
 
-/// Whether a text is valid by a schema. If not, appends the report, with the number of the text's line if it has
-/// one.
-pub(crate) fn push_report(
+/// What a text violates of a schema, and where; `None` if it is valid.
+pub(crate) fn found(
     alloc: Global,
     schema: &Schema<'_>,
-    text: &[u8],
+    bytes: &[u8],
     depth: usize,
-    line: Option<u64>,
-    report: &mut Vec<u8>,
-) -> Result<bool, Unchecked>
-    ensures { Judges (Some (schema_depth depth)) (tree_of schema.now) text.now line
-        report.old.items report.new.items result }
+) -> Result<Option<Located>, Unchecked>
+    ensures { FindsText (Some (schema_depth depth)) (tree_of schema.now) bytes.now result }
 {
-    let value = match read(alloc, text, schema_depth(depth)) {
-        Ok(value) => value,
+    let text = match text_of(bytes) {
+        Ok(text) => text,
         Err(stop) => return Err(Unchecked::Text(stop)),
     };
-    let answer = push_report_of(schema, &value, limits_of(text.len()), line, report);
-    value.dismantle();
-    answer
+    match Document::read_with_depth_limit(alloc, text, schema_depth(depth)) {
+        Ok(document) => found_in(alloc, schema, document.root(), text),
+        Err(error) => Err(Unchecked::Text(Stop::of(error))),
+    }
 }
 
-/// The same for a value.
-fn push_report_of(
+/// The same for the value of a text.
+fn found_in(
+    alloc: Global,
     schema: &Schema<'_>,
-    value: &JsonValue,
-    limits: Limits,
-    line: Option<u64>,
-    report: &mut Vec<u8>,
-) -> Result<bool, Unchecked>
-    requires { limits.nested ≡ 200 }
-    ensures { JudgesTree (tree_of schema.now) (view value.now) line
-        report.old.items report.new.items result }
+    value: Node<'_>,
+    text: &str,
+) -> Result<Option<Located>, Unchecked>
+    requires { (limit : Option ℕ) × IsText limit (chars text.now) (tree value) }
+    ensures { FindsTree (tree_of schema.now) text.now (tree value.entry) result }
 {
-    let alloc = *report.allocator();
-    match find(schema, value, limits, alloc) {
-        Ok(None) => Ok(true),
-        Ok(Some(finding)) => match push_unit(alloc, line, &finding, report) {
-            Ok(()) => Ok(false),
+    match find(schema, value, limits_of(text.len()), alloc) {
+        Ok(None) => Ok(None),
+        Ok(Some(finding)) => match locate(alloc, text, finding) {
+            Ok(located) => Ok(Some(located)),
             Err(AllocError) => Err(Unchecked::Text(Stop::OutOfMemory)),
         },
         Err(CheckError::TooDeep | CheckError::TooMuch) => Err(Unchecked::StepLimit),
@@ -259,16 +260,26 @@ fn push_report_of(
     }
 }
 
-/// Appends the normal form of a report.
-fn push_unit(
-    alloc: Global,
-    line: Option<u64>,
-    finding: &Finding,
-    report: &mut Vec<u8>,
-) -> Result<(), AllocError>
-    ensures { OnOk result (report.new.items
-        ≡ report.old.items ++ report_text line finding.now) }
+/// The normal form of a report with this line.
+fn report_of(alloc: Global, line: u64, located: &Located) -> Result<Vec<u8>, AllocError>
+    ensures { IfOk result (λ report. report.items ≡ report_text line located.now) }
 {
-    let unit = output_unit(alloc, line, finding)?;
-    push_value(alloc, &unit, report)
+    let unit = located_unit(alloc, line, located)?;
+    written(alloc, &unit)
+}
+
+/// Appends the normal form of a report with this line, and a line feed.
+pub(crate) fn push_report(
+    alloc: Global,
+    line: u64,
+    located: &Located,
+    reports: &mut Vec<u8>,
+) -> Result<(), AllocError>
+    ensures { OnOk result (reports.new.items
+        ≡ reports.old.items ++ (report_text line located.now ++ line_feed ∷ [])) }
+{
+    let unit = located_unit(alloc, line, located)?;
+    push_value(alloc, &unit, reports)?;
+    reports.push(b'\n')?;
+    Ok(())
 }

@@ -7,9 +7,9 @@ ghost use Rattle.tinyjson_c.specs.SchemaLines.{IsUncheckedAt, JudgesLine};
 ghost use Rattle.tinyjson_schema.specs.Reading.{tree_of};
 
 use crate::lines::split_line;
-use crate::schema::{NoSchema, Unchecked, Verdict, applicable, push_report, read_schema};
+use crate::schema::{NoSchema, Unchecked, Verdict, applicable, found, push_report, read_schema};
 use crate::stop::Stop;
-use std::alloc::Global;
+use std::alloc::{AllocError, Global};
 use tinyjson::JsonValue;
 use tinyjson_schema::Schema;
 
@@ -107,13 +107,12 @@ fn push_line(
     ensures { JudgesLine (Some (schema_depth depth)) (tree_of schema.now) line.now number
         reports.old.items reports.new.items result }
 {
-    match push_report(alloc, schema, line, depth, Some(number as u64), reports) {
-        Ok(true) => return Ok(()),
-        Ok(false) => {}
-        Err(error) => return Err(error),
-    }
-    match reports.push(b'\n') {
-        Ok(()) => Ok(()),
-        Err(_) => Err(Unchecked::Text(Stop::OutOfMemory)),
+    match found(alloc, schema, line, depth) {
+        Ok(None) => Ok(()),
+        Ok(Some(located)) => match push_report(alloc, number as u64, &located, reports) {
+            Ok(()) => Ok(()),
+            Err(AllocError) => Err(Unchecked::Text(Stop::OutOfMemory)),
+        },
+        Err(error) => Err(error),
     }
 }

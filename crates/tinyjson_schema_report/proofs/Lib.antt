@@ -1,1 +1,3 @@
 pub mod Reports
+-- A part that is there has a place.
+pub mod Placing

@@ -2,3 +2,5 @@
 pub mod Finds
 -- The report of a value that is not valid.
 pub mod Report
+-- The same with a line and a column.
+pub mod Located

@@ -8,7 +8,9 @@
 #![tactic(auto)]
 
 mod found;
+mod located;
 mod report;
 
 pub use found::{Finding, find, find_by, limits_of};
+pub use located::{Located, locate, located_unit};
 pub use report::output_unit;

@@ -4,8 +4,8 @@ use Rattle.tinyjson.specs.Number.{integer_decimal}
 use Rattle.tinyjson.specs.Tree.{number, object, put}
 use Rattle.tinyjson.specs.View.{view, members_view}
 use Rattle.tinyjson.specs.declared.value.JsonValue.TheVariants as is
-use Rattle.json_schema.specs.Report.{with_column}
-use Rattle.json_schema.proofs.report.with_column.Goals as goal
+use Rattle.tinyjson_schema_report.specs.Located.{with_column}
+use Rattle.tinyjson_schema_report.proofs.located.with_column.Goals as goal
 
 pub returns-in_ok-put_member-in-Object : goal.returns-in_ok-put_member-in-Object
 returns-in_ok-put_member-in-Object c =

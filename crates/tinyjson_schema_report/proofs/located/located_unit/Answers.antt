@@ -1,8 +1,8 @@
 use Rattle.std.proofs.Common.{◌≡◌, subst}
 use Rattle.std.specs.Prelude.{IfOk}
 use Rattle.tinyjson.specs.View.{view}
-use Rattle.json_schema.specs.Report.{with_column}
-use Rattle.json_schema.proofs.report.located_unit.Goals as goal
+use Rattle.tinyjson_schema_report.specs.Located.{with_column}
+use Rattle.tinyjson_schema_report.proofs.located.located_unit.Goals as goal
 
 pub returns : goal.returns
 returns c =
