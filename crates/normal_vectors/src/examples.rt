@@ -2,7 +2,9 @@
 
 use std::test::Fail;
 use tinyjson::JsonParseErrorKind;
-use tinyjson_normal::{NormalReader, NormalText, is_normal};
+use tinyjson_document::Document;
+use tinyjson_normal::{Compact, NormalReader, NormalText, is_normal};
+use tinyjson_replay::replay;
 
 #[test]
 fn a_text(rt: HostRuntime) -> Result<(), Fail> {
@@ -108,5 +110,17 @@ fn a_reader_with_a_limit(rt: HostRuntime) -> Result<(), Fail> {
     assert!(rt; reader.read("[[1]]", Some(2)).is_ok());
     let result = reader.read("[[1]]", Some(1));
     assert!(rt; result.is_err_and(|error| error.kind() == JsonParseErrorKind::TooDeep('[')));
+    Ok(())
+}
+
+#[test]
+fn a_text_of_events(rt: HostRuntime) -> Result<(), Fail> {
+    let alloc = rt.alloc();
+    let mut output = Vec::new(alloc);
+    let document = Document::read(alloc, r#"{"a": [2.50]}"#)?;
+    let mut text = Compact::new(alloc);
+    replay(alloc, document.root(), &mut text)?;
+    text.write_line_to(&mut output)?;
+    assert_eq!(rt; output.as_slice(), b"{\"a\":[2.5]}\n".as_slice());
     Ok(())
 }

@@ -1,4 +1,4 @@
--- Which open containers compact text has that is being built. For private contracts.
+-- Which open containers compact text has that is being built.
 use Rattle.std.specs.Prelude.{◌≡◌, ℕ, ◌+◌, List, [], ◌∷◌, ◌++◌, length, encode_utf8_all, ⊤}
 use Rattle.tinyjson.specs.Events.{Open, in_array, at_key, at_value}
 use Rattle.tinyjson_grammar.specs.Characters.{begin_array, begin_object, name_separator, value_separator}

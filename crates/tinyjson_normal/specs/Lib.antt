@@ -1,4 +1,4 @@
 -- For public contracts.
 pub mod Normal
--- Which open containers compact text has. For private contracts.
+-- and which open containers compact text has
 pub mod Compacting

@@ -3,16 +3,21 @@ ghost use Rattle.std.specs.Prelude.{◌≡◌, ◌==◌, ◌++◌, ◌∷◌, []
 ghost use Rattle.std.specs.Prelude.{encode_utf8_all};
 ghost use Rattle.std.specs.Str.{chars};
 ghost use Rattle.tinyjson_grammar.specs.Characters.{value_separator};
-ghost use Rattle.tinyjson_grammar.specs.Text.{quoted};
+ghost use Rattle.tinyjson_grammar.specs.Text.{compact, quoted};
+ghost use Rattle.tinyjson_grammar.specs.Tree.{Tree};
+ghost use Rattle.tinyjson.specs.Characters.{line_feed};
+ghost use Rattle.tinyjson.specs.Written.{WritesPrefix};
 ghost use Rattle.tinyjson.specs.Events.{literal_tree};
-ghost use Rattle.tinyjson_normal.specs.Compacting.{Holds, all_placed, members_of, next_from};
+ghost use Rattle.tinyjson_normal.specs.Compacting.{Holds, IsOf, all_placed, members_of, next_from};
 ghost use Rattle.tinyjson_normal.specs.Compacting.{placed, value_bytes};
 ghost use Rattle.tinyjson_document.specs.Order.{IsOrdered, lasts};
 ghost use Rattle.tinyjson_document.specs.declared.store.Member.{Member as Pair};
 ghost use Rattle.tinyjson_number.specs.Text.{decimal_text};
 ghost use Rattle.tinyjson_output.specs.Buffer.{buffered};
 
+use crate::normal::write_with_line_feed;
 use std::alloc::{AllocError, Global};
+use std::io::{self, Write};
 use tinyjson::{Events, JsonNumber};
 use tinyjson_bytes::plain_end;
 use tinyjson_document::append::{ROOM, append, append_number, append_quoted};
@@ -35,10 +40,16 @@ pub(crate) struct Begun {
     pub(crate) from: usize,
 }
 
-/// Compact text, as far as the text was parsed, with a comma after each complete value. The members of an
-/// object are put in order when it is closed.
+/// Compact text, as far as events came, with a comma after each complete value. The members of an object are put in
+/// order when it is closed. A new one accepts only members that come in order; others are out of memory.
+///
+/// ```
+/// let document = Document::read(alloc, r#"{"a": [2.50]}"#)?;
+/// let mut text = Compact::new(alloc);
+/// replay(alloc, document.root(), &mut text)?;
+/// ```
 #[derive(Drop)]
-pub(crate) struct Compact {
+pub struct Compact {
     /// The characters of keys.
     store: Store,
     pub(crate) text: Vec<u8>,
@@ -57,7 +68,14 @@ pub(crate) struct Compact {
 }
 
 impl Compact {
-    pub(crate) fn new(alloc: Global) -> Self {
+    /// Text of nothing yet.
+    ///
+    /// ```
+    /// let mut text = Compact::new(alloc);
+    /// ```
+    pub fn new(alloc: Global) -> Self
+        ensures { Holds result [] }
+    {
         Compact {
             store: Store::new(alloc),
             text: Vec::new(alloc),
@@ -70,6 +88,22 @@ impl Compact {
             buffer: None,
             left: 0,
         }
+    }
+
+    /// Writes the compact text of the value that was passed to it, and a line feed. It calls the writer once, if the
+    /// writer accepts all.
+    ///
+    /// ```
+    /// text.write_line_to(&mut output)?;
+    /// assert_eq!(rt; output.as_slice(), b"{\"a\":[2.5]}\n".as_slice());
+    /// ```
+    pub fn write_line_to<W: Write>(&mut self, out: &mut W) -> io::Result<()>
+        ensures { (t : Tree) → IsOf self.old t →
+            WritesPrefix (W.contents out.old) (W.contents out.new)
+            (encode_utf8_all (compact t) ++ line_feed ∷ []) result }
+    {
+        self.text.truncate(self.text.len().saturating_sub(1));
+        write_with_line_feed(out, &mut self.text)
     }
 
     /// Starts a new text, with room for `room` bytes if there is memory, and `left` bytes that may be

@@ -6,5 +6,6 @@ mod compact;
 pub mod normal;
 pub mod reader;
 
+pub use compact::Compact;
 pub use normal::{NormalText, is_normal};
 pub use reader::NormalReader;

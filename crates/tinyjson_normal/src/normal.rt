@@ -252,7 +252,7 @@ fn arena_bytes(alloc: Global, arena: &Arena) -> Result<Vec<u8>, AllocError>
 
 /// Writes the bytes and a line feed, in one call if the writer accepts all. There is room for the line
 /// feed in the text, since it was built with a comma at its end.
-fn write_with_line_feed<W: Write>(out: &mut W, text: &mut Vec<u8>) -> io::Result<()>
+pub(crate) fn write_with_line_feed<W: Write>(out: &mut W, text: &mut Vec<u8>) -> io::Result<()>
     ensures line { WritesPrefix (W.contents out.old) (W.contents out.new)
         (text.old.items ++ line_feed ∷ []) result }
     ensures text { text.new.items ≡ text.old.items }

@@ -28,7 +28,7 @@ mod patch;
 mod run;
 
 pub use fault::{Fault, Member, PatchError};
-pub use merge_document::merge_documents;
+pub use merge_document::{merge_documents, merge_into};
 pub use merge_patch::merge;
 pub use operation::{Operation, OperationError, Reason};
 pub use patch::{ApplyError, Patch};

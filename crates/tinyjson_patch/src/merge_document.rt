@@ -46,8 +46,15 @@ pub fn merge_documents(
     Ok(Document::of_arena(arena))
 }
 
-/// Passes the merged value to events.
-fn merge_into<E: Events>(
+/// Passes the merged value to events: those of its compact text, so that members come in the order of their keys.
+///
+/// The only error is out of memory: an event returned it, or there is no memory for the open objects. Then nothing is
+/// known of the events. It does not recurse.
+///
+/// ```
+/// merge_into(alloc, target.root(), patch.root(), &mut text)?;
+/// ```
+pub fn merge_into<E: Events>(
     alloc: Global,
     target: Node<'_>,
     patch: Node<'_>,
