@@ -1,9 +1,10 @@
 //! Applies merge patches to texts.
-ghost use Rattle.std.specs.Prelude.{◌≡◌, IfOk, map};
+ghost use Rattle.std.specs.Prelude.{◌≡◌, IfOk, false, map};
 ghost use Rattle.tinyjson.specs.Written.{WritesPrefix};
 ghost use Rattle.tinyjson_cli.specs.Layout.{laid_out};
 ghost use Rattle.tinyjson_cli.specs.Texts.{Answers};
 ghost use Rattle.tinyjson_document.specs.Document.{document_tree, tree};
+ghost use Rattle.tinyjson_patch.specs.Merge.{merge_patch};
 ghost use Rattle.json_merge.specs.Apply.{GivesMerged, GivesMergedOf, all_merged};
 
 use std::alloc::{AllocError, Global};
@@ -11,7 +12,8 @@ use std::io::{self, Write};
 use tinyjson_cli::{NoAnswer, TextAnswer};
 use tinyjson_document::{Document, Node};
 use tinyjson_lines::Cause;
-use tinyjson_patch::merge_documents;
+use tinyjson_normal::Compact;
+use tinyjson_patch::{merge_documents, merge_into};
 
 /// What is asked of each text: its value with some patches applied (RFC 7396), each to the result of the one before.
 #[derive(Clone, Copy)]
@@ -58,9 +60,27 @@ fn answer_document<W: Write>(
         (map document_tree asked.entry.patches.now) (document_tree document))
         (W.contents output.old) (W.contents output.new) result }
 {
-    let merged = merge_all(alloc, document, asked.patches)?;
-    write_text(alloc, merged.root(), asked.is_indented, output)?;
+    write_text(alloc, asked, document, output)?;
     Ok(None)
+}
+
+/// Writes the text of a document with the patches applied, compact or indented, and a line feed.
+fn write_text<W: Write>(
+    alloc: Global,
+    asked: Asked<'_>,
+    document: Document,
+    output: &mut W,
+) -> io::Result<()>
+    ensures { WritesPrefix (W.contents output.old) (W.contents output.new)
+        (laid_out asked.entry.is_indented
+        (all_merged (document_tree document) (map document_tree asked.entry.patches.now)))
+        result }
+{
+    if asked.is_indented {
+        let merged = merge_all(alloc, document, asked.patches)?;
+        return merged.root().format_line_to(alloc, output);
+    }
+    write_compact(alloc, document, asked.patches, output)
 }
 
 /// The document with the patches applied, in order. The only error is out of memory.
@@ -79,18 +99,35 @@ fn merge_all(
     Ok(merged)
 }
 
-/// Writes the text of the merged value, compact or indented, and a line feed.
-fn write_text<W: Write>(
+/// Writes the compact text of a document with the patches applied, and a line feed.
+fn write_compact<W: Write>(
     alloc: Global,
-    merged: Node<'_>,
-    is_indented: bool,
+    document: Document,
+    patches: &[Document],
     output: &mut W,
 ) -> io::Result<()>
     ensures { WritesPrefix (W.contents output.old) (W.contents output.new)
-        (laid_out is_indented (tree merged.entry)) result }
+        (laid_out false (all_merged (document_tree document) (map document_tree patches.now)))
+        result }
 {
-    if is_indented {
-        return merged.format_line_to(alloc, output);
-    }
-    merged.write_line_to(alloc, output)
+    let Some((last, others)) = patches.split_last() else {
+        return document.root().write_line_to(alloc, output);
+    };
+    let merged = merge_all(alloc, document, others)?;
+    write_merged(alloc, merged.root(), last.root(), output)
+}
+
+/// Writes the compact text of a value with the patch applied, and a line feed. The merged value is not built.
+fn write_merged<W: Write>(
+    alloc: Global,
+    target: Node<'_>,
+    patch: Node<'_>,
+    output: &mut W,
+) -> io::Result<()>
+    ensures { WritesPrefix (W.contents output.old) (W.contents output.new)
+        (laid_out false (merge_patch (tree target.entry) (tree patch.entry))) result }
+{
+    let mut text = Compact::new(alloc);
+    merge_into(alloc, target, patch, &mut text)?;
+    text.write_line_to(output)
 }
