@@ -136,8 +136,9 @@ uint32_t tinyjson_select_lines_paths(const uint8_t *text, size_t length, const u
 
 /* Checks a text by a schema: JSON Schema 2020-12, or the draft that its `$schema` names. The status is OK for a value that
  * is valid, or INVALID: then the buffer has the report, an object with `error`, the words, `instanceLocation`, a JSON
- * pointer to the part that is not valid, `line` and `column`, where the part begins, from 1 on, and `keywordLocation`, a
- * pointer to the keyword. Both texts may be no deeper than 100 containers, whatever the limit. The schema is read first. */
+ * pointer to the part that is not valid, `line` and `column`, where the part begins, or the key of a member that must not
+ * be there, from 1 on, and `keywordLocation`, a pointer to the keyword. Both texts may be no deeper than 100 containers,
+ * whatever the limit. The schema is read first. */
 uint32_t tinyjson_valid(const uint8_t *text, size_t length, const uint8_t *schema, size_t schema_length, size_t depth,
                         uint8_t *buffer, size_t room, struct tinyjson_place *place);
 

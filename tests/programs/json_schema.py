@@ -1063,7 +1063,19 @@ REASONS = [
     ([], '{"maximum":null}', "/maximum", "must be a number, is null"),
 ]
 
-# By {"properties":{"a":{"maximum":10}},"items":{"maxItems":1}}: the arguments, the input, the pointer to the part, and its line and column.
+# A schema, and the keyword that each part of PLACES violates.
+PLACED = (
+    '{"properties":{"a":{"maximum":10},"o":{"additionalProperties":false},"u":{"unevaluatedProperties":false},'
+    '"p":{"additionalProperties":{"type":"null"}}},"items":{"maxItems":1}}'
+)
+VIOLATED = {
+    "/a": "/properties/a/maximum",
+    "/o/k": "/properties/o/additionalProperties",
+    "/u/k": "/properties/u/unevaluatedProperties",
+    "/p/k": "/properties/p/additionalProperties/type",
+}
+
+# By PLACED: the arguments, the input, the pointer to the part, and its line and column.
 PLACES = [
     # White space before the value, of which a line feed alone begins a line, and a character is one column.
     ([], b'{"a":12}', "/a", 1, 6),
@@ -1078,6 +1090,12 @@ PLACES = [
     # Items, by how many commas are before them, but not of those in strings and inner containers.
     ([], b'[[1],[],\n[1,\n2]]', "/2", 2, 1),
     ([], b'["],[", {"a":[1,2]}, [],[1,2]]', "/3", 1, 25),
+    # Of a member that must not be there it is the key, also where that is escaped; of equal keys the last one.
+    ([], b'{"o":{ "k": 1}}', "/o/k", 1, 8),
+    ([], b'{"u":{\n"\\u006b"\n: 1}}', "/u/k", 2, 1),
+    ([], b'{"o":{"k":1,"k":2}}', "/o/k", 1, 13),
+    ([], b'{"p":{"k":1}}', "/p/k", 1, 11),
+    (["-l"], b'{}\n {"o":{"k":1}}', "/o/k", 2, 8),
     # Of lines it is the number, and the column in the line.
     (["-l"], b'{"a":1}\n\t{"a":12}\n', "/a", 2, 7),
     (["-l"], '[]\r\n["é",[1,2]]'.encode(), "/1", 2, 6),
@@ -1376,12 +1394,11 @@ def check_words(checks):
 
 def check_places(checks):
     """Where parts begin, as it was counted by hand, and as `located` has it, which gives the other rows their places."""
-    schema, keywords = '{"properties":{"a":{"maximum":10}},"items":{"maxItems":1}}', {"/a": "/properties/a/maximum"}
     for row in PLACES:
         words, given, instance, line, column = row
-        unit = (instance, keywords.get(instance, "/items/maxItems"))
+        unit = (instance, VIOLATED.get(instance, "/items/maxItems"))
         expected = (1, unit_of(*unit, line=line, column=column), b"")
-        checks.row(f"json_schema: place {words} {given[:60]}", expected, placed, checks.folder, schema, words, given, at=row)
+        checks.row(f"json_schema: place {words} {given[:60]}", expected, placed, checks.folder, PLACED, words, given, at=row)
         unplaced = (1, unit_of(*unit, line=line) if words else unit_of(*unit), b"")
         checks.row(f"json_schema: place by Python {words} {given[:60]}", expected, located, given, unplaced, at=row)
 

@@ -1,3 +1,5 @@
 pub mod Reports
 -- A part that is there has a place.
 pub mod Placing
+-- Whether a keyword forbids a member.
+pub mod Forbidden

@@ -1,26 +1,29 @@
 //! What a value violates of a schema, with its place in the value's text.
-ghost use Rattle.std.specs.Prelude.{◌≡◌, ℕ, IfOk, IsSome, Option};
+ghost use Rattle.std.specs.Prelude.{◌≡◌, ℕ, IfOk, IsSome, Ok, Option, Some};
 ghost use Rattle.std.specs.Str.{chars};
 ghost use Rattle.tinyjson.specs.View.{view};
 ghost use Rattle.tinyjson_grammar.specs.Grammar.{IsText};
 ghost use Rattle.tinyjson_grammar.specs.Tree.{Tree};
 ghost use Rattle.tinyjson_pointer.specs.Tokens.{tokens_of};
 ghost use Rattle.tinyjson_pointer.specs.Walk.{part_at};
-ghost use Rattle.tinyjson_schema_report.specs.Located.{IsLocated, located_tree, with_column};
+ghost use Rattle.tinyjson_places.specs.Places.{Locates};
+ghost use Rattle.tinyjson_schema_report.specs.Located.{IsLocated, IsPlace, located_tree, with_column};
+ghost use Rattle.tinyjson_schema_report.specs.Located.{forbids_member};
 
 use crate::found::Finding;
 use crate::report::output_unit;
 use std::alloc::{AllocError, Global};
 use tinyjson::{JsonNumber, JsonValue};
-use tinyjson_places::{Place, place_of};
-use tinyjson_pointer::put_member;
+use tinyjson_places::{Place, key_place_of, place_of};
+use tinyjson_pointer::{Pointer, put_member};
+use tinyjson_schema::Violation;
 
 /// What a value violates of a schema, and where in its text.
 #[derive(Drop)]
 pub struct Located {
     /// What it violates, with the words.
     pub finding: Finding,
-    /// Where the part begins that is not valid.
+    /// Where the part begins that is not valid; or the key of a member that must not be there.
     pub place: Place,
 }
 
@@ -38,10 +41,50 @@ pub fn locate(alloc: Global, text: &str, finding: Finding) -> Result<Located, Al
     ensures finding { IfOk result (λ located. located.finding ≡ finding) }
     ensures place { IfOk result (IsLocated (chars text.now)) }
 {
-    match place_of(alloc, text, &finding.violation.instance_location) {
-        Ok(Some(place)) => Ok(Located { finding, place }),
+    let place = place_in(alloc, text, &finding.violation)?;
+    Ok(Located { finding, place })
+}
+
+/// The place in the text of what violates a schema.
+fn place_in(alloc: Global, text: &str, violation: &Violation) -> Result<Place, AllocError>
+    requires { (limit : Option ℕ) × (t : Tree) × IsText limit (chars text.now) t
+        × IsSome (part_at t (tokens_of violation.now.instance_location)) }
+    ensures { IfOk result (IsPlace (chars text.now) violation.now) }
+{
+    let instance = &violation.instance_location;
+    if !forbids_member(&violation.keyword_location) {
+        return place_of_part(alloc, text, instance);
+    }
+    match key_place_of(alloc, text, instance) {
+        Ok(Some(place)) => Ok(place),
+        Ok(None) => place_of_part(alloc, text, instance),
+        Err(_) => Err(AllocError),
+    }
+}
+
+/// The place of a part that is there.
+fn place_of_part(alloc: Global, text: &str, part: &Pointer) -> Result<Place, AllocError>
+    requires { (limit : Option ℕ) × (t : Tree) × IsText limit (chars text.now) t
+        × IsSome (part_at t (tokens_of part.now)) }
+    ensures { IfOk result (λ place. Locates (chars text.now) (tokens_of part.now)
+        (Ok (Some place))) }
+{
+    match place_of(alloc, text, part) {
+        Ok(Some(place)) => Ok(place),
         Ok(None) => unreachable!(),
         Err(_) => Err(AllocError),
+    }
+}
+
+/// Whether the keyword is the one that a member violates which must not be there.
+fn forbids_member(keyword: &Pointer) -> bool
+    ensures { result ≡ forbids_member (tokens_of keyword.now) }
+{
+    match keyword.tokens().split_last() {
+        Some((last, _)) => {
+            last.as_str() == "additionalProperties" || last.as_str() == "unevaluatedProperties"
+        }
+        None => false,
     }
 }
 

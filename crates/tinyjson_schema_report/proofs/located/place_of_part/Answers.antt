@@ -3,11 +3,11 @@ use Rattle.std.specs.Str.{chars}
 use Rattle.tinyjson_places.specs.Places.{Locates}
 use Rattle.tinyjson_pointer.specs.Tokens.{tokens_of}
 use Rattle.tinyjson_schema_report.proofs.Placing.{never_missed}
-use Rattle.tinyjson_schema_report.proofs.located.locate.Goals as goal
+use Rattle.tinyjson_schema_report.proofs.located.place_of_part.Goals as goal
 
 pub unreachable-requires : goal.unreachable-requires
 unreachable-requires c =
     let xs = chars c.args.text.now in
-    let ks = tokens_of c.args.finding.violation.instance_location in
+    let ks = tokens_of c.args.part.now in
     never_missed c.requires.0 xs c.requires.1 ks c.requires.2 c.requires.3
     (subst (λ o. Locates xs ks (Ok o)) c.in-Ok-None.field-0-is c.in-Ok-None.ensures)
