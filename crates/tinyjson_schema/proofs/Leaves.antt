@@ -1,5 +1,5 @@
 -- Schemas that apply no others.
-use Rattle.std.proofs.Common.{◌≡◌, ◌+◌, ◌&&◌, ◌∷◌, ℕ, suc, Bool, true, false, not, List, Option, Some, None, Ok, refl, sym, ap, ◌∙◌}
+use Rattle.std.proofs.Common.{◌≡◌, ◌&&◌, ℕ, suc, true, false, not, List, Option, Some, None, Ok, refl, sym, ap, ◌∙◌}
 use Rattle.std.proofs.lemmas.Bool.{or_right}
 use Rattle.std.specs.Option.{option_map_or}
 use Rattle.std.specs.Prelude.{option_and_then}
@@ -7,10 +7,9 @@ use Rattle.tinyjson.specs.Index.{tree_at, tree_at_key}
 use Rattle.tinyjson.specs.Tree.{Tree, array, object, Items, no_items, item, Members, no_members, member}
 use Rattle.tinyjson.specs.View.{view}
 use Rattle.tinyjson_schema_keywords.specs.Applied.{schema_at, items_in, members_in}
-use Rattle.tinyjson_schema_keywords.specs.References.{referenced, target}
-use Rattle.tinyjson_schema_keywords.specs.declared.keyword.Keyword.{Keyword}
+use Rattle.tinyjson_schema_keywords.specs.References.{target}
 use Rattle.tinyjson_schema_keywords.specs.declared.keyword.Keyword.TheVariants as kw
-use Rattle.tinyjson_schema_assertions.specs.Assertions.{meets_all, assertions, is_count_at_most, is_count_at_least}
+use Rattle.tinyjson_schema_assertions.specs.Assertions.{meets_all, assertions}
 use Rattle.tinyjson_schema.specs.Applicators.{Judge, all_accept, any_of, one_of, keys_pass, items_passing, is_zero, contained}
 use Rattle.tinyjson_schema.specs.Applicators.{contains_some, contains_at_most, contains_at_least, branch_accepts, dependents_accept}
 use Rattle.tinyjson_schema.specs.Applicators.{patterns_accept, applies, apply_all, tests, members_accepted, items_accepted, parts_accepted}
@@ -60,7 +59,8 @@ module _ (f : Judge) (s t : Tree) (none : TestsNothing s) where
 -- the other keywords
 module _ (s : Tree) (none : AppliesNothing s) where
   member_free_at : (k : List ℕ) → member_schema s k ≡ None
-  member_free_at k = no_member s k (ap (option_and_then (λ p. tree_at_key p k)) none.properties) (sym (no_additional s k (sym none.additional)))
+  member_free_at k = no_member s k (ap (option_and_then (λ p. tree_at_key p k)) none.properties)
+      (sym (no_additional s k (sym none.additional)))
 
   item_free_at : (i : ℕ) → item_schema s i ≡ None
   item_free_at i = no_item s i (ap (option_and_then (λ p. tree_at p i)) none.prefix) none.items

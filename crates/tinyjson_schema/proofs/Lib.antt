@@ -1,3 +1,5 @@
+pub mod Adding
+pub mod Emptied
 pub mod Forms
 pub mod Leaves
 pub mod Loops

@@ -342,7 +342,7 @@ isnt_true false n = refl
 -- ---- more steps, and no end of them
 
 -- n steps, and m further in, are k
-further : (root : Root) (n m k : ℕ) (g : Answers) → n + m ≡ k → answers root n (answers root m g) ≡ answers root k g
+pub further : (root : Root) (n m k : ℕ) (g : Answers) → n + m ≡ k → answers root n (answers root m g) ≡ answers root k g
 further root zero m k g e = let same : m ≡ k = omega (arith, e) in ap (λ j. answers root j g) same
 further root (suc n) m zero g e = absurd (omega (arith, e))
 further root (suc n) m (suc k) g e = ap (by_rules root) (further root n m k g (omega (arith, e)))

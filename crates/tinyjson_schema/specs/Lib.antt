@@ -1,6 +1,7 @@
 pub mod Applicators
 pub mod Circles
 pub mod Evaluated
+pub mod Every
 pub mod Marks
 pub mod Operands
 pub mod Parts
@@ -9,5 +10,6 @@ pub mod Reading
 pub mod Refused
 pub mod Schemas
 pub mod Sources
+pub mod Steps
 pub mod Valid
 pub mod Walks

@@ -67,7 +67,7 @@ pub fn unmet(
     Ok(None)
 }
 
-fn meets(
+pub fn meets(
     keyword: Keyword,
     here: Applied<'_>,
     value: &ValueView<'_>,

@@ -63,7 +63,7 @@ pub fn item_part(here: Applied<'_>, index: usize) -> Option<Part<'_>>
 }
 
 /// The schema that `properties` has at a key.
-fn property<'s>(here: Applied<'s>, key: &str) -> Option<&'s JsonValue>
+pub fn property<'s>(here: Applied<'s>, key: &str) -> Option<&'s JsonValue>
     ensures { option_map (λ x. view x.now) result
         ≡ property (view here.entry.schema.now) (chars key.now) }
 {
@@ -71,7 +71,7 @@ fn property<'s>(here: Applied<'s>, key: &str) -> Option<&'s JsonValue>
 }
 
 /// The schema of `additionalProperties` for a key that no pattern matches.
-fn additional<'s>(
+pub fn additional<'s>(
     here: Applied<'s>,
     key: &str,
     walk: Walk<'_, '_>,
@@ -118,7 +118,7 @@ fn some_found(
 }
 
 /// The schema that `prefixItems` has at an index.
-fn prefix_item(here: Applied<'_>, index: usize) -> Option<&JsonValue>
+pub fn prefix_item(here: Applied<'_>, index: usize) -> Option<&JsonValue>
     ensures { option_map (λ x. view x.now) result ≡ prefix_item (view here.entry.schema.now) index }
 {
     match here.schema_at(Keyword::PrefixItems)? {

@@ -5,7 +5,7 @@ ghost use Rattle.tinyjson_schema.specs.Schemas.{is_schema};
 ghost use Rattle.tinyjson_schema.specs.declared.schema.SchemaError.{SchemaError};
 
 use crate::refused::{Reason, refused_place};
-use crate::validate::find_violation;
+use crate::validate::{find_violation, find_violations};
 use crate::violation::Violation;
 use crate::walk::{Ground, Walk};
 use std::alloc::{AllocError, Global};
@@ -67,6 +67,7 @@ impl From<AllocError> for SchemaError {
 
 impl<'s> Schema<'s> {
     ghost use Rattle.tinyjson_schema.specs.Reading.{ReadsSchema, tree_of, root_in};
+    ghost use Rattle.tinyjson_schema.specs.Every.{AreFirst, AreNoneIfValid};
     ghost use Rattle.tinyjson_schema.specs.Valid.{Validates, Agrees, ValidatesIn, AgreesIn};
 
     /// Checks a tree, and returns it as a schema. The error has the place of what can't be applied (Core, 4.3), or
@@ -184,5 +185,38 @@ impl<'s> Schema<'s> {
             alloc,
         };
         find_violation(&value.as_view(), walk)
+    }
+
+    /// The first violations by the value, up to `most`, in order. The first is that of [`Schema::invalid_place_by`]. All
+    /// of them take more steps than the first one.
+    ///
+    /// ```
+    /// let places = schema.invalid_places_by(&value, checks, 100, alloc)?;
+    /// ```
+    pub fn invalid_places_by<'v, V: AsView<'v>>(
+        &self,
+        value: V,
+        checks: Checks,
+        most: usize,
+        alloc: Global,
+    ) -> Result<Vec<Violation>, CheckError>
+        ensures first { IfOk result (λ found. AreFirst most (root_in self.now checks.formats)
+            checks.limits.nested (V.tree value) found.items) }
+        ensures none { IfOk result (λ found. AreNoneIfValid most (root_in self.now checks.formats)
+            (V.tree value) found.items) }
+    {
+        let limits = checks.limits;
+        self.whole.budget.renew(limits.steps);
+        let formats = checks.formats;
+        let ground = Ground {
+            whole: &self.whole,
+            formats,
+        };
+        let walk = Walk {
+            ground: &ground,
+            steps: limits.nested,
+            alloc,
+        };
+        find_violations(&value.as_view(), walk, most)
     }
 }

@@ -15,8 +15,10 @@ ghost use Rattle.tinyjson_schema.specs.Valid.{refuses_all, reference_accepts, Va
 ghost use Rattle.tinyjson_schema.specs.Valid.{Judges, Follows, Finds, FindsFound, is_reference};
 ghost use Rattle.tinyjson_schema.specs.Valid.{target_accepts, root_of};
 
+mod every;
 mod tested;
 mod unevaluated;
+mod uses;
 
 use crate::applied::{Applied, marks_of};
 use crate::assertions::{assertions, unmet};
@@ -25,6 +27,7 @@ use crate::validate::tested::unmet_test;
 use crate::validate::unevaluated::in_rest;
 use crate::violation::Violation;
 use crate::walk::Walk;
+pub use every::find_violations;
 use tinyjson::{JsonKind, JsonValue};
 use tinyjson_document::JsonView;
 use tinyjson_schema_keywords::{CheckError, Keyword, branch};

@@ -3,3 +3,4 @@ pub mod Reports
 pub mod Placing
 -- Whether a keyword forbids a member.
 pub mod Forbidden
+pub mod Callers

@@ -1,3 +1,5 @@
+-- All that a value violates of a schema.
+pub mod Every
 -- What a value violates of a schema.
 pub mod Finds
 -- The report of a value that is not valid.

@@ -7,10 +7,12 @@
 //! ```
 #![tactic(auto)]
 
+mod every;
 mod found;
 mod located;
 mod report;
 
+pub use every::find_every;
 pub use found::{Finding, find, find_by, limits_of};
 pub use located::{Located, locate, located_unit};
 pub use report::output_unit;

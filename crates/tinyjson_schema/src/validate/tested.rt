@@ -86,7 +86,7 @@ fn unmet_count(
 /// Whether a schema of the list accepts the value, or the list is empty.
 #[cycle(validate)]
 #[inline(never)]
-fn is_any_met(
+pub fn is_any_met(
     value: &ValueView<'_>,
     schemas: &[JsonValue],
     walk: Walk<'_, '_>,
@@ -125,7 +125,7 @@ fn is_some_met(
 /// Whether exactly one schema of the list accepts the value, or the list is empty.
 #[cycle(validate)]
 #[inline(never)]
-fn is_one_met(
+pub fn is_one_met(
     value: &ValueView<'_>,
     schemas: &[JsonValue],
     walk: Walk<'_, '_>,
@@ -165,7 +165,7 @@ fn count_accepting(
 /// Whether the schema of `not` does not accept the value.
 #[cycle(validate)]
 #[inline(never)]
-fn is_not_met(
+pub fn is_not_met(
     value: &ValueView<'_>,
     here: Applied<'_>,
     walk: Walk<'_, '_>,
@@ -186,7 +186,7 @@ fn is_not_met(
 /// Whether the schema of `propertyNames` accepts each key.
 #[cycle(validate)]
 #[inline(never)]
-fn are_names_met(
+pub fn are_names_met(
     value: &ValueView<'_>,
     here: Applied<'_>,
     walk: Walk<'_, '_>,
@@ -237,7 +237,7 @@ fn name_of(key: &str, alloc: Global) -> Result<JsonValue, AllocError>
 /// How many items of an array the schema of `contains` accepts; `None` without one, or if the value is no array.
 #[cycle(validate)]
 #[inline(never)]
-fn contained(
+pub fn contained(
     value: &ValueView<'_>,
     here: Applied<'_>,
     walk: Walk<'_, '_>,

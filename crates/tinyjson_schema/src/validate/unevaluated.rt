@@ -124,7 +124,7 @@ fn in_items_left(
 
 /// Whether one of the sources evaluates the member at the key.
 #[inline(never)]
-fn is_member_evaluated(key: &str, sources: &[Source<'_, '_>]) -> Result<bool, CheckError>
+pub fn is_member_evaluated(key: &str, sources: &[Source<'_, '_>]) -> Result<bool, CheckError>
     ensures { IfOk result (λ is. (g : Answers) (u : Tree) →
         is ≡ sources_evaluate g sources.now (member_at (chars key.now) u)) }
 {
@@ -166,7 +166,7 @@ fn counts_rest(source: &Source<'_, '_>, keyword: Keyword) -> bool
 /// Whether one of the sources evaluates the item at the index.
 #[cycle(validate)]
 #[inline(never)]
-fn is_item_evaluated(
+pub fn is_item_evaluated(
     index: usize,
     item: &ValueView<'_>,
     sources: &[Source<'_, '_>],
@@ -213,7 +213,7 @@ fn evaluates_item(
 /// The schema, and those that it applies to the value itself and that accept the value.
 #[cycle(validate)]
 #[inline(never)]
-fn sources_of<'d, 's>(
+pub fn sources_of<'d, 's>(
     value: &ValueView<'_>,
     here: Applied<'s>,
     walk: Walk<'d, 's>,

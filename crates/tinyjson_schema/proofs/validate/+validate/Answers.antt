@@ -15,7 +15,6 @@ use Rattle.tinyjson.specs.Soundness.{IsSorted}
 use Rattle.tinyjson_pointer.specs.Index.{index_of}
 use Rattle.tinyjson_pointer.specs.Tokens.{tokens_of}
 use Rattle.tinyjson_pointer.specs.Walk.{item_of}
-use Rattle.i_regexp.specs.PatternDeciding.{is_found}
 use Rattle.tinyjson_schema_keywords.specs.Applied.{schema_at, schemas_at, schema_map_at, members_in}
 use Rattle.tinyjson_schema_keywords.specs.declared.keyword.Keyword.TheVariants as kw
 use Rattle.tinyjson_schema_keywords.proofs.Callers.{listed_found, turn_next, turn_stop, turn_end, count_next, count_end}
@@ -27,7 +26,7 @@ use Rattle.tinyjson_schema.specs.Evaluated.{Answers, Child, member_at, item_at, 
 use Rattle.tinyjson_schema.specs.Evaluated.{some_evaluate, accepting_evaluate, branch_evaluates, dependents_evaluate, target_evaluates}
 use Rattle.tinyjson_schema_assertions.specs.Assertions.{IsUnmet, IsUnmetAmong}
 use Rattle.tinyjson_schema.specs.Parts.{item_schema}
-use Rattle.tinyjson_schema.specs.Places.{IsMemberPart, IsUnderKey, IsWithin, Enters, place}
+use Rattle.tinyjson_schema.specs.Places.{IsMemberPart, IsUnderKey, place}
 use Rattle.tinyjson_schema.specs.Sources.{sources_evaluate, AreWithin}
 use Rattle.tinyjson_schema.specs.Valid.{answers_in, FindsRest, reference_accepts, target_accepts, says, Judges, Finds, IsUnapplied, refused}
 use Rattle.tinyjson_schema.specs.Valid.{unmet, not_applied, in_all_of, in_dependent, in_patterned, in_reference, in_part, IsInvalidAt}
@@ -130,7 +129,8 @@ violation_in-returns-then-not-may_apply t c =
     let v = tree_of c.args.value.now in
     before c.args.walk inner c.in_ok-inner.ensures s v (Ok None)
     (decided_alone s (c.may_apply.ensures c.if-not-may_apply.true) inner v (sym c.refuses_all.ensures ∙ c.if-refuses_all.false)
-    (subst (λ f. IsUnmet f s v None) (sym (ap (λ g. g.now.formats) c.in_ok-inner.ensures.0)) (subst (λ o. IsUnmet c.args.walk.ground.now.formats s v o) c.in_default.is
+    (subst (λ f. IsUnmet f s v None) (sym (ap (λ g. g.now.formats) c.in_ok-inner.ensures.0))
+    (subst (λ o. IsUnmet c.args.walk.ground.now.formats s v o) c.in_default.is
     (subst (λ ks. IsUnmetAmong ks s v c.in_ok-keyword.field-0) c.assertions.ensures c.in_ok-keyword.ensures))))
 
 pub violation_in-returns-in-Some-2 : goal.violation_in-returns-in-Some-2

@@ -1,0 +1,11 @@
+use Rattle.std.proofs.Common.{subst}
+use Rattle.std.specs.Prelude.{IfOk}
+use Rattle.tinyjson_schema.specs.Every.{AreNoneIfValid}
+use Rattle.tinyjson_schema.specs.Reading.{root_in}
+use Rattle.tinyjson_schema.proofs.schema.Schema.invalid_places_by.Goals as goal
+
+pub returns-clause-none : goal.returns-clause-none
+returns-clause-none g c =
+    subst (λ t. IfOk c.find_violations.result (λ found.
+    AreNoneIfValid c.args.most (root_in c.args.self.now c.args.checks.formats) t found.items))
+    c.as_view.ensures c.find_violations.ensures.none

@@ -1,0 +1,38 @@
+use Rattle.std.proofs.Common.{[], ◌∷◌, ap, ◌∙◌}
+use Rattle.std.specs.Option.{option_map_or}
+use Rattle.tinyjson_view.specs.Views.{tree_of}
+use Rattle.tinyjson.specs.View.{view}
+use Rattle.tinyjson_schema_keywords.specs.Applied.{branch}
+use Rattle.tinyjson_schema.specs.Every.{word, same, uses_at, branch_uses}
+use Rattle.tinyjson_schema.specs.Valid.{says}
+use Rattle.tinyjson_schema.proofs.Adding.{uses_none, uses_as}
+use Rattle.tinyjson_schema.proofs.validate.uses.add_branch.Goals as goal
+
+pub returns-in_default : goal.returns-in_default
+returns-in_default c g =
+    let f = says c.args.walk g in
+    let s = view c.args.here.schema.now in
+    let v = tree_of c.args.value.now in
+    uses_as [] (branch_uses f s v) _ _ (ap (λ o. option_map_or (λ r. uses_at (branch (f r v)) s v) o []) c.in_default.ensures) (uses_none _)
+
+pub returns-in_default-schema_at : goal.returns-in_default-schema_at
+returns-in_default-schema_at c g =
+    let f = says c.args.walk g in
+    let s = view c.args.here.schema.now in
+    let v = tree_of c.args.value.now in
+    let k = c.branch-chosen.result in
+    uses_as [] (branch_uses f s v) _ _
+    (ap (λ o. option_map_or (λ r. same (word k ∷ []) r v ∷ []) o []) c.in_default-schema_at.ensures
+    ∙ (ap (λ l. uses_at l s v) (c.branch-chosen.ensures ∙ ap branch (c.in_ok-accepted.ensures g))
+    ∙ ap (λ o. option_map_or (λ r. uses_at (branch (f r v)) s v) o []) c.in-Some.ensures)) (uses_none _)
+
+pub returns : goal.returns
+returns c g =
+    let f = says c.args.walk g in
+    let s = view c.args.here.schema.now in
+    let v = tree_of c.args.value.now in
+    let k = c.branch-chosen.result in
+    uses_as _ (branch_uses f s v) _ _
+    (ap (λ o. option_map_or (λ r. same (word k ∷ []) r v ∷ []) o []) c.in-Some-schema_at.ensures
+    ∙ (ap (λ l. uses_at l s v) (c.branch-chosen.ensures ∙ ap branch (c.in_ok-accepted.ensures g))
+    ∙ ap (λ o. option_map_or (λ r. uses_at (branch (f r v)) s v) o []) c.in-Some.ensures)) c.in_ok-add_if.ensures

@@ -1,0 +1,31 @@
+use Rattle.std.proofs.Common.{◌++◌, ◌∙◌, [], ◌∷◌, is_some, cond, map, refl, ap}
+use Rattle.std.specs.Str.{chars}
+use Rattle.tinyjson.specs.Index.{tree_at_key}
+use Rattle.tinyjson.specs.View.{view, text, members_listed}
+use Rattle.tinyjson_view.specs.Views.{tree_of}
+use Rattle.tinyjson_schema_keywords.specs.declared.keyword.Keyword.TheVariants as kw
+use Rattle.tinyjson_schema.specs.Every.{token, word, same, dependent_uses}
+use Rattle.tinyjson_schema.specs.Steps.{use_of}
+use Rattle.tinyjson_schema.proofs.Adding.{gather_next, gather_end, uses_as}
+use Rattle.tinyjson_schema.proofs.validate.uses.add_dependents.Goals as goal
+
+pub loop-key-preserved : goal.loop-key-preserved
+loop-key-preserved c =
+    let v = tree_of c.args.value.now in
+    let p = c.loop-key-item.result in
+    let r = view p.1.now in
+    let here = c.has_key-is_wanted.ensures ∙ ap (λ bs. is_some (tree_at_key v (chars bs))) c.as_str-name.ensures.value in
+    gather_next (λ xs. dependent_uses (members_listed xs) v) c.as_slice-dependents.result.now c.loop-key.key-index _ p _ _
+    (cond (is_some (tree_at_key v (text p.0.now))) (same (word kw.DependentSchemas ∷ token (text p.0.now) ∷ []) r v ∷ []) [])
+    c.loop-key-test.true c.loop-key-item.is refl
+    (uses_as _ _ _ _ (λ i. cond (here i)
+    (same (word kw.DependentSchemas ∷ token (chars (c.as_str-name.ensures.value i)) ∷ []) r v ∷ []) []) c.in_ok-add_if.ensures)
+    c.loop-key.invariant
+
+pub returns : goal.returns
+returns c =
+    let v = tree_of c.args.value.now in
+    gather_end (λ xs. dependent_uses (members_listed xs) v) c.as_slice-dependents.result.now c.loop-key.key-index _ _
+    c.loop-key-test.false refl c.loop-key.invariant
+    ∙ ap (λ rs. map use_of c.args.pending.now.items ++ dependent_uses rs v)
+    (ap members_listed c.as_slice-dependents.ensures.value ∙ c.in_ok-listed.ensures.listed)

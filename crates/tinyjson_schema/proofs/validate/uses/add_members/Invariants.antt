@@ -1,0 +1,11 @@
+use Rattle.std.proofs.Common.{◌≡◌, ◌++◌, drop, map}
+use Rattle.tinyjson.specs.View.{view}
+use Rattle.tinyjson_view.specs.Views.{members_of}
+use Rattle.tinyjson_schema.specs.Every.{member_uses}
+use Rattle.tinyjson_schema.specs.Steps.{use_of}
+use Rattle.tinyjson_schema.proofs.validate.uses.add_members.Given as goal
+
+abbrev pub invariant-loop-member : goal.invariant-loop-member
+invariant-loop-member l =
+    map use_of l.pending.items ++ member_uses (view l.here.schema.now) (members_of (drop l.member-index l.members))
+    ≡ map use_of l.initial.pending.items ++ member_uses (view l.here.schema.now) (members_of l.members)

@@ -1,0 +1,442 @@
+//! The schemas that a schema applies to a value and its parts, one after the other.
+ghost use Rattle.std.specs.Prelude.{◌≡◌, ◌∷◌, [], IfOk, OnOk, cond, not, map};
+ghost use Rattle.std.specs.Str.{chars};
+ghost use Rattle.tinyjson.specs.View.{view, items_view, members_listed};
+ghost use Rattle.tinyjson_view.specs.Views.{tree_of, trees_of, members_of};
+ghost use Rattle.tinyjson_schema_keywords.specs.Applied.{schemas_at, schema_map_at};
+ghost use Rattle.tinyjson_schema_keywords.specs.Applied.{members_in, items_in};
+ghost use Rattle.tinyjson_schema_keywords.specs.declared.keyword.Keyword.TheVariants as kw;
+ghost use Rattle.tinyjson_schema.specs.Evaluated.{Answers, others_evaluate};
+ghost use Rattle.tinyjson_schema.specs.Every.{all_uses, uses_at, branch_uses, dependent_uses};
+ghost use Rattle.tinyjson_schema.specs.Every.{found_uses, pattern_uses, target_uses};
+ghost use Rattle.tinyjson_schema.specs.Every.{uses_of_member, member_uses, uses_of_item};
+ghost use Rattle.tinyjson_schema.specs.Every.{item_uses, left_members, left_items};
+ghost use Rattle.tinyjson_schema.specs.Every.{rest_members, rest_items, uses};
+ghost use Rattle.tinyjson_schema.specs.Sources.{sources_evaluate, AreWithin};
+ghost use Rattle.tinyjson_schema.specs.Steps.{AddsUses, use_of};
+ghost use Rattle.tinyjson_schema.specs.Valid.{answers_in, says};
+
+use crate::applied::Applied;
+use crate::part::{additional, prefix_item, property};
+use crate::validate::unevaluated::{Source, is_item_evaluated, is_member_evaluated, sources_of};
+use crate::validate::{has_key, is_accepted};
+use crate::walk::Walk;
+use std::alloc::AllocError;
+use tinyjson::JsonValue;
+use tinyjson_schema_keywords::{CheckError, Keyword, branch};
+use tinyjson_view::{MemberView, ValueView};
+
+/// How a schema leads to one that it applies.
+#[derive(Clone, Copy)]
+pub enum Step<'v, 's> {
+    /// By the keyword, to the same value.
+    Schema(Keyword),
+    /// By the keyword's list.
+    Listed(Keyword, usize),
+    /// By the key of the keyword's object.
+    Keyed(Keyword, &'s str),
+    /// By the applicator, to the member at the key.
+    Member(Keyword, &'v str),
+    /// By a pattern of `patternProperties`, to the member at the key.
+    Patterned(&'s str, &'v str),
+    /// By the applicator, to the item at the index.
+    Item(Keyword, usize),
+}
+
+/// A schema that is still to be applied, and the value.
+#[derive(Clone, Copy)]
+pub struct Pending<'v, 's> {
+    pub step: Step<'v, 's>,
+    pub schema: &'s JsonValue,
+    pub value: ValueView<'v>,
+}
+
+/// The schemas that the schema applies to the value and its parts, in order.
+#[inline(never)]
+pub fn uses_in<'v, 's>(
+    value: &ValueView<'v>,
+    here: Applied<'s>,
+    walk: Walk<'_, 's>,
+) -> Result<Vec<Pending<'v, 's>>, CheckError>
+    ensures { IfOk result (λ pending. (g : Answers) → map use_of pending.items
+        ≡ uses (view walk.entry.ground.now.whole.now.root.now) (answers_in walk.entry g)
+        (view here.entry.schema.now) (tree_of value.now)) }
+{
+    let mut pending = Vec::new(walk.alloc);
+    add_all_of(value, here, &mut pending)?;
+    add_branch(value, here, walk, &mut pending)?;
+    add_dependents(value, here, walk, &mut pending)?;
+    let named = value.members(walk.alloc)?;
+    let members = named.as_slice();
+    add_patterned(members, here, walk, &mut pending)?;
+    add_target(value, here, Keyword::Ref, walk, &mut pending)?;
+    add_target(value, here, Keyword::DynamicRef, walk, &mut pending)?;
+    add_members(members, here, walk, &mut pending)?;
+    let listed = value.items(walk.alloc)?;
+    let items = listed.as_slice();
+    add_items(items, here, &mut pending)?;
+    add_rest_members(value, members, here, walk, &mut pending)?;
+    add_rest_items(value, items, here, walk, &mut pending)?;
+    Ok(pending)
+}
+
+/// Adds one if it is wanted.
+fn add_if<'v, 's>(
+    is_wanted: bool,
+    one: Pending<'v, 's>,
+    pending: &mut Vec<Pending<'v, 's>>,
+) -> Result<(), AllocError>
+    ensures { OnOk result (AddsUses (cond is_wanted (use_of one.entry ∷ []) [])
+        pending.old.items pending.new.items) }
+{
+    if !is_wanted {
+        return Ok(());
+    }
+    pending.push(one)?;
+    Ok(())
+}
+
+/// Adds the schemas of `allOf`.
+#[inline(never)]
+fn add_all_of<'v, 's>(
+    value: &ValueView<'v>,
+    here: Applied<'s>,
+    pending: &mut Vec<Pending<'v, 's>>,
+) -> Result<(), AllocError>
+    ensures { OnOk result (AddsUses
+        (all_uses 0 (schemas_at (view here.entry.schema.now) kw.AllOf) (tree_of value.now))
+        pending.old.items pending.new.items) }
+{
+    let parts = here.schemas_at(Keyword::AllOf);
+    for (index, part) in parts.iter().enumerate() {
+        let one = Pending {
+            step: Step::Listed(Keyword::AllOf, index),
+            schema: part,
+            value: *value,
+        };
+        add_if(true, one, pending)?;
+    }
+    Ok(())
+}
+
+/// Adds the schema that `if` chooses.
+#[inline(never)]
+fn add_branch<'v, 's>(
+    value: &ValueView<'v>,
+    here: Applied<'s>,
+    walk: Walk<'_, 's>,
+    pending: &mut Vec<Pending<'v, 's>>,
+) -> Result<(), CheckError>
+    ensures { OnOk result ((g : Answers) → AddsUses
+        (branch_uses (says walk.entry g) (view here.entry.schema.now) (tree_of value.now))
+        pending.old.items pending.new.items) }
+{
+    let Some(test) = here.schema_at(Keyword::If) else {
+        return Ok(());
+    };
+    let accepted = is_accepted(value, test, walk)?;
+    let chosen = branch(accepted);
+    let Some(part) = here.schema_at(chosen) else {
+        return Ok(());
+    };
+    let one = Pending {
+        step: Step::Schema(chosen),
+        schema: part,
+        value: *value,
+    };
+    add_if(true, one, pending)?;
+    Ok(())
+}
+
+/// Adds the schemas of `dependentSchemas` for the keys that the value has.
+#[inline(never)]
+fn add_dependents<'v, 's>(
+    value: &ValueView<'v>,
+    here: Applied<'s>,
+    walk: Walk<'_, 's>,
+    pending: &mut Vec<Pending<'v, 's>>,
+) -> Result<(), CheckError>
+    ensures { OnOk result (AddsUses
+        (dependent_uses (schema_map_at (view here.entry.schema.now) kw.DependentSchemas)
+        (tree_of value.now)) pending.old.items pending.new.items) }
+{
+    let listed = here.schema_map_at(Keyword::DependentSchemas, walk.alloc)?;
+    let dependents = listed.as_slice();
+    walk.ground.whole.budget.charge(dependents.len());
+    for &(key, part) in dependents {
+        let name = key.as_str();
+        let is_wanted = has_key(value, name);
+        let one = Pending {
+            step: Step::Keyed(Keyword::DependentSchemas, name),
+            schema: part,
+            value: *value,
+        };
+        add_if(is_wanted, one, pending)?;
+    }
+    Ok(())
+}
+
+/// Adds the schemas of `patternProperties`, for the members whose keys their patterns match.
+#[inline(never)]
+fn add_patterned<'v, 's>(
+    members: &[MemberView<'v>],
+    here: Applied<'s>,
+    walk: Walk<'_, 's>,
+    pending: &mut Vec<Pending<'v, 's>>,
+) -> Result<(), CheckError>
+    ensures { OnOk result (AddsUses
+        (pattern_uses (schema_map_at (view here.entry.schema.now) kw.PatternProperties)
+        (members_of members.now)) pending.old.items pending.new.items) }
+{
+    let listed = here.schema_map_at(Keyword::PatternProperties, walk.alloc)?;
+    let patterns = listed.as_slice();
+    walk.ground.whole.budget.charge(patterns.len());
+    for &(pattern, part) in patterns {
+        let text = pattern.as_str();
+        add_found(members, text, part, walk, pending)?;
+    }
+    Ok(())
+}
+
+/// Adds the schema for the members whose keys the pattern matches.
+#[inline(never)]
+fn add_found<'v, 's>(
+    members: &[MemberView<'v>],
+    pattern: &'s str,
+    schema: &'s JsonValue,
+    walk: Walk<'_, 's>,
+    pending: &mut Vec<Pending<'v, 's>>,
+) -> Result<(), CheckError>
+    ensures { OnOk result (AddsUses
+        (found_uses (chars pattern.now) (view schema.now) (members_of members.now))
+        pending.old.items pending.new.items) }
+{
+    for member in members {
+        let is_found = walk.is_found(pattern, member.key)?;
+        let one = Pending {
+            step: Step::Patterned(pattern, member.key),
+            schema,
+            value: member.value,
+        };
+        add_if(is_found, one, pending)?;
+    }
+    Ok(())
+}
+
+/// Adds the schema to which the reference leads.
+#[inline(never)]
+fn add_target<'v, 's>(
+    value: &ValueView<'v>,
+    here: Applied<'s>,
+    keyword: Keyword,
+    walk: Walk<'_, 's>,
+    pending: &mut Vec<Pending<'v, 's>>,
+) -> Result<(), AllocError>
+    ensures { OnOk result (AddsUses
+        (target_uses (view walk.entry.ground.now.whole.now.root.now) keyword
+        (view here.entry.schema.now) (tree_of value.now)) pending.old.items pending.new.items) }
+{
+    let Some(part) = here.referenced(keyword, walk)? else {
+        return Ok(());
+    };
+    let one = Pending {
+        step: Step::Schema(keyword),
+        schema: part,
+        value: *value,
+    };
+    add_if(true, one, pending)?;
+    Ok(())
+}
+
+/// Adds the schema for each member.
+#[inline(never)]
+fn add_members<'v, 's>(
+    members: &[MemberView<'v>],
+    here: Applied<'s>,
+    walk: Walk<'_, 's>,
+    pending: &mut Vec<Pending<'v, 's>>,
+) -> Result<(), CheckError>
+    ensures { OnOk result (AddsUses
+        (member_uses (view here.entry.schema.now) (members_of members.now))
+        pending.old.items pending.new.items) }
+{
+    for member in members {
+        walk.ground.whole.budget.spend(1)?;
+        add_member(*member, here, walk, pending)?;
+    }
+    Ok(())
+}
+
+fn add_member<'v, 's>(
+    member: MemberView<'v>,
+    here: Applied<'s>,
+    walk: Walk<'_, 's>,
+    pending: &mut Vec<Pending<'v, 's>>,
+) -> Result<(), CheckError>
+    ensures { OnOk result (AddsUses
+        (uses_of_member (view here.entry.schema.now) (chars member.entry.key.now)
+        (tree_of member.entry.value))
+        pending.old.items pending.new.items) }
+{
+    if let Some(part) = property(here, member.key) {
+        let one = Pending {
+            step: Step::Member(Keyword::Properties, member.key),
+            schema: part,
+            value: member.value,
+        };
+        add_if(true, one, pending)?;
+        return Ok(());
+    }
+    let Some(part) = additional(here, member.key, walk)? else {
+        return Ok(());
+    };
+    let one = Pending {
+        step: Step::Member(Keyword::AdditionalProperties, member.key),
+        schema: part,
+        value: member.value,
+    };
+    add_if(true, one, pending)?;
+    Ok(())
+}
+
+/// Adds the schema for each item.
+#[inline(never)]
+fn add_items<'v, 's>(
+    items: &[ValueView<'v>],
+    here: Applied<'s>,
+    pending: &mut Vec<Pending<'v, 's>>,
+) -> Result<(), AllocError>
+    ensures { OnOk result (AddsUses
+        (item_uses (view here.entry.schema.now) 0 (trees_of items.now))
+        pending.old.items pending.new.items) }
+{
+    for (index, item) in items.iter().enumerate() {
+        add_item(index, item, here, pending)?;
+    }
+    Ok(())
+}
+
+fn add_item<'v, 's>(
+    index: usize,
+    item: &ValueView<'v>,
+    here: Applied<'s>,
+    pending: &mut Vec<Pending<'v, 's>>,
+) -> Result<(), AllocError>
+    ensures { OnOk result (AddsUses
+        (uses_of_item (view here.entry.schema.now) index (tree_of item.now))
+        pending.old.items pending.new.items) }
+{
+    if let Some(part) = prefix_item(here, index) {
+        let one = Pending {
+            step: Step::Item(Keyword::PrefixItems, index),
+            schema: part,
+            value: *item,
+        };
+        add_if(true, one, pending)?;
+        return Ok(());
+    }
+    let Some(part) = here.schema_at(Keyword::Items) else {
+        return Ok(());
+    };
+    let one = Pending {
+        step: Step::Item(Keyword::Items, index),
+        schema: part,
+        value: *item,
+    };
+    add_if(true, one, pending)?;
+    Ok(())
+}
+
+/// Adds the schema of `unevaluatedProperties` for the members that no other keyword evaluates.
+#[inline(never)]
+fn add_rest_members<'v, 's>(
+    value: &ValueView<'v>,
+    members: &[MemberView<'v>],
+    here: Applied<'s>,
+    walk: Walk<'_, 's>,
+    pending: &mut Vec<Pending<'v, 's>>,
+) -> Result<(), CheckError>
+    requires { members_of members.now ≡ members_in (tree_of value.now) }
+    ensures { OnOk result ((g : Answers) → AddsUses
+        (rest_members (others_evaluate (view walk.entry.ground.now.whole.now.root.now)
+        (answers_in walk.entry g) (view here.entry.schema.now) (tree_of value.now))
+        (view here.entry.schema.now) (tree_of value.now)) pending.old.items pending.new.items) }
+{
+    let Some(rest) = here.schema_at(Keyword::UnevaluatedProperties) else {
+        return Ok(());
+    };
+    let sources = sources_of(value, here, walk)?;
+    add_left_members(members, rest, sources.as_slice(), pending)?;
+    Ok(())
+}
+
+#[inline(never)]
+fn add_left_members<'v, 's>(
+    members: &[MemberView<'v>],
+    rest: &'s JsonValue,
+    sources: &[Source<'_, '_>],
+    pending: &mut Vec<Pending<'v, 's>>,
+) -> Result<(), CheckError>
+    ensures { OnOk result ((g : Answers) → AddsUses
+        (left_members (sources_evaluate g sources.now) (view rest.now) (members_of members.now))
+        pending.old.items pending.new.items) }
+{
+    for member in members {
+        let evaluated = is_member_evaluated(member.key, sources)?;
+        let one = Pending {
+            step: Step::Member(Keyword::UnevaluatedProperties, member.key),
+            schema: rest,
+            value: member.value,
+        };
+        add_if(!evaluated, one, pending)?;
+    }
+    Ok(())
+}
+
+/// Adds the schema of `unevaluatedItems` for the items that no other keyword evaluates.
+#[inline(never)]
+fn add_rest_items<'v, 's>(
+    value: &ValueView<'v>,
+    items: &[ValueView<'v>],
+    here: Applied<'s>,
+    walk: Walk<'_, 's>,
+    pending: &mut Vec<Pending<'v, 's>>,
+) -> Result<(), CheckError>
+    requires { trees_of items.now ≡ items_in (tree_of value.now) }
+    ensures { OnOk result ((g : Answers) → AddsUses
+        (rest_items (others_evaluate (view walk.entry.ground.now.whole.now.root.now)
+        (answers_in walk.entry g) (view here.entry.schema.now) (tree_of value.now))
+        (view here.entry.schema.now) (tree_of value.now)) pending.old.items pending.new.items) }
+{
+    let Some(rest) = here.schema_at(Keyword::UnevaluatedItems) else {
+        return Ok(());
+    };
+    let sources = sources_of(value, here, walk)?;
+    add_left_items(items, rest, sources.as_slice(), walk, pending)?;
+    Ok(())
+}
+
+#[inline(never)]
+fn add_left_items<'v, 's>(
+    items: &[ValueView<'v>],
+    rest: &'s JsonValue,
+    sources: &[Source<'_, '_>],
+    walk: Walk<'_, '_>,
+    pending: &mut Vec<Pending<'v, 's>>,
+) -> Result<(), CheckError>
+    requires { AreWithin walk.steps sources.now }
+    ensures { OnOk result ((g : Answers) → AddsUses
+        (left_items (sources_evaluate g sources.now) (view rest.now) 0 (trees_of items.now))
+        pending.old.items pending.new.items) }
+{
+    for (index, item) in items.iter().enumerate() {
+        let evaluated = is_item_evaluated(index, item, sources, walk)?;
+        let one = Pending {
+            step: Step::Item(Keyword::UnevaluatedItems, index),
+            schema: rest,
+            value: *item,
+        };
+        add_if(!evaluated, one, pending)?;
+    }
+    Ok(())
+}

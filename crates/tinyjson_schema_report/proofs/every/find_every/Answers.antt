@@ -1,0 +1,17 @@
+use Rattle.std.proofs.Common.{subst, sym}
+use Rattle.std.specs.List.{All}
+use Rattle.tinyjson_schema.specs.Every.{AreFirst, AreNoneIfValid}
+use Rattle.tinyjson_schema.specs.Reading.{root_in}
+use Rattle.tinyjson_schema_report.specs.Finds.{HasWords}
+use Rattle.tinyjson_schema_report.proofs.every.find_every.Goals as goal
+
+pub returns : goal.returns
+returns g c =
+    let root = root_in c.args.schema.now c.args.checks.formats in
+    let t = g.V.AsView.tree c.args.value in
+    let places = c.in_ok-violations.ensures in
+    let same = sym c.in_ok-found.ensures.same in (
+      subst (AreFirst c.args.most root c.args.checks.limits.nested t) same places.first,
+      subst (AreNoneIfValid c.args.most root t) same places.none,
+      subst (λ u. All (HasWords root.tree u) c.in_ok-found.found.items) c.as_view-view.ensures c.in_ok-found.ensures.words,
+    )
