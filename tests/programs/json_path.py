@@ -445,6 +445,7 @@ MANY = 20_000
 UNION = 10_000
 UNDER = b"[" * 100_000 + b"0,7" + b"]" * 100_000
 ITEMS = b"[" + b"1.0," * 99_999 + b'{"x":2}]'
+LARGE = b'{"a":[%s{"x":2}],"b":[%s1],"c":[%s1],"s":"%s"}' % (b"1," * 400_000, b"1," * 100_000, b"1," * 100_000, b"x" * 4_000_000)
 
 
 # Where a 65th expression would begin in the others.
@@ -516,6 +517,19 @@ LONG_PATHS = [
             "@[?$..x] || $..x",
         )
     ),
+    # So is a comparison of values from the root, the length of one, and whether one matches; also each of many.
+    *(
+        (["$.a[?%s]" % test], LARGE, printed(b'{"x":2}'))
+        for test in (
+            "$.b == $.c && @.x",
+            "length($.s) == 4000000 && @.x",
+            "length($.s) > @.x",
+            "length(value($..s)) > @.x",
+            "search($.s, 'y') || @.x",
+            "match($.s, 'x*') && @.x",
+        )
+    ),
+    (["$[?%s || @.x]" % " || ".join("$.a%d" % i for i in range(5_000))], b"[" + b"1," * 10_000 + b'{"x":2}]', printed(b'{"x":2}')),
     # Regular expressions in the query and in the value, at the limits of both and above.
     *(
         row

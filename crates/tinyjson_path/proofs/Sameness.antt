@@ -1,5 +1,5 @@
 -- Queries that select the same, and what is kept of the elements of a list.
-use Rattle.std.proofs.Common.{◌≡◌, ℕ, zero, suc, ◌<◌, List, [], ◌∷◌, map, length, get_or, Option, None, Some}
+use Rattle.std.proofs.Common.{◌≡◌, ℕ, zero, suc, ◌<◌, List, [], ◌∷◌, map, length, get_or, insert, Option, None, Some}
 use Rattle.std.proofs.Common.{refl, sym, ap, ap₂, ◌∙◌, rules, arith, option_and_then}
 use Rattle.tinyjson.specs.Tree.{Tree}
 use Rattle.tinyjson_path.specs.Comparing.{origin_tree, one_child, one_at, one_tree}
@@ -50,3 +50,12 @@ pub at_one : {A B : Type 0} (f g : A → B) (xs : List A) (i : ℕ) (x : A) → 
 at_one f g [] i x e l h = absurd (omega arith)
 at_one f g (y ∷ ys) zero x e l h = let first : f y ≡ g y = cc in ap f h ∙ (first ∙ sym (ap g h))
 at_one f g (y ∷ ys) (suc i) x e l h = let rest : map f ys ≡ map g ys = cc in at_one f g ys i x rest (omega arith) h
+
+-- of elements that are the same to both, with one more
+pub same_insert : {A B : Type 0} (f g : A → B) (xs : List A) (i : ℕ) (x : A) → map f xs ≡ map g xs → f x ≡ g x
+    → map f (insert xs i x) ≡ map g (insert xs i x)
+same_insert f g [] zero x e h = ap (λ z. z ∷ []) h
+same_insert f g [] (suc i) x e h = ap (λ z. z ∷ []) h
+same_insert f g (y ∷ ys) zero x e h = ap₂ (λ z zs. z ∷ zs) h e
+same_insert f g (y ∷ ys) (suc i) x e h =
+    let first : f y ≡ g y = cc in let rest : map f ys ≡ map g ys = cc in ap₂ (λ z zs. z ∷ zs) first (same_insert f g ys i x rest h)

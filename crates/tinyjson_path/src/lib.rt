@@ -9,6 +9,7 @@
 
 mod answers;
 mod children;
+mod key;
 mod node;
 mod operand;
 mod path;
@@ -16,6 +17,7 @@ mod patterns;
 mod same;
 mod select;
 mod slice;
+mod steady;
 
 pub use node::{Location, Node};
 pub use path::path_text;

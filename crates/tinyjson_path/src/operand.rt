@@ -1,5 +1,5 @@
 //! What filters compare (RFC 9535, 2.3.5.2.2), and the functions of values.
-ghost use Rattle.std.specs.Prelude.{◌≡◌, Some, IfOk, IfErr, length, option_map};
+ghost use Rattle.std.specs.Prelude.{◌≡◌, Some, IfOk, IfErr, length, option_and_then, option_map};
 ghost use Rattle.std.specs.Str.{chars};
 ghost use Rattle.tinyjson_document.specs.Numbers.{decimal_of};
 ghost use Rattle.tinyjson_path.specs.Comparing.{compares, is_same, is_below, is_tree_less, literal_tree};
@@ -207,13 +207,30 @@ pub(crate) fn length<'v>(
     ensures { IfOk result (λ o. option_map operand_tree o
         ≡ length_of (option_map operand_tree argument.entry)) }
 {
+    whole_if(alloc, length_of(argument))
+}
+
+/// How long the operand is, if it has a length. It is consumed.
+pub(crate) fn length_of(argument: Option<Operand>) -> Option<usize>
+    ensures { result ≡ option_and_then size_of (option_map operand_tree argument.entry) }
+{
     let size = match value_of(&argument) {
         Some(value) => size(value),
         None => None,
     };
     release(argument);
-    match size {
-        Some(size) => whole(alloc, size),
+    size
+}
+
+/// A whole number, if there is one.
+pub(crate) fn whole_if<'v>(
+    alloc: Global,
+    value: Option<usize>,
+) -> Result<Option<Operand<'v>>, AllocError>
+    ensures { IfOk result (λ o. option_map operand_tree o ≡ option_map whole value) }
+{
+    match value {
+        Some(value) => whole(alloc, value),
         None => Ok(None),
     }
 }

@@ -88,7 +88,7 @@ fn is_bound_same(left: Option<i64>, right: Option<i64>) -> bool
 }
 
 #[cycle(comparing)]
-fn is_expression_same(left: &Expression, right: &Expression) -> bool
+pub(crate) fn is_expression_same(left: &Expression, right: &Expression) -> bool
     ensures { result ≡ true → holds_of left.now ≡ holds_of right.now }
 {
     match (left, right) {
@@ -170,7 +170,7 @@ fn is_origin_same(left: Origin, right: Origin) -> bool
 }
 
 #[cycle(comparing)]
-fn is_comparable_same(left: &Comparable, right: &Comparable) -> bool
+pub(crate) fn is_comparable_same(left: &Comparable, right: &Comparable) -> bool
     ensures { result ≡ true → comparable_value left.now ≡ comparable_value right.now }
 {
     match (left, right) {

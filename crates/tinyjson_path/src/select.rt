@@ -1,16 +1,17 @@
 //! The nodes that a query selects.
 ghost use Rattle.std.proofs.Props.{props};
-ghost use Rattle.std.specs.Prelude.{◌≡◌, ◌++◌, ◌∷◌, [], reverse, OnOk, IfOk, IfErr, option_map};
+ghost use Rattle.std.specs.Prelude.{◌≡◌, ◌++◌, ◌∷◌, [], reverse, OnOk, IfOk, IfErr};
+ghost use Rattle.std.specs.Prelude.{option_and_then, option_map};
 ghost use Rattle.tinyjson.specs.View.{view};
 ghost use Rattle.tinyjson_document.specs.Document.{tree};
 ghost use Rattle.tinyjson_document.specs.Known.{Tree_set};
-ghost use Rattle.tinyjson_path.specs.Answers.{AreKnown, answer_of, found_view};
+ghost use Rattle.tinyjson_path.specs.Answers.{AreKnown, answer_of, found_view, value_at};
 ghost use Rattle.tinyjson_path.specs.Nodes.{path_of, part_view, parts_view, root_part, children};
 ghost use Rattle.tinyjson_view.specs.Views.{tree_of};
 ghost use Rattle.tinyjson_path.specs.Queries.{query_parts, selector_parts, selected_by};
 ghost use Rattle.tinyjson_path.specs.Queries.{found_by, holds_of, kept, comparable_value};
 ghost use Rattle.tinyjson_path.specs.Queries.{filter_parts, is_some_part};
-ghost use Rattle.tinyjson_path.specs.Comparing.{compares, length_of, count_of, value_of};
+ghost use Rattle.tinyjson_path.specs.Comparing.{compares, length_of, count_of, size_of, value_of};
 ghost use Rattle.tinyjson_path.specs.Patterns.{judged, pattern_holds};
 ghost use Rattle.tinyjson_path.specs.Seen.{operand_tree};
 ghost use Rattle.tinyjson_path.specs.Strings.{query_strings, strings_in, IsFrom, IsFromAny};
@@ -19,11 +20,15 @@ ghost use Rattle.tinyjson_path.specs.Strings.{selector_strings, expression_strin
 ghost use Rattle.tinyjson_path.specs.Strings.{filter_strings};
 ghost use Rattle.tinyjson_path.specs.Waiting.{waits_view, waits_at};
 
-use crate::answers::{Answer, Found, answer_for, found_of};
+use crate::answers::{Answer, Found, Question, Reply, found_of, keep, reply_to};
 use crate::children::{children, containers, push_children, push_indexed, push_named, push_slice};
 use crate::node::Node;
-use crate::operand::{self, Operand, compare, literal_value, part, release, singular_value, whole};
+use crate::operand::{
+    self, Operand, compare, length_of, literal_value, part, release, singular_value, whole,
+    whole_if,
+};
 use crate::patterns::{FindError, Patterns};
+use crate::steady::{is_steady, is_test_steady};
 use std::alloc::{AllocError, Global};
 use tinyjson::JsonValue;
 use tinyjson_path_query::{
@@ -38,8 +43,8 @@ use tinyjson_view::ValueView;
 /// too deep or too large.
 ///
 /// A regular expression that is a literal of the query is parsed once, when it is first needed; one from the value is
-/// kept for the next node with the same one. What a query from the root selects is found once for all nodes that a
-/// filter tests. The stack grows with the nesting of the query, not with the depth of the value.
+/// kept for the next node with the same one. What a filter asks of the root alone is found once for all nodes that it
+/// tests. The stack grows with the nesting of the query, not with the depth of the value.
 ///
 /// ```
 /// let value = JsonValue::from_str(alloc, r#"{"a": [{"b": 1}, {"b": 2.50}]}"#)?;
@@ -108,7 +113,7 @@ struct Finder<'v> {
     alloc: Global,
     /// The value of `$`.
     root: ValueView<'v>,
-    /// What queries from the root select, as far as filters asked for it.
+    /// What filters asked of the root alone.
     answers: Vec<Answer<'v>>,
     patterns: Patterns,
     ghost known: { AreKnown (tree_of root) answers.items } by { Prim.hlevel (props, Tree_set) },
@@ -238,10 +243,49 @@ impl<'v> Finder<'v> {
         Ok(())
     }
 
-    /// Whether the expression holds of the value. What only one kind of expression needs is in functions of its own,
-    /// for the stack that a filter in a filter takes.
+    /// Whether the expression holds of the value.
     #[cycle(selecting)]
     fn holds(&mut self, expression: &'v Expression, here: &ValueView<'v>) -> Result<bool, FindError>
+        ensures root { self.new.root ≡ self.old.root }
+        ensures ok { IfOk result (λ b. b
+            ≡ holds_of expression.now (tree_of self.old.root) (tree_of here.now)) }
+        ensures err { IfErr result (IsFromAny (expression_strings expression.now)
+            (tree_of self.old.root) (strings_in (tree_of here.now))) }
+    {
+        if is_test_steady(expression) {
+            return self.holds_once(expression);
+        }
+        self.holds_at(expression, here)
+    }
+
+    /// Whether the expression holds of the root, which is found once, and kept.
+    #[cycle(selecting)]
+    #[inline(never)]
+    fn holds_once(&mut self, expression: &'v Expression) -> Result<bool, FindError>
+        ensures root { self.new.root ≡ self.old.root }
+        ensures ok { IfOk result (λ b. b
+            ≡ holds_of expression.now (tree_of self.old.root) (tree_of self.old.root)) }
+        ensures err { IfErr result (IsFromAny (expression_strings expression.now)
+            (tree_of self.old.root) (strings_in (tree_of self.old.root))) }
+    {
+        let question = Question::Test(expression);
+        if let Some(Reply::Holds(holds)) = reply_to(self.answers.as_slice(), question) {
+            return Ok(holds);
+        }
+        let root = self.root;
+        let holds = self.holds_at(expression, &root)?;
+        keep(&mut self.answers, question, Reply::Holds(holds))?;
+        Ok(holds)
+    }
+
+    /// The same as `holds`, whatever is kept of the expression. What only one kind of expression needs is in functions
+    /// of its own, for the stack that a filter in a filter takes.
+    #[cycle(selecting)]
+    fn holds_at(
+        &mut self,
+        expression: &'v Expression,
+        here: &ValueView<'v>,
+    ) -> Result<bool, FindError>
         ensures root { self.new.root ≡ self.old.root }
         ensures ok { IfOk result (λ b. b
             ≡ holds_of expression.now (tree_of self.old.root) (tree_of here.now)) }
@@ -367,7 +411,42 @@ impl<'v> Finder<'v> {
         ensures err { IfErr result (IsFromAny (comparable_strings argument.now)
             (tree_of self.old.root) (strings_in (tree_of here.now))) }
     {
+        if is_steady(argument) {
+            return self.length_once(argument);
+        }
         Ok(operand::length(self.alloc, self.compared(argument, here)?)?)
+    }
+
+    /// The length of the value at the root, which is found once, and kept.
+    #[cycle(selecting)]
+    #[inline(never)]
+    fn length_once(&mut self, argument: &'v Comparable) -> Result<Option<Operand<'v>>, FindError>
+        ensures root { self.new.root ≡ self.old.root }
+        ensures ok { IfOk result (λ o. option_map operand_tree o
+            ≡ length_of (value_at (tree_of self.old.root) argument.now)) }
+        ensures err { IfErr result (IsFromAny (comparable_strings argument.now)
+            (tree_of self.old.root) (strings_in (tree_of self.old.root))) }
+    {
+        let size = self.size_once(argument)?;
+        Ok(whole_if(self.alloc, size)?)
+    }
+
+    #[cycle(selecting)]
+    fn size_once(&mut self, argument: &'v Comparable) -> Result<Option<usize>, FindError>
+        ensures root { self.new.root ≡ self.old.root }
+        ensures ok { IfOk result (λ n. n
+            ≡ option_and_then size_of (value_at (tree_of self.old.root) argument.now)) }
+        ensures err { IfErr result (IsFromAny (comparable_strings argument.now)
+            (tree_of self.old.root) (strings_in (tree_of self.old.root))) }
+    {
+        let question = Question::Length(argument);
+        if let Some(Reply::Size(size)) = reply_to(self.answers.as_slice(), question) {
+            return Ok(size);
+        }
+        let root = self.root;
+        let size = length_of(self.compared(argument, &root)?);
+        keep(&mut self.answers, question, Reply::Size(size))?;
+        Ok(size)
     }
 
     #[cycle(selecting)]
@@ -445,12 +524,13 @@ impl<'v> Finder<'v> {
         ensures err { IfErr result (IsFromAny (segments_strings segments.now)
             (tree_of self.old.root) (strings_in (tree_of self.old.root))) }
     {
-        if let Some(found) = answer_for(self.answers.as_slice(), segments) {
+        let question = Question::Query(segments);
+        if let Some(Reply::Found(found)) = reply_to(self.answers.as_slice(), question) {
             return Ok(found);
         }
         let root = self.root;
         let found = self.found_from(segments, root)?;
-        self.answers.push(Answer { segments, found })?;
+        keep(&mut self.answers, question, Reply::Found(found))?;
         Ok(found)
     }
 

@@ -12,7 +12,7 @@ use Rattle.tinyjson_path.proofs.Waits.{waits_popped, less_child, less_descendant
 use Rattle.tinyjson_path.proofs.Waits.{goes_on, takes_one, are_popped, are_pushed, chosen_within}
 use Rattle.tinyjson_path.proofs.Within.{Within, within_self, of_query, from_same}
 use Rattle.tinyjson_path.specs.Answers.{answer_of, found_view}
-use Rattle.tinyjson_path.specs.Comparing.{origin_tree}
+use Rattle.tinyjson_path.specs.Comparing.{length_of, origin_tree}
 use Rattle.tinyjson_path.specs.Nodes.{path_of, part_view, parts_view, children}
 use Rattle.tinyjson_view.specs.Views.{tree_of}
 use Rattle.tinyjson_path.specs.Queries.{selected_by, found_by, kept}
@@ -21,6 +21,7 @@ use Rattle.tinyjson_path.specs.Strings.{strings_in, segment_strings, selector_st
 use Rattle.tinyjson_path.specs.Strings.{segments_strings, selectors_strings, filter_strings, IsFromAny}
 use Rattle.tinyjson_path.specs.Waiting.{waits_view, waits_at, wants}
 use Rattle.tinyjson_path.specs.declared.children.Wanted.TheVariants.{Containers}
+use Rattle.tinyjson_path_query.specs.declared.query.Origin.TheVariants.{Root}
 use Rattle.tinyjson_path.proofs.select.Finder.+selecting.Goals as goal
 use Rattle.tinyjson_path.proofs.select.Finder.+selecting.Goals.{find_from-in-Child+in_ok-push_selected-in-Child}
 use Rattle.tinyjson_path.proofs.select.Finder.+selecting.Goals.{find_from-in-Descendant+in_ok-containers-in-Descendant+in_ok-push_reversed-in-Descendant+in_ok-push_selected-in-Descendant}
@@ -60,8 +61,8 @@ push_kept-returns-in_err-holds-clause-err t c =
     (are_children (path_of node) (tree_of node.value)) c.loop-child-test.true c.child-item.is)
     (error_at _ _ _ c.loop-child.invariant.root c.in_err-holds.ensures.err)
 
-pub holds-returns-in_err-holds-in-Or-clause-err : goal.holds-returns-in_err-holds-in-Or-clause-err
-holds-returns-in_err-holds-in-Or-clause-err t c =
+pub holds_at-returns-in_err-holds-in-Or-clause-err : goal.holds_at-returns-in_err-holds-in-Or-clause-err
+holds_at-returns-in_err-holds-in-Or-clause-err t c =
     let x = c.choice-item.result in
     let xs = c.in-Or.expressions in
     let here = strings_in (tree_of c.args.here.now) in
@@ -72,8 +73,8 @@ holds-returns-in_err-holds-in-Or-clause-err t c =
     (or_strings c.args.expression.now xs c.in-Or.is) c.deref-choice-items.ensures.value c.loop-choice-test.true c.choice-item.is)
     (within_self here) (error_at _ _ _ c.loop-choice.invariant.root c.in_err-holds-in-Or.ensures.err)
 
-pub holds-returns-in_err-holds-in-And-clause-err : goal.holds-returns-in_err-holds-in-And-clause-err
-holds-returns-in_err-holds-in-And-clause-err t c =
+pub holds_at-returns-in_err-holds-in-And-clause-err : goal.holds_at-returns-in_err-holds-in-And-clause-err
+holds_at-returns-in_err-holds-in-And-clause-err t c =
     let x = c.condition-item.result in
     let xs = c.in-And.expressions in
     let here = strings_in (tree_of c.args.here.now) in
@@ -85,8 +86,8 @@ holds-returns-in_err-holds-in-And-clause-err t c =
     c.loop-condition-test.true c.condition-item.is)
     (within_self here) (error_at _ _ _ c.loop-condition.invariant.root c.in_err-holds-in-And.ensures.err)
 
-pub holds-returns-in_err-holds-in-Not-clause-err : goal.holds-returns-in_err-holds-in-Not-clause-err
-holds-returns-in_err-holds-in-Not-clause-err t c =
+pub holds_at-returns-in_err-holds-in-Not-clause-err : goal.holds_at-returns-in_err-holds-in-Not-clause-err
+holds_at-returns-in_err-holds-in-Not-clause-err t c =
     let x = c.deref.result.now in
     let root = tree_of c.args.self.now.root in
     let here = strings_in (tree_of c.args.here.now) in
@@ -97,8 +98,8 @@ holds-returns-in_err-holds-in-Not-clause-err t c =
     (not_strings c.args.expression.now c.in-Not.expression c.in-Not.is ∙ ap expression_strings (sym c.deref.ensures)))
     (within_self here) c.in_err-holds-in-Not.ensures.err
 
-pub holds-returns-in_err-left-in-Comparison-clause-err : goal.holds-returns-in_err-left-in-Comparison-clause-err
-holds-returns-in_err-left-in-Comparison-clause-err t c =
+pub holds_at-returns-in_err-left-in-Comparison-clause-err : goal.holds_at-returns-in_err-left-in-Comparison-clause-err
+holds_at-returns-in_err-left-in-Comparison-clause-err t c =
     let l = comparable_strings c.deref-in-Comparison.result.now in
     let r = comparable_strings (box_value c.in-Comparison.right) in
     let here = strings_in (tree_of c.args.here.now) in
@@ -110,8 +111,8 @@ holds-returns-in_err-left-in-Comparison-clause-err t c =
     ∙ ap (λ x. comparable_strings x ++ r) (sym c.deref-in-Comparison.ensures)))
     (within_self here) c.in_err-left-in-Comparison.ensures.err
 
-pub holds-returns-in_ok-left-in-Comparison-clause-err : goal.holds-returns-in_ok-left-in-Comparison-clause-err
-holds-returns-in_ok-left-in-Comparison-clause-err t c =
+pub holds_at-returns-in_ok-left-in-Comparison-clause-err : goal.holds_at-returns-in_ok-left-in-Comparison-clause-err
+holds_at-returns-in_ok-left-in-Comparison-clause-err t c =
     let l = comparable_strings (box_value c.in-Comparison.left) in
     let r = comparable_strings c.deref-in-Comparison-2.result.now in
     let root = tree_of c.args.self.now.root in
@@ -123,8 +124,8 @@ holds-returns-in_ok-left-in-Comparison-clause-err t c =
     ∙ ap (λ x. l ++ comparable_strings x) (sym c.deref-in-Comparison-2.ensures)))
     (subst (λ y. IfErr c.compares.result (IsFromAny r (tree_of y) here)) c.compared.ensures.root c.compares.ensures.err)
 
-pub holds-returns-in_err-value-in-Pattern-clause-err : goal.holds-returns-in_err-value-in-Pattern-clause-err
-holds-returns-in_err-value-in-Pattern-clause-err t c =
+pub holds_at-returns-in_err-value-in-Pattern-clause-err : goal.holds_at-returns-in_err-value-in-Pattern-clause-err
+holds_at-returns-in_err-value-in-Pattern-clause-err t c =
     let l = comparable_strings c.deref-in-Pattern.result.now in
     let r = comparable_strings (box_value c.in-Pattern.pattern) in
     let here = strings_in (tree_of c.args.here.now) in
@@ -136,8 +137,8 @@ holds-returns-in_err-value-in-Pattern-clause-err t c =
     ∙ ap (λ x. comparable_strings x ++ r) (sym c.deref-in-Pattern.ensures)))
     (within_self here) c.in_err-value-in-Pattern.ensures.err
 
-pub holds-returns-in_ok-value-in-Pattern-clause-err : goal.holds-returns-in_ok-value-in-Pattern-clause-err
-holds-returns-in_ok-value-in-Pattern-clause-err t c =
+pub holds_at-returns-in_ok-value-in-Pattern-clause-err : goal.holds_at-returns-in_ok-value-in-Pattern-clause-err
+holds_at-returns-in_ok-value-in-Pattern-clause-err t c =
     let l = comparable_strings (box_value c.in-Pattern.value) in
     let r = comparable_strings c.deref-in-Pattern-2.result.now in
     let root = tree_of c.args.self.now.root in
@@ -149,8 +150,8 @@ holds-returns-in_ok-value-in-Pattern-clause-err t c =
     ∙ ap (λ x. l ++ comparable_strings x) (sym c.deref-in-Pattern-2.ensures)))
     (subst (λ y. IfErr c.matches.result (IsFromAny r (tree_of y) here)) c.compared-in-Pattern.ensures.root c.matches.ensures.err)
 
-pub holds-returns-in-Test-clause-err : goal.holds-returns-in-Test-clause-err
-holds-returns-in-Test-clause-err t c =
+pub holds_at-returns-in-Test-clause-err : goal.holds_at-returns-in-Test-clause-err
+holds_at-returns-in-Test-clause-err t c =
     same_result (expression_strings c.args.expression.now) (filter_strings c.in-Test.query) (strings_in (tree_of c.args.here.now))
     (tree_of c.args.self.now.root) c.is_found.result (test_strings c.args.expression.now c.in-Test.query c.in-Test.is)
     c.is_found.ensures.err
@@ -412,3 +413,29 @@ find_from-returns-in_err-push_selected-in-Descendant-clause-err t c =
     (is_one segment_strings ss ss i s (segments_strings ss) zs root refl refl c.if-segment-segments.false c.index-segments-segment.is))
     (are_popped zs ws mid (i, part_view n) popped c.loop-node.invariant.within).1
     (error_at _ _ _ c.loop-node.invariant.root c.in_err-push_selected-in-Descendant.ensures.err)
+
+pub holds-returns-then-is_test_steady-clause-ok : goal.holds-returns-then-is_test_steady-clause-ok
+holds-returns-then-is_test_steady-clause-ok t c =
+    let root = tree_of c.args.self.now.root in
+    let here = tree_of c.args.here.now in
+    subst (λ x. IfOk c.holds_once.result (λ b. b ≡ x)) (sym (c.is_test_steady.ensures c.if-is_test_steady.true root here))
+    c.holds_once.ensures.ok
+
+pub holds-returns-then-is_test_steady-clause-err : goal.holds-returns-then-is_test_steady-clause-err
+holds-returns-then-is_test_steady-clause-err t c =
+    let root = tree_of c.args.self.now.root in
+    let q = expression_strings c.args.expression.now in
+    error_from q q Root root (tree_of c.args.here.now) root c.holds_once.result refl refl c.holds_once.ensures.err
+
+pub length-returns-then-is_steady-clause-ok : goal.length-returns-then-is_steady-clause-ok
+length-returns-then-is_steady-clause-ok t c =
+    let root = tree_of c.args.self.now.root in
+    let here = tree_of c.args.here.now in
+    subst (λ x. IfOk c.length_once.result (λ o. option_map operand_tree o ≡ length_of x))
+    (sym (c.is_steady.ensures c.if-is_steady.true root here)) c.length_once.ensures.ok
+
+pub length-returns-then-is_steady-clause-err : goal.length-returns-then-is_steady-clause-err
+length-returns-then-is_steady-clause-err t c =
+    let root = tree_of c.args.self.now.root in
+    let q = comparable_strings c.args.argument.now in
+    error_from q q Root root (tree_of c.args.here.now) root c.length_once.result refl refl c.length_once.ensures.err

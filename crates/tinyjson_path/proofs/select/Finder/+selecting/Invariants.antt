@@ -39,16 +39,16 @@ invariant-push_kept-loop-child l = record {
       ++ kept (holds_of l.expression (tree_of l.fn.self.root)) (children (path_of l.node) (tree_of l.node.value));
 }
 
-abbrev pub invariant-holds-loop-choice : goal.invariant-holds-loop-choice
-invariant-holds-loop-choice l = record {
+abbrev pub invariant-holds_at-loop-choice : goal.invariant-holds_at-loop-choice
+invariant-holds_at-loop-choice l = record {
   root : l.self.root ≡ l.fn.self.root;
   left :
       some_hold (map holds_of (drop l.choice-index l.choice-items)) (tree_of l.fn.self.root) (tree_of l.here)
       ≡ holds_of l.expression (tree_of l.fn.self.root) (tree_of l.here);
 }
 
-abbrev pub invariant-holds-loop-condition : goal.invariant-holds-loop-condition
-invariant-holds-loop-condition l = record {
+abbrev pub invariant-holds_at-loop-condition : goal.invariant-holds_at-loop-condition
+invariant-holds_at-loop-condition l = record {
   root : l.self.root ≡ l.fn.self.root;
   left :
       all_hold (map holds_of (drop l.condition-index l.condition-items)) (tree_of l.fn.self.root) (tree_of l.here)
