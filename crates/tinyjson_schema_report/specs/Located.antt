@@ -1,5 +1,5 @@
 -- What a value violates, with its place in the value's text.
-use Rattle.std.specs.Prelude.{ℕ, Bool, true, false, ◌||◌, ◌⊎◌, pos, List, [], ◌∷◌, Some, None, Ok, codes, encode_utf8_all}
+use Rattle.std.specs.Prelude.{ℕ, Bool, true, false, ◌||◌, ◌⊎◌, pos, List, Option, Some, None, Ok, codes, encode_utf8_all}
 use Rattle.std.specs.Str.{bytes_eq}
 use Rattle.tinyjson.specs.Number.{integer_decimal}
 use Rattle.tinyjson.specs.Tree.{Tree, number, object, put}
@@ -29,6 +29,11 @@ IsPlaceBy false xs ks place = Locates xs ks (Ok (Some place))
 -- The place is where the key of a forbidden member begins in the text xs, or else the part that is not valid.
 abbrev pub IsPlace : List ℕ → Violation → Place → Type 0
 IsPlace xs v place = IsPlaceBy (forbids_member (tokens_of v.keyword_location)) xs (tokens_of v.instance_location) place
+
+-- the same, or the text has no such part
+abbrev pub IsPlaceIfThere : List ℕ → Violation → Option Place → Type 0
+IsPlaceIfThere xs v (Some place) = IsPlace xs v place
+IsPlaceIfThere xs v None = Locates xs (tokens_of v.instance_location) (Ok None)
 
 abbrev pub IsLocated : List ℕ → Located → Type 0
 IsLocated xs l = IsPlace xs l.finding.violation l.place

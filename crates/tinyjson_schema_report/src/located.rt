@@ -8,7 +8,7 @@ ghost use Rattle.tinyjson_pointer.specs.Tokens.{tokens_of};
 ghost use Rattle.tinyjson_pointer.specs.Walk.{part_at};
 ghost use Rattle.tinyjson_places.specs.Places.{Locates};
 ghost use Rattle.tinyjson_schema_report.specs.Located.{IsLocated, IsPlace, located_tree, with_column};
-ghost use Rattle.tinyjson_schema_report.specs.Located.{forbids_member};
+ghost use Rattle.tinyjson_schema_report.specs.Located.{forbids_member, IsPlaceIfThere};
 
 use crate::found::Finding;
 use crate::report::output_unit;
@@ -72,6 +72,40 @@ fn place_of_part(alloc: Global, text: &str, part: &Pointer) -> Result<Place, All
     match place_of(alloc, text, part) {
         Ok(Some(place)) => Ok(place),
         Ok(None) => unreachable!(),
+        Err(_) => Err(AllocError),
+    }
+}
+
+/// The place in the text of what violates a schema, as [`locate`] finds it; `None` if the text has no such part. The only
+/// error is out of memory.
+///
+/// Not inlined, so that the check before it has all of the stack.
+///
+/// ```
+/// let place = find_place(alloc, text, &finding.violation)?;
+/// ```
+#[inline(never)]
+pub fn find_place(
+    alloc: Global,
+    text: &str,
+    violation: &Violation,
+) -> Result<Option<Place>, AllocError>
+    ensures { IfOk result (IsPlaceIfThere (chars text.now) violation.now) }
+{
+    let part = &violation.instance_location;
+    match place_of(alloc, text, part) {
+        Ok(Some(place)) => {
+            let is_forbidden = forbids_member(&violation.keyword_location);
+            if !is_forbidden {
+                return Ok(Some(place));
+            }
+            match key_place_of(alloc, text, part) {
+                Ok(Some(key)) => Ok(Some(key)),
+                Ok(None) => Ok(Some(place)),
+                Err(_) => Err(AllocError),
+            }
+        }
+        Ok(None) => Ok(None),
         Err(_) => Err(AllocError),
     }
 }
