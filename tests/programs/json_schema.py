@@ -1338,6 +1338,7 @@ REFUSED_MEMORY = [
     (["-l", UNKNOWN_WORDS], b'{"id":1,"tags":["x",3]}\n[1,]\n{"id":1,"tags":[]}\n"\xff\n{}'),
     ([SCOPES_FILE], b'{"x":[1],"y":["a",2]}'),
     (["-t", SCHEMA, "-"], b'{"id":1,"tags":["x",3]}'),
+    (["-a", SCHEMA], b'{"id":"x","tags":["x",3,4],"other":1}'),
     (["-lt", SCHEMA], b'{"id":1,"tags":["x",3]}\n[1,]\n'),
     (["-i", SCHEMA], b'{"id":1,"tags":["x",3]}\n[1,]\n{"id":1,"tags":[]}\n'),
     ([DRAFT_FILE], b'{"x":[1,2],"y":3}'),
@@ -1551,6 +1552,62 @@ def check_texts(checks):
     for row in TEXTS:
         words, names, given, *answer = row
         checks.row(f"json_schema: {words} {names}", tuple(answer), run_small, program("json_schema"), [*words, "schema", *names], given, cwd=checks.folder, at=row)
+
+
+# By `-a`: the schema, a value, and the place in the value and the keyword's of each violation. Those of a schema come first, then those of
+# the schemas that it applies; members are in the order of their keys.
+ALL = [
+    ('{"minimum":3,"enum":[2],"type":"string"}', "1", [("", "/type"), ("", "/enum"), ("", "/minimum")]),
+    ('{"properties":{"b":{"maximum":1},"a":{"type":"string"}},"required":["c"]}', '{"b":2,"a":1}', [("", "/required"), ("/a", "/properties/a/type"), ("/b", "/properties/b/maximum")]),
+    ('{"additionalProperties":false,"properties":{"a":{}}}', '{"b":1,"a":1,"c":2}', [("/b", "/additionalProperties"), ("/c", "/additionalProperties")]),
+    ('{"items":{"minimum":9,"type":"string"},"prefixItems":[{"type":"null"}]}', "[1,2,9]", [("/0", "/prefixItems/0/type"), ("/1", "/items/type"), ("/1", "/items/minimum"), ("/2", "/items/type")]),
+    ('{"patternProperties":{"a":{"type":"null"},"^b":{"maximum":0}}}', '{"ba":2,"ab":1,"c":1}', [("/ba", "/patternProperties/^b/maximum"), ("/ab", "/patternProperties/a/type"), ("/ba", "/patternProperties/a/type")]),
+    # Core, 10.2.1.1: each schema of `allOf`; 8.2.3.1: what a reference leads to.
+    ('{"allOf":[{"type":"null"},{},{"$ref":"#/$defs/x"}],"$defs":{"x":{"not":{},"minimum":5}}}', "1", [("", "/allOf/0/type"), ("", "/allOf/2/$ref/minimum"), ("", "/allOf/2/$ref/not")]),
+    ('{"$dynamicRef":"#a","$ref":"#/$defs/y","$defs":{"x":{"$dynamicAnchor":"a","type":"null"},"y":false}}', "1", [("", "/$ref"), ("", "/$dynamicRef/type")]),
+    ('{"properties":{"n":{"$ref":"#"}},"required":["v"]}', '{"n":{"n":{},"v":1}}', [("", "/required"), ("/n/n", "/properties/n/$ref/properties/n/$ref/required")]),
+    # 10.2.1.2 to 10.2.1.4, 10.3.1.3 and 10.3.2.4: these count or combine, and are one violation each.
+    ('{"anyOf":[{"type":"null"},{"type":"string"}],"oneOf":[{},{}],"not":{},"contains":{"type":"null"},"minContains":2}', "[1]", [("", "/anyOf"), ("", "/oneOf"), ("", "/not"), ("", "/contains"), ("", "/minContains")]),
+    ('{"propertyNames":{"maxLength":1}}', '{"aa":1,"bb":2}', [("", "/propertyNames")]),
+    # 10.2.2: the schema that `if` chooses, and those of `dependentSchemas` for the keys that are there.
+    ('{"if":{"type":"integer"},"then":{"minimum":5,"multipleOf":2},"else":false}', "1", [("", "/then/multipleOf"), ("", "/then/minimum")]),
+    ('{"if":{"type":"integer"},"then":{"minimum":5,"multipleOf":2},"else":false}', '"a"', [("", "/else")]),
+    ('{"dependentSchemas":{"a":{"required":["b"]},"c":false,"d":{"maxProperties":1}}}', '{"a":1,"d":1}', [("", "/dependentSchemas/a/required"), ("", "/dependentSchemas/d/maxProperties")]),
+    # 11.2 and 11.3: what no other keyword evaluates.
+    ('{"allOf":[{"properties":{"a":{"type":"null"}}}],"unevaluatedProperties":false}', '{"a":1,"b":2,"c":3}', [("/a", "/allOf/0/properties/a/type"), ("/b", "/unevaluatedProperties"), ("/c", "/unevaluatedProperties")]),
+    ('{"prefixItems":[{}],"unevaluatedItems":{"type":"null"}}', "[1,2,null,3]", [("/1", "/unevaluatedItems/type"), ("/3", "/unevaluatedItems/type")]),
+    # 6.9 of RFC 6901: a key that is like an index, and one with `/` and `~`.
+    ('{"properties":{"0":{"type":"null"},"~/":{"properties":{"":false}}}}', '{"0":1,"~/":{"":1}}', [("/0", "/properties/0/type"), ("/~0~1/", "/properties/~0~1/properties/")]),
+    ("false", "[1,2]", [("", "")]),
+    ('{"items":{"type":"integer"}}', "[1,2]", []),
+]
+EACH = b"[" + b"1," * 149 + b"1]"
+
+
+def reports_of(places):
+    """The answer of `json_schema`, which is given the places of all violations."""
+    return (int(places != []), b"".join(unit_of(*place) for place in places), b"")
+
+
+def check_all(checks):
+    """All that a value violates, and its first ones; the first is the one without `-a`."""
+    for at in ALL:
+        schema, value, places = at
+        for words, shown in ((["-a"], places), (["--all"], places), (["-a", "-n1"], places[:1]), ([], places[:1]), (["-n", "2", "-a"], places[:2])):
+            checks.row(f"json_schema: {words} {schema[:60]} {value}", located(value.encode(), reports_of(shown)), placed, checks.folder, schema, words, value.encode(), at=at)
+    for words, count in ((["-a"], 100), (["-an99"], 99), (["-a", "--number=149"], 149), (["-a", "-n", "200"], 150), (["-n", "5"], 1)):
+        places = [(f"/{i}", "/items/type") for i in range(count)]
+        checks.row(f"json_schema: {words}, up to", located(EACH, reports_of(places)), placed, checks.folder, '{"items":{"type":"null"}}', words, EACH)
+    texts = b"line 1, col 2: /0 must be null, is a number\nline 1, col 4: /1 must be null, is a number\n"
+    checks.row("json_schema: -at", (1, texts, b""), checked, checks.folder, '{"items":{"type":"null"}}', ["-at"], b"[1,2]")
+    meta = '{"properties":{"a":{"type":"any"},"b":5}}'
+    # `b` is no schema, by the meta-schema and each of its seven vocabularies.
+    checks.row("json_schema: -a --meta", (1, 9), lambda: (lambda status, output, errors: (status, output.count(b"\n")))(*by_meta(checks.folder, {}, ["-a"], meta.encode())))
+    for words in (["-al"], ["-av"], ["-ai"]):
+        checks.row(f"json_schema: {words}", reported(2, "json_schema", "--all checks no lines"), checked, checks.folder, "{}", words, b"1")
+    checks.row("json_schema: -a, no JSON", reported(3, "json_schema", "Parse error at line:1, col:3: Invalid character: ]"), checked, checks.folder, "{}", ["-a"], b"[1,]")
+    deep = '{"properties":{"a":' * 49 + "false" + "}}" * 49
+    checks.row("json_schema: -a, deep", (1, 1), lambda: (lambda status, output, errors: (status, output.count(b"\n")))(*checked(checks.folder, deep, ["-a"], b'{"a":' * 49 + b"1" + b"}" * 49)))
 
 
 # Further documents by `-r`. The files, of which the first one is the schema; the arguments; values that are valid; and others, each with the
@@ -1895,4 +1952,4 @@ def check_memory(checks):
 
 PAGE, LINES_PAGE = Page("json_schema", [SCHEMA], b"[1]"), Page("json_schema", ["-l", SCHEMA], b"[1]", is_lines=True)
 
-PARTS = (PAGE.check, LINES_PAGE.check_pipes, *shared(check_rows), check_words, check_places, check_reasons, check_drafts, check_formats, check_lines, check_long_lines, check_files, check_texts, check_documents, check_meta, check_padded, check_padded_lines, check_deep, check_order, check_faults, *shared(check_memory))
+PARTS = (PAGE.check, LINES_PAGE.check_pipes, *shared(check_rows), check_words, check_places, check_reasons, check_drafts, check_formats, check_lines, check_long_lines, check_files, check_texts, check_all, check_documents, check_meta, check_padded, check_padded_lines, check_deep, check_order, check_faults, *shared(check_memory))

@@ -5,3 +5,4 @@ pub mod Outcomes
 pub mod Running
 mod Sharing
 pub mod Verdicts
+pub mod Violations

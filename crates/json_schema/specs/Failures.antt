@@ -1,6 +1,6 @@
 -- The failures of the program.
 use Rattle.std.specs.Fmt.{decimal}
-use Rattle.std.specs.Prelude.{◌≡◌, ℕ, ◌⊎◌, List, ◌++◌, Option, Some, codes}
+use Rattle.std.specs.Prelude.{◌≡◌, ℕ, ◌⊎◌, List, ◌++◌, Some, codes}
 use Rattle.std.specs.Str.{chars}
 use Rattle.tinyjson.specs.Error.{error_kind, error_message, error_position, kind_message}
 use Rattle.tinyjson.specs.JsonParseErrorKind.TheVariants as kind

@@ -1,3 +1,4 @@
+pub mod Every
 pub mod Failures
 pub mod Names
 pub mod Options

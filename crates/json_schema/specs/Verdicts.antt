@@ -16,7 +16,6 @@ use Rattle.tinyjson_schema_report.specs.Finds.{FindsIn}
 use Rattle.tinyjson_schema_report.specs.Located.{IsLocated}
 use Rattle.json_schema.specs.declared.verdict.Cause.TheVariants as cause
 use Rattle.json_schema.specs.declared.verdict.Judge.{Judge}
-use Rattle.tinyjson_schema_report.specs.declared.located.Located.{Located}
 use Rattle.json_schema.specs.declared.verdict.Verdict.{Verdict}
 use Rattle.json_schema.specs.declared.verdict.Verdict.TheVariants.{Valid, Invalid, Refused}
 

@@ -3,9 +3,10 @@
 
 ghost use Rattle.std.specs.Prelude.{◌≡◌, option_map, map};
 ghost use Rattle.tinyjson_cli.specs.Arguments.{given_of, text_of};
-ghost use Rattle.json_schema.specs.Options.{asked_files, asked_shows, are_lines, asks};
+ghost use Rattle.json_schema.specs.Options.{asked_files, asked_most, asked_shows, are_lines, asks};
 
 mod documents;
+mod every;
 mod failure;
 mod folder;
 mod lines;
@@ -17,6 +18,7 @@ mod unknown;
 mod verdict;
 
 use documents::{Whole, with_documents};
+use every::{Every, check_as};
 use failure::{SchemaFailure, refused_failure, schema_failure, schema_text_failure, text_failure};
 use lines::{Check, Shows, check_lines};
 use meta::{MetaSchemas, with_meta_schemas};
@@ -33,9 +35,10 @@ use tinyjson_cli::{
 };
 use tinyjson_schema::{Schema, SchemaError, unknown_formats, unknown_words};
 use tinyjson_schema_drafts::{Dialect, Draft, dialect_of, read_as, unknown_dialect};
+use tinyjson_schema_report::Located;
 use tinyjson_schema_words::Refusal;
 use unknown::{tell_dialect, tell_formats, tell_words};
-use verdict::{DEPTH_LIMIT, Judge, Verdict, check_text};
+use verdict::{DEPTH_LIMIT, Judge};
 
 /// `-l` and `--lines`.
 const LINES: Known<'static> = Known {
@@ -79,6 +82,23 @@ const TEXT: Known<'static> = Known {
     takes: None,
 };
 
+/// `-a` and `--all`.
+const ALL: Known<'static> = Known {
+    letter: b'a',
+    name: "all",
+    takes: None,
+};
+
+/// `-n` and `--number`.
+const NUMBER: Known<'static> = Known {
+    letter: b'n',
+    name: "number",
+    takes: Some(Taken::Number),
+};
+
+/// How many reports of a value `-a` prints, if `-n` does not say.
+const MOST: usize = 100;
+
 /// `-v` and `--valid`.
 const VALID: Known<'static> = Known {
     letter: b'v',
@@ -96,11 +116,11 @@ const INVALID: Known<'static> = Known {
 const PROGRAM: Program<'static> = Program {
     name: "json_schema",
     options: &[
-        LINES, TEXT, VALID, INVALID, MAX_LINE, DRAFT, REF, META, FORMAT, HELP, VERSION,
+        LINES, ALL, NUMBER, TEXT, VALID, INVALID, MAX_LINE, DRAFT, REF, META, FORMAT, HELP, VERSION,
     ],
     help: "\
-Usage: json_schema [-lf] [-t | -v | -i] [-m N] [-d N] [-r FILE].. SCHEMA [FILE..]
-       json_schema --meta [-ft] [-d N] [-r FILE].. [FILE..]
+Usage: json_schema [-aft] [-lvi] [-n N] [-m N] [-d N] [-r FILE].. SCHEMA [FILE..]
+       json_schema --meta [-aft] [-n N] [-d N] [-r FILE].. [FILE..]
 
 Checks JSON texts against a JSON Schema of draft 4, 6, 7, 2019-09 or 2020-12.
 SCHEMA is the name of the schema's file. Of a value that is not valid one line
@@ -115,6 +135,9 @@ that of --draft: 4, 6, 7, 2019 for 2019-09, or 2020 for 2020-12, the default.
 
 Options:
   -l, --lines       check each line; reports and messages have its number
+  -a, --all         print all that a text violates, up to 100 reports: not with
+                    lines
+  -n, --number N    with -a: up to N reports
   -t, --text        print reports for people: a.json:1:6: /b is not allowed
   -v, --valid       check each line, and print those that are valid
   -i, --invalid     check each line, and print the others
@@ -181,6 +204,8 @@ struct Request<'w, 'a> {
     formats: bool,
     /// What is written of the values.
     shows: Shows,
+    /// How many violations of a value are looked for, if it is not only the first one.
+    most: Option<usize>,
     /// How many bytes a line may have before its line feed, if there is a limit.
     max_line: Option<usize>,
     /// The draft that a schema is read in which names none.
@@ -196,13 +221,14 @@ struct Request<'w, 'a> {
 /// Parses the arguments: `[-lf] [-t | -v | -i] [-m N] [-d N] [-r FILE].. SCHEMA [FILE..]`.
 fn requested<'w, 'a>(arguments: &'a Arguments<'w>) -> Option<Request<'w, 'a>>
     ensures { option_map (λ r. (
-      (((r.by_lines, r.formats), r.shows), ((r.max_line, r.draft), map text_of r.documents.now)),
+      (((r.by_lines, r.formats), (r.shows, r.most)), ((r.max_line, r.draft), map text_of r.documents.now)),
       (option_map (λ f. f.now) r.schema, map (λ f. f.now) r.files.now),
     )) result ≡ asks (given_of arguments.now) }
 {
     let shows = requested_shows(arguments);
     let by_lines = arguments.has(b'l') || are_lines(shows);
     let formats = arguments.has(b'f');
+    let most = requested_most(arguments);
     let max_line = arguments.number(b'm');
     let draft = arguments.number(b'd');
     let (schema, files) = requested_files(arguments)?;
@@ -210,6 +236,7 @@ fn requested<'w, 'a>(arguments: &'a Arguments<'w>) -> Option<Request<'w, 'a>>
         by_lines,
         formats,
         shows,
+        most,
         max_line,
         draft,
         documents: arguments.texts.as_slice(),
@@ -245,6 +272,19 @@ fn requested_shows(arguments: &Arguments<'_>) -> Shows
     }
 }
 
+/// How many violations are looked for: by `-a`, and `-n`.
+fn requested_most(arguments: &Arguments<'_>) -> Option<usize>
+    ensures { result ≡ asked_most (given_of arguments.now) }
+{
+    if !arguments.has(b'a') {
+        return None;
+    }
+    match arguments.number(b'n') {
+        Some(number) => Some(number),
+        None => Some(MOST),
+    }
+}
+
 /// Whether lines are written themselves.
 fn are_lines(shows: Shows) -> bool
     ensures { result ≡ are_lines shows }
@@ -254,6 +294,10 @@ fn are_lines(shows: Shows) -> bool
 
 /// Reads the schema, and checks the inputs.
 fn check_inputs(rt: &HostRuntime, request: &Request<'_, '_>) -> Result<Status, Failure> {
+    if request.by_lines && request.most.is_some() {
+        let words = String::from_str(rt.alloc(), "--all checks no lines")?;
+        return Err(Failure::Misused(words));
+    }
     let default = asked_draft(rt.alloc(), request.draft)?;
     match request.schema {
         Some(schema) => check_values(rt, request, schema, default),
@@ -270,8 +314,14 @@ fn check_schemas(
     if request.by_lines {
         return Err(schema_failure(rt.alloc(), &SchemaFailure::MetaLines));
     }
-    let checks = MetaSchemas::new(rt, default, request.formats, request.documents)?;
-    Ok(by_texts(rt, request.files, request.shows, By::MetaSchemas(&checks)))
+    let checks = MetaSchemas::new(
+        rt,
+        default,
+        request.formats,
+        request.most,
+        request.documents,
+    )?;
+    Ok(by_texts(rt, request, By::MetaSchemas(&checks)))
 }
 
 /// Reads the schema in a file, and checks the inputs.
@@ -362,7 +412,7 @@ fn check_by(
     if request.by_lines {
         return Ok(by_lines(rt, request.files, &mut asked));
     }
-    Ok(by_texts(rt, request.files, request.shows, By::Schema(judge)))
+    Ok(by_texts(rt, request, By::Schema(judge)))
 }
 
 /// Tells of the formats of the schema that are not known.
@@ -382,13 +432,15 @@ fn by_lines(rt: &HostRuntime, files: &[&str], asked: &mut Asked<'_, '_>) -> Stat
 /// Checks the text of each file, whose name is in what is written of it. After a failure that is not about one file
 /// alone no other is checked.
 #[inline(never)]
-fn by_texts(rt: &HostRuntime, files: &[&str], shows: Shows, by: By<'_, '_>) -> Status {
+fn by_texts(rt: &HostRuntime, request: &Request<'_, '_>, by: By<'_, '_>) -> Status {
+    let files = request.files;
     let inputs = if files.is_empty() { &["-"] } else { files };
     let mut status = Status::Done;
     for name in inputs {
         let text = AskedText {
             by,
-            shows,
+            shows: request.shows,
+            most: request.most,
             file: if *name == "-" { None } else { Some(*name) },
             is_read: Cell::new(false),
         };
@@ -451,6 +503,8 @@ enum By<'a, 's> {
 struct AskedText<'a, 's, 'f> {
     by: By<'a, 's>,
     shows: Shows,
+    /// How many violations are looked for, if it is not only the first one.
+    most: Option<usize>,
     /// The name of the file, if it has one.
     file: Option<&'f str>,
     /// Whether the file was read.
@@ -465,23 +519,33 @@ impl Answer for AskedText<'_, '_, '_> {
         output: &mut W,
     ) -> Result<Status, Failure> {
         self.is_read.set(true);
-        let verdict = match self.by {
-            By::Schema(judge) => check_text(alloc, judge, text)?,
+        let every = match self.by {
+            By::Schema(judge) => check_as(alloc, judge, text, self.most)?,
             By::MetaSchemas(checks) => checks.check(alloc, text)?,
         };
-        let located = match verdict {
-            Verdict::Valid => return Ok(Status::Done),
-            Verdict::Refused(cause) => return Err(text_failure(alloc, cause)),
-            Verdict::Invalid(located) => located,
+        let found = match every {
+            Every::Refused(cause) => return Err(text_failure(alloc, cause)),
+            Every::Found(found) => found,
         };
+        for located in found.as_slice() {
+            if let Err(error) = self.write(alloc, located, output) {
+                return Err(writing_error(error));
+            }
+        }
+        if found.is_empty() {
+            return Ok(Status::Done);
+        }
+        Ok(Status::No)
+    }
+}
+
+impl AskedText<'_, '_, '_> {
+    /// Writes a report.
+    fn write<W: Write>(&self, alloc: Global, located: &Located, output: &mut W) -> io::Result<()> {
         let line = located.place.line as u64;
-        let written = match self.shows {
-            Shows::Texts => write_text(alloc, self.file, line, &located, output),
-            _ => write_report(alloc, line, &located, output),
-        };
-        match written {
-            Ok(()) => Ok(Status::No),
-            Err(error) => Err(writing_error(error)),
+        match self.shows {
+            Shows::Texts => write_text(alloc, self.file, line, located, output),
+            _ => write_report(alloc, line, located, output),
         }
     }
 }

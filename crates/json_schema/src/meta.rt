@@ -1,8 +1,9 @@
 //! The meta-schemas: those that the references of a schema lead into, and those that schemas are checked by.
 
 use crate::documents::{Whole, with_documents, with_tree};
+use crate::every::{Every, check_as};
 use crate::failure::{document_failure, refused_failure};
-use crate::verdict::{Cause, DEPTH_LIMIT, Judge, Verdict, check_text};
+use crate::verdict::{Cause, DEPTH_LIMIT, Judge};
 use std::alloc::{AllocError, Global};
 use std::collections::HashMap;
 use tinyjson::JsonValue;
@@ -116,6 +117,8 @@ pub struct MetaSchemas {
     draft: Draft,
     /// Whether `format` is an assertion.
     formats: bool,
+    /// How many violations are looked for, if it is not only the first one.
+    most: Option<usize>,
 }
 
 impl MetaSchemas {
@@ -124,6 +127,7 @@ impl MetaSchemas {
         rt: &HostRuntime,
         draft: Draft,
         formats: bool,
+        most: Option<usize>,
         texts: &[Text<'_>],
     ) -> Result<MetaSchemas, Failure> {
         let empty = Whole {
@@ -137,6 +141,7 @@ impl MetaSchemas {
             },
             draft,
             formats,
+            most,
         };
         if !texts.is_empty() {
             // It fails where one of the documents can't be applied.
@@ -148,11 +153,11 @@ impl MetaSchemas {
     /// Checks the schema of a text by its meta-schema. It fails if that is not known.
     // Not inlined, so that the check has all of the stack.
     #[inline(never)]
-    pub fn check(&self, alloc: Global, text: &str) -> Result<Verdict, Failure> {
+    pub fn check(&self, alloc: Global, text: &str) -> Result<Every, Failure> {
         let schema = match JsonValue::from_str_with_depth_limit(alloc, text, DEPTH_LIMIT) {
             Ok(schema) => schema,
             Err(error) if error.is_out_of_memory() => return Err(Failure::OutOfMemory),
-            Err(error) => return Ok(Verdict::Refused(Cause::NotJson(error))),
+            Err(error) => return Ok(Every::Refused(Cause::NotJson(error))),
         };
         let uri = self.uri_for(alloc, &schema);
         schema.dismantle();
@@ -171,7 +176,7 @@ impl MetaSchemas {
     }
 
     /// Checks a text by a reference to the meta-schema with this URI.
-    fn check_by(&self, alloc: Global, uri: &str, text: &str) -> Result<Verdict, Failure> {
+    fn check_by(&self, alloc: Global, uri: &str, text: &str) -> Result<Every, Failure> {
         let whole = Whole {
             tree: referring(alloc, &self.documents.tree, uri)?,
             is_older: self.documents.is_older,
@@ -193,17 +198,12 @@ impl MetaSchemas {
         verdict
     }
 
-    fn verdict_by(
-        &self,
-        alloc: Global,
-        schema: &Schema<'_>,
-        text: &str,
-    ) -> Result<Verdict, Failure> {
+    fn verdict_by(&self, alloc: Global, schema: &Schema<'_>, text: &str) -> Result<Every, Failure> {
         let judge = Judge {
             schema,
             formats: self.formats,
         };
-        Ok(check_text(alloc, judge, text)?)
+        Ok(check_as(alloc, judge, text, self.most)?)
     }
 }
 

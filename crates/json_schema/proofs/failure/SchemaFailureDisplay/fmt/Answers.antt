@@ -1,4 +1,4 @@
-use Rattle.std.proofs.Common.{◌≡◌, ◌++◌, codes, sym, subst}
+use Rattle.std.proofs.Common.{◌++◌, codes, sym, subst}
 use Rattle.std.specs.Fmt.{HasWritten, decimal}
 use Rattle.std.specs.Str.{chars}
 use Rattle.tinyjson.specs.Error.{kind_message}

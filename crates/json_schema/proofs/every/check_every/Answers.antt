@@ -1,0 +1,23 @@
+use Rattle.std.proofs.Common.{subst, sym}
+use Rattle.std.proofs.lemmas.Bool.{false≢true}
+use Rattle.std.specs.Str.{chars}
+use Rattle.tinyjson.specs.Grammar.{IsText}
+use Rattle.tinyjson_document.specs.Document.{tree}
+use Rattle.json_schema.specs.Verdicts.{judged, depth_limit}
+use Rattle.json_schema.proofs.Violations.{every_of_value}
+use Rattle.json_schema.proofs.Verdicts.{text_read, no_text}
+use Rattle.json_schema.proofs.every.check_every.Goals as goal
+
+pub check_value-requires : goal.check_value-requires
+check_value-requires c = subst (IsText depth_limit (chars c.args.text.now)) (sym c.root.ensures)
+    (text_read depth_limit (chars c.args.text.now) c.in-Ok.document c.in-Ok.ensures)
+
+pub returns-in-Ok : goal.returns-in-Ok
+returns-in-Ok c =
+    let xs = chars c.args.text.now in
+    every_of_value c.args.most (judged c.args.judge) xs (tree c.root.result) c.check_value.result
+    (subst (IsText depth_limit xs) (sym c.root.ensures) (text_read depth_limit xs c.in-Ok.document c.in-Ok.ensures)) c.check_value.ensures
+
+pub returns-else-is_out_of_memory : goal.returns-else-is_out_of_memory
+returns-else-is_out_of_memory c =
+    no_text (chars c.args.text.now) c.in-Err.error c.in-Err.ensures (λ k. false≢true (c.if-is_out_of_memory.ensures.1 k))

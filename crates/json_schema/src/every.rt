@@ -1,0 +1,138 @@
+//! All that the value of a text violates.
+ghost use Rattle.std.specs.List.{All};
+ghost use Rattle.std.specs.Prelude.{◌≡◌, IfOk, Ok, map};
+ghost use Rattle.std.specs.Str.{chars};
+ghost use Rattle.tinyjson.specs.Grammar.{IsText};
+ghost use Rattle.tinyjson_document.specs.Document.{tree};
+ghost use Rattle.json_schema.specs.Every.{IsLocatedIn, ValueGivesEvery};
+ghost use Rattle.json_schema.specs.Every.{TextGivesEvery, TextGivesAs, IsAs};
+ghost use Rattle.json_schema.specs.Verdicts.{judged, depth_limit};
+
+use crate::verdict::{Cause, DEPTH_LIMIT, Judge, Verdict, check_text};
+use std::alloc::{AllocError, Global};
+use std::collections::VecDeque;
+use tinyjson_document::{Document, Node};
+use tinyjson_places::Place;
+use tinyjson_schema::{CheckError, Checks};
+use tinyjson_schema_report::{Finding, Located, find_every, find_place, limits_of};
+
+/// All that the value of a text violates.
+#[derive(Drop)]
+pub enum Every {
+    /// The text is JSON, and its value violates the schema there. None means that it is valid.
+    Found(Vec<Located>),
+    /// The text is no JSON, or its value can't be checked.
+    Refused(Cause),
+}
+
+/// Checks a text: the first violations, up to `most`, in order; or else the first one as `check_text` finds it. The
+/// only error is out of memory.
+pub fn check_as(
+    alloc: Global,
+    judge: Judge<'_, '_>,
+    text: &str,
+    most: Option<usize>,
+) -> Result<Every, AllocError>
+    ensures { IfOk result (TextGivesAs most (judged judge.entry) (chars text.now)) }
+{
+    match most {
+        Some(most) => check_every(alloc, judge, text, most),
+        None => {
+            let verdict = check_text(alloc, judge, text)?;
+            as_every(alloc, verdict)
+        }
+    }
+}
+
+/// The violations of a verdict: none or one.
+fn as_every(alloc: Global, verdict: Verdict) -> Result<Every, AllocError>
+    ensures { IfOk result (IsAs verdict) }
+{
+    match verdict {
+        Verdict::Valid => Ok(Every::Found(Vec::new(alloc))),
+        Verdict::Invalid(located) => {
+            let mut found = Vec::new(alloc);
+            found.push(located)?;
+            Ok(Every::Found(found))
+        }
+        Verdict::Refused(cause) => Ok(Every::Refused(cause)),
+    }
+}
+
+/// Checks a text: the first violations, up to `most`, in order.
+fn check_every(
+    alloc: Global,
+    judge: Judge<'_, '_>,
+    text: &str,
+    most: usize,
+) -> Result<Every, AllocError>
+    ensures { IfOk result (TextGivesEvery most (judged judge.entry) (chars text.now)) }
+{
+    match Document::read_with_depth_limit(alloc, text, DEPTH_LIMIT) {
+        Ok(document) => check_value(alloc, judge, document.root(), text, most),
+        Err(error) => {
+            if error.is_out_of_memory() {
+                return Err(AllocError);
+            }
+            Ok(Every::Refused(Cause::NotJson(error)))
+        }
+    }
+}
+
+/// Checks the value of a text.
+fn check_value(
+    alloc: Global,
+    judge: Judge<'_, '_>,
+    value: Node<'_>,
+    text: &str,
+    most: usize,
+) -> Result<Every, AllocError>
+    requires { IsText depth_limit (chars text.now) (tree value) }
+    ensures { IfOk result
+        (ValueGivesEvery most (chars text.now) (judged judge.entry) (tree value.entry)) }
+{
+    let checks = Checks {
+        limits: limits_of(text.len()),
+        formats: judge.formats,
+    };
+    match find_every(judge.schema, value, checks, most, alloc) {
+        Ok(found) => {
+            let located = located(alloc, text, found)?;
+            Ok(Every::Found(located))
+        }
+        Err(CheckError::TooDeep) => Ok(Every::Refused(Cause::TooDeep)),
+        Err(CheckError::TooMuch) => Ok(Every::Refused(Cause::TooMuch)),
+        Err(CheckError::OutOfMemory) => Err(AllocError),
+    }
+}
+
+/// Each with the place where the part begins in the text. Not inlined, so that the check before it has all of the stack.
+#[inline(never)]
+fn located(alloc: Global, text: &str, found: Vec<Finding>) -> Result<Vec<Located>, AllocError>
+    ensures same { IfOk result (λ located.
+        map (λ l. l.finding) located.items ≡ found.items) }
+    ensures placed { IfOk result (λ located.
+        All (λ l. IsLocatedIn (chars text.now) l.finding l.place) located.items) }
+{
+    let mut rest = VecDeque::from_vec(found);
+    let mut located = Vec::new(alloc);
+    while let Some(finding) = rest.pop_front() {
+        let place = begin_of(alloc, text, &finding)?;
+        located.push(Located { finding, place })?;
+    }
+    Ok(located)
+}
+
+/// Where the part begins that is not valid, or its key; the text itself if it has no such part.
+fn begin_of(alloc: Global, text: &str, finding: &Finding) -> Result<Place, AllocError>
+    ensures { IfOk result (IsLocatedIn (chars text.now) finding.now) }
+{
+    match find_place(alloc, text, &finding.violation)? {
+        Some(place) => Ok(place),
+        None => Ok(Place {
+            offset: 0,
+            line: 1,
+            column: 1,
+        }),
+    }
+}
