@@ -1,5 +1,5 @@
 -- What is printed of a value is what is printed of its text.
-use Rattle.std.proofs.Common.{◌≡◌, ℕ, Bool, true, false, List, [], Option, None, Some, Result, Ok, Err, inl, inr, ⊎_elim, refl}
+use Rattle.std.proofs.Common.{ℕ, Bool, true, false, List, [], Option, None, Some, Result, Ok, Err, inl, inr, ⊎_elim, refl}
 use Rattle.std.proofs.lemmas.Bool.{false≢true}
 use Rattle.std.specs.Result.{IsErr}
 use Rattle.std.specs.declared.io.Error.{Error}

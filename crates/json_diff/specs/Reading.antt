@@ -1,16 +1,16 @@
 -- The old text that is read.
 use Rattle.std.specs.Prelude.{◌≡◌, ℕ, List, ◌++◌, Option, Some, Result, Ok, Err, ◌⊎◌, codes}
 use Rattle.tinyjson.specs.Error.{error_kind, error_message}
+use Rattle.tinyjson.specs.Events.{TellsText}
 use Rattle.tinyjson.specs.Grammar.{IsText}
 use Rattle.tinyjson.specs.JsonParseErrorKind.TheVariants as kind
-use Rattle.tinyjson.specs.Parser.{ParsesText}
-use Rattle.tinyjson.specs.View.{view}
 use Rattle.tinyjson.specs.declared.parser.error.JsonParseError.{JsonParseError}
-use Rattle.tinyjson.specs.declared.value.JsonValue.{JsonValue}
 use Rattle.tinyjson_cli.specs.Failures.{failure_message, failure_status}
 use Rattle.tinyjson_cli.specs.declared.failure.Failure.{Failure}
 use Rattle.tinyjson_cli.specs.declared.failure.Failure.TheVariants as failure
 use Rattle.tinyjson_cli.specs.declared.status.Status.TheVariants as status
+use Rattle.tinyjson_document.specs.Document.{HasTree, document_tree}
+use Rattle.tinyjson_document.specs.declared.document.Document.{Document}
 
 -- how many containers may be nested in a text
 abbrev pub text_depth : Option ℕ
@@ -23,7 +23,7 @@ IsOldFailure e f =
     × (failure_message f ≡ Some (codes "the old text: " ++ error_message e)))
     ⊎ (f ≡ failure.OutOfMemory)
 
--- The value of the text, or the failure for the parser's error.
-abbrev pub ReadsOld : List ℕ → Result JsonValue Failure → Type 0
-ReadsOld text (Ok v) = IsText text_depth text (view v)
-ReadsOld text (Err f) = (e : JsonParseError) × ParsesText text_depth text (Err e) × IsOldFailure e f
+-- The document of the text, or the failure for the parser's error.
+abbrev pub ReadsOld : List ℕ → Result Document Failure → Type 0
+ReadsOld text (Ok d) = IsText text_depth text (document_tree d)
+ReadsOld text (Err f) = (e : JsonParseError) × TellsText HasTree text_depth text (Err e) × IsOldFailure e f

@@ -1,7 +1,7 @@
 //! Compares texts with an old one.
 ghost use Rattle.std.specs.Prelude.{◌≡◌, IfOk, string_bytes};
-ghost use Rattle.tinyjson.specs.View.{view};
 ghost use Rattle.tinyjson_cli.specs.Texts.{Answers};
+ghost use Rattle.tinyjson_document.specs.Document.{tree};
 ghost use Rattle.tinyjson_pointer.specs.Tokens.{tokens_of};
 ghost use Rattle.json_diff.specs.Compare.{GivesMergePatch, GivesPatchOf, GivesPatchTo};
 ghost use Rattle.json_diff.specs.Compare.{no_patch_message};
@@ -9,9 +9,9 @@ ghost use Rattle.json_diff.specs.Compare.{no_patch_message};
 use crate::reading::TEXT_DEPTH;
 use std::alloc::{AllocError, Global};
 use std::io::{self, ErrorKind, Write};
-use tinyjson::JsonValue;
 use tinyjson_cli::{NoAnswer, Shown, TextAnswer, write_laid_out};
 use tinyjson_diff::{NoMergePatch, merge_diff, patch_diff};
+use tinyjson_document::{Document, Node};
 use tinyjson_lines::Cause;
 use tinyjson_pointer::Pointer;
 
@@ -19,7 +19,7 @@ use tinyjson_pointer::Pointer;
 #[derive(Clone, Copy)]
 pub struct Asked<'a> {
     /// The value of the old text.
-    pub old: &'a JsonValue,
+    pub old: Node<'a>,
     /// Whether the patch is a merge patch (RFC 7396), or else a JSON Patch (RFC 6902).
     pub is_merge: bool,
     /// Whether its text is indented with two spaces.
@@ -30,7 +30,7 @@ pub struct Asked<'a> {
 /// asked.answer_text(alloc, r#"{"b":2}"#, &mut output)?; // of a merge patch from {"a":1}: writes {"a":null,"b":2} and a line feed
 /// ```
 impl TextAnswer for Asked<'_> {
-    ghost gives = { λ a text f. GivesPatchTo a.is_merge a.is_indented (view a.old.now) text f };
+    ghost gives = { λ a text f. GivesPatchTo a.is_merge a.is_indented (tree a.old) text f };
 
     fn answer_text<W: Write>(
         &self,
@@ -38,8 +38,8 @@ impl TextAnswer for Asked<'_> {
         text: &str,
         output: &mut W,
     ) -> io::Result<Option<NoAnswer>> {
-        match JsonValue::from_str_with_depth_limit(alloc, text, TEXT_DEPTH) {
-            Ok(new) => answer_value(alloc, *self, &new, output),
+        match Document::read_with_depth_limit(alloc, text, TEXT_DEPTH) {
+            Ok(new) => answer_value(alloc, *self, new.root(), output),
             Err(error) => {
                 if error.is_out_of_memory() {
                     return Err(error.into());
@@ -54,11 +54,11 @@ impl TextAnswer for Asked<'_> {
 fn answer_value<W: Write>(
     alloc: Global,
     asked: Asked<'_>,
-    new: &JsonValue,
+    new: Node<'_>,
     output: &mut W,
 ) -> io::Result<Option<NoAnswer>>
     ensures { Answers (GivesPatchOf asked.entry.is_merge asked.entry.is_indented
-        (view asked.entry.old.now) (view new.now))
+        (tree asked.entry.old) (tree new.entry))
         (W.contents output.old) (W.contents output.new) result }
 {
     if asked.is_merge {
@@ -73,11 +73,11 @@ fn answer_value<W: Write>(
 fn answer_merge<W: Write>(
     alloc: Global,
     asked: Asked<'_>,
-    new: &JsonValue,
+    new: Node<'_>,
     output: &mut W,
 ) -> io::Result<Option<NoAnswer>>
-    ensures { Answers (GivesMergePatch asked.entry.is_indented (view asked.entry.old.now)
-        (view new.now)) (W.contents output.old) (W.contents output.new) result }
+    ensures { Answers (GivesMergePatch asked.entry.is_indented (tree asked.entry.old)
+        (tree new.entry)) (W.contents output.old) (W.contents output.new) result }
 {
     match merge_diff(alloc, asked.old, new) {
         Ok(patch) => {

@@ -80,7 +80,7 @@ fn run(rt: &HostRuntime) -> Result<Status, Status> {
     match read_old(rt, old) {
         Ok(old) => {
             let asked = Asked {
-                old: &old,
+                old: old.root(),
                 is_merge,
                 is_indented,
             };

@@ -1,17 +1,16 @@
 -- Actions in turn, and actions on a part.
-use Rattle.std.proofs.Common.{◌≡◌, ◌≤◌, ℕ, suc, List, [], ◌∷◌, ◌++◌, Option, Some}
-use Rattle.std.proofs.Common.{None, option_map, Ok, length, refl, sym, ap, ◌∙◌, subst, arith}
+use Rattle.std.proofs.Common.{◌≡◌, ℕ, suc, List, [], ◌∷◌, ◌++◌, Option, Some}
+use Rattle.std.proofs.Common.{None, option_map, Ok, refl, sym, ap, ◌∙◌, subst, arith}
 use Rattle.std.specs.Option.{option_map_or}
 use Rattle.std.specs.Prelude.{option_and_then}
 use Rattle.tinyjson.specs.Tree.{Tree}
-use Rattle.tinyjson_patch.specs.Operation.{Action, add, remove, replace, move, copy, test, applied, or_fail, and_then, replaced}
-use Rattle.tinyjson_patch.specs.Operation.{added, removed}
+use Rattle.tinyjson_patch.specs.Operation.{Action, add, remove, replace, move, copy, test, applied, or_fail, and_then}
 use Rattle.tinyjson_patch.specs.Patch.{after, all_applied}
 use Rattle.tinyjson_patch.specs.declared.operation.Reason.TheVariants.{NoPlace, NoTarget}
 use Rattle.tinyjson_pointer.specs.Change.{with_child, without_child, changed_at, all_but_last, last_of, with_new_part, without_part}
 use Rattle.tinyjson_pointer.specs.Walk.{step, part_at, with_step, with_part}
 use Rattle.tinyjson_diff.specs.Patching.{path_of, AreDifferences, AreElsewhere, AreApart}
-use Rattle.tinyjson_diff.specs.Steps.{below, AreBelow, Lead, IsPlace, IsFit, AreFit, AreAt, AreShort, Begun, Changes}
+use Rattle.tinyjson_diff.specs.Steps.{below, AreBelow, Lead, IsPlace, IsFit, AreFit, AreAt, Begun, Changes}
 
 -- ---- in turn
 

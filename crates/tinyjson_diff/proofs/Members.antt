@@ -10,7 +10,6 @@ use Rattle.tinyjson_patch.specs.Operation as op
 use Rattle.tinyjson_patch.specs.Operation.{Action, applied, or_fail}
 use Rattle.tinyjson_patch.specs.declared.operation.Reason.TheVariants.{NoTarget}
 use Rattle.tinyjson_pointer.specs.Change.{without_step}
-use Rattle.tinyjson_pointer.specs.Walk.{step, with_step}
 use Rattle.tinyjson_diff.specs.Steps.{AreBelow, Begun, Changes, kept, RemoveMembers}
 use Rattle.tinyjson_diff.proofs.Leading.{add_more, alone_new, alone_old, begun_ends, begun_none, begun_same, part_more, remove_more}
 
@@ -19,7 +18,7 @@ pub record IsLeft (all rest : Members) : Type 0 where
   pub sorted : IsSorted rest
   pub among : (q : List ℕ) (x : Tree) → find q rest ≡ Some x → find q all ≡ Some x
 
-left_begins : (ms : Members) → IsSorted ms → IsLeft ms ms
+pub left_begins : (ms : Members) → IsSorted ms → IsLeft ms ms
 left_begins ms s = record { sorted = s; among = λ q x e. e }
 
 later : (k q : List ℕ) (v x : Tree) (rest : Members) → IsSorted (member k v rest) → find q rest ≡ Some x → find q (member k v rest) ≡ Some x
@@ -30,7 +29,7 @@ later k q v x rest s e = by (bytes_eq q k) refl
     by true at =
         absurd (some_none x (sym e ∙ (ap (λ y. find y rest) ((bytes_eq-Decides q k).0 at) ∙ find_below k rest s.0 s.1)))
 
-left_next : (all rest : Members) (k : List ℕ) (v : Tree) → IsLeft all (member k v rest) → IsLeft all rest
+pub left_next : (all rest : Members) (k : List ℕ) (v : Tree) → IsLeft all (member k v rest) → IsLeft all rest
 left_next all rest k v l = record { sorted = l.sorted.1; among = λ q x e. l.among q x (later k q v x rest l.sorted e) }
 
 -- the first key, which is not left after its turn
@@ -38,7 +37,7 @@ module _ (all rest : Members) (k : List ℕ) (v : Tree) (l : IsLeft all (member 
   pub first_there : find k all ≡ Some v
   first_there = l.among k v (found_first k v rest)
 
-  first_gone : (q : List ℕ) → bytes_eq q k ≡ true → find q rest ≡ None
+  pub first_gone : (q : List ℕ) → bytes_eq q k ≡ true → find q rest ≡ None
   first_gone q e = ap (λ y. find y rest) ((bytes_eq-Decides q k).0 e) ∙ find_below k rest l.sorted.0 l.sorted.1
 
   gone_first : find k rest ≡ None

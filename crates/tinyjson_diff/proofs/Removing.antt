@@ -1,71 +1,72 @@
 -- The loop that removes members.
-use Rattle.std.proofs.Common.{◌≡◌, ◌++◌, [], ◌∷◌, ℕ, Bool, true, false, cond, bytes_eq}
-use Rattle.std.proofs.Common.{List, Option, Some, None, is_some, refl, sym, ap, ◌∙◌, subst}
+use Rattle.std.proofs.Common.{◌≡◌, ℕ, Bool, true, false, cond, bytes_eq, List, Option, Some, None, is_some, refl, sym, ap, ◌∙◌, subst}
 use Rattle.std.proofs.lemmas.Slice.Eq.{bytes_eq-Decides}
-use Rattle.std.specs.List.{IsDistinct}
-use Rattle.std.specs.Map.{keys_of}
-use Rattle.std.specs.String.{string_eq}
-use Rattle.tinyjson.proofs.Callers.{Entry, IsRest, rest_begins, rest_next, rest_distinct, rest_ends, find_done}
-use Rattle.tinyjson.proofs.Callers.{members_view_last, find_put}
-use Rattle.tinyjson.specs.Tree.{Tree, null, Members, no_members, find, put}
-use Rattle.tinyjson.specs.View.{view, text, members_view}
+use Rattle.tinyjson.proofs.Callers.{find_put, found_first}
+use Rattle.tinyjson.specs.Soundness.{IsSorted}
+use Rattle.tinyjson.specs.Tree.{Tree, null, Members, no_members, member, find, put}
+use Rattle.tinyjson_diff.proofs.Members.{IsLeft, first_gone, first_there, left_begins, left_next}
 use Rattle.tinyjson_diff.specs.Changes.{removal, AreRemovals}
 
--- The patch has what removes those members of the entries before the rest that the new object has not.
-pub record AreRemoved (ns now : Members) (es rest : List Entry) : Type 0 where
-  pub left : IsRest es rest
-  pub removed : AreRemovals (members_view left.done) ns now
+-- what the patch has at a key, where the rest has r and the patch is to have p
+abbrev pub passed : Option Tree → Option Tree → Option Tree
+passed (Some t) p = None
+passed None p = p
 
-pub removed_begins : (ns now : Members) (es rest : List Entry) → now ≡ no_members → rest ≡ es → IsDistinct string_eq (keys_of es)
-    → AreRemoved ns now es rest
-removed_begins ns now es rest none same d = record { left = rest_begins es rest same d; removed = λ q. ap (find q) none }
+-- The patch has what removes those members before the rest that the new object has not.
+pub record AreRemoved (os ns now rest : Members) : Type 0 where
+  pub left : IsLeft os rest
+  pub removed : (q : List ℕ) → find q now ≡ passed (find q rest) (removal (find q os) (find q ns))
 
-module _ (ns now : Members) (es rest more : List Entry) (e : Entry) (r : AreRemoved ns now es rest) (split : rest ≡ e ∷ more) where
-  abbrev pub k : List ℕ
-  k = text e.0
+pub removed_begins : (os ns now rest : Members) → now ≡ no_members → rest ≡ os → IsSorted os → AreRemoved os ns now rest
+removed_begins os ns now rest none same s = record {
+  left = subst (IsLeft os) (sym same) (left_begins os s);
+  removed = λ q. ap (find q) none ∙ (by (find q os) (find q ns)
+      ∙ ap (λ ms. passed (find q ms) (removal (find q os) (find q ns))) (sym same));
+}
+  where
+    by : (o n : Option Tree) → None ≡ passed o (removal o n)
+    by None n = refl
+    by (Some t) n = refl
 
-  abbrev done : List Entry
-  done = r.left.done
-
-  distinct : IsDistinct string_eq (keys_of (done ++ e ∷ more))
-  distinct = rest_distinct es rest more e r.left split
-
-  turn : (next : Members) (c : Option Tree) → removal (Some (view e.1)) (find k ns) ≡ c
-      → ((q : List ℕ) → find q next ≡ cond (bytes_eq q k) c (find q now)) → AreRemoved ns next es more
+module _ (os ns now rest : Members) (k : List ℕ) (v : Tree) (r : AreRemoved os ns now (member k v rest)) where
+  turn : (next : Members) (c : Option Tree) → removal (Some v) (find k ns) ≡ c
+      → ((q : List ℕ) → find q next ≡ cond (bytes_eq q k) c (find q now)) → AreRemoved os ns next rest
   turn next c is h = record {
-    left = rest_next es rest more e r.left split;
-    removed = λ q. h q ∙ (by q (bytes_eq q k) refl ∙ ap (λ o. removal o (find q ns)) (sym (last q)));
+    left = left_next os rest k v r.left;
+    removed = λ q. h q ∙ by q (bytes_eq q k) refl;
   }
     where
-      last : (q : List ℕ) → find q (members_view (done ++ e ∷ [])) ≡ cond (bytes_eq q k) (Some (view e.1)) (find q (members_view done))
-      last q = ap (find q) (members_view_last done e more distinct) ∙ find_put q k (view e.1) (members_view done)
-
       by : (q : List ℕ) (b : Bool) → bytes_eq q k ≡ b
-          → cond b c (find q now) ≡ removal (cond b (Some (view e.1)) (find q (members_view done))) (find q ns)
-      by q true at = sym is ∙ ap (λ x. removal (Some (view e.1)) (find x ns)) (sym ((bytes_eq-Decides q k).0 at))
-      by q false at = r.removed q
+          → cond b c (find q now) ≡ passed (find q rest) (removal (find q os) (find q ns))
+      by q true at =
+          sym is
+          ∙ (ap (λ o. removal o (find k ns)) (sym (first_there os rest k v r.left))
+          ∙ (ap (λ x. removal (find x os) (find x ns)) (sym ((bytes_eq-Decides q k).0 at))
+          ∙ ap (λ o. passed o (removal (find q os) (find q ns))) (sym (first_gone os rest k v r.left q at))))
+      by q false at =
+          r.removed q ∙ ap (λ b. passed (cond b (Some v) (find q rest)) (removal (find q os) (find q ns))) at
 
-  pub removed_none : true ≡ is_some (find k ns) → AreRemoved ns now es more
+  pub removed_none : is_some (find k ns) ≡ true → AreRemoved os ns now rest
   removed_none there = turn now None (by (find k ns) there) (λ q. at q (bytes_eq q k) refl)
     where
-      by : (n : Option Tree) → true ≡ is_some n → removal (Some (view e.1)) n ≡ None
+      by : (n : Option Tree) → is_some n ≡ true → removal (Some v) n ≡ None
       by None h = cc
       by (Some u) h = refl
 
       nothing_yet : find k now ≡ None
-      nothing_yet = r.removed k ∙ ap (λ o. removal o (find k ns)) (find_done done more e distinct)
+      nothing_yet = r.removed k ∙ ap (λ o. passed o (removal (find k os) (find k ns))) (found_first k v rest)
 
       at : (q : List ℕ) (b : Bool) → bytes_eq q k ≡ b → find q now ≡ cond b None (find q now)
       at q true same = ap (λ x. find x now) ((bytes_eq-Decides q k).0 same) ∙ nothing_yet
       at q false same = refl
 
-  pub removed_some : (next : Members) → false ≡ is_some (find k ns) → next ≡ put k null now → AreRemoved ns next es more
+  pub removed_some : (next : Members) → is_some (find k ns) ≡ false → next ≡ put k null now → AreRemoved os ns next rest
   removed_some next missing h = turn next (Some null) (by (find k ns) missing) (λ q. ap (find q) h ∙ find_put q k null now)
     where
-      by : (n : Option Tree) → false ≡ is_some n → removal (Some (view e.1)) n ≡ Some null
+      by : (n : Option Tree) → is_some n ≡ false → removal (Some v) n ≡ Some null
       by None g = refl
       by (Some u) g = cc
 
-pub removed_ends : (ns now : Members) (es rest : List Entry) → AreRemoved ns now es rest → rest ≡ [] → AreRemovals (members_view es) ns now
-removed_ends ns now es rest r none =
-    subst (λ x. AreRemovals (members_view x) ns now) (sym (rest_ends es rest r.left none)) r.removed
+pub removed_ends : (os ns now rest : Members) → AreRemoved os ns now rest → rest ≡ no_members → AreRemovals os ns now
+removed_ends os ns now rest r none q =
+    r.removed q ∙ ap (λ ms. passed (find q ms) (removal (find q os) (find q ns))) none

@@ -1,15 +1,16 @@
 -- Steps that are found, and the steps of a part.
-use Rattle.std.proofs.Common.{◌≡◌, ◌<◌, ◌≤◌, ◌+◌, ℕ, List, [], ◌∷◌, ◌++◌, Some, length, map, get_or, drop, append_assoc, append-nil}
-use Rattle.std.proofs.Common.{Bor, String, Global, refl, sym, ap, ◌∙◌, subst, arith}
+use Rattle.std.proofs.Common.{◌≡◌, ◌<◌, ◌≤◌, ◌+◌, ℕ, List, [], ◌∷◌, ◌++◌, Some, length, get_or, drop, append_assoc, append-nil}
+use Rattle.std.proofs.Common.{refl, sym, ap, ◌∙◌, subst}
 use Rattle.std.proofs.lemmas.List.{drop_all, drop_more, map-append}
+use Rattle.std.specs.Str.{chars}
 use Rattle.tinyjson.specs.Tree.{Tree, member}
-use Rattle.tinyjson.specs.View.{text, view, members_listed}
-use Rattle.tinyjson.specs.declared.value.JsonValue.{JsonValue}
 use Rattle.tinyjson_patch.specs.Document.{token_limit}
 use Rattle.tinyjson_patch.specs.Operation.{Action, add, remove, replace, move, copy, test}
-use Rattle.tinyjson_pointer.specs.Index.{index_of, HasIndexBefore}
+use Rattle.tinyjson_pointer.specs.Index.{index_of}
 use Rattle.tinyjson_pointer.specs.Tokens.{tokens_of}
 use Rattle.tinyjson_pointer.specs.declared.pointer.Pointer.{Pointer}
+use Rattle.tinyjson_view.specs.Views.{tree_of, members_of}
+use Rattle.tinyjson_view.specs.declared.view.MemberView.{MemberView}
 use Rattle.tinyjson_diff.specs.Steps.{action_of, actions_of, changed_by, below, AreBelow, AppendsBelow, AreFit, IsFit, IsShort, AreShort}
 use Rattle.tinyjson_diff.specs.Steps.{IsStepAt}
 use Rattle.tinyjson_diff.specs.declared.step.Change.{Change}
@@ -40,9 +41,9 @@ pub pushed_item : (old new : List Step) (s : Step) (c : Change) (i : ℕ) → ne
 pushed_item old new s c i push is = pushed old new s push ∙ ap (λ a. actions_of old ++ a ∷ []) is.2
 
 -- the first of the members that are left
-pub listed_first : (ps : List (Bor (String Global) × Bor JsonValue)) (i : ℕ) (x : Bor (String Global) × Bor JsonValue) → i < length ps
-    → x ≡ get_or ps i x → members_listed (drop i ps) ≡ member (text x.0.now) (view x.1.now) (members_listed (drop (i + 1) ps))
-listed_first ps i x h e = ap members_listed (drop_item ps i x h e)
+pub listed_first : (ps : List MemberView) (i : ℕ) (x : MemberView) → i < length ps → x ≡ get_or ps i x
+    → members_of (drop i ps) ≡ member (chars x.key.now) (tree_of x.value) (members_of (drop (i + 1) ps))
+listed_first ps i x h e = ap members_of (drop_item ps i x h e)
 
 changed_below : (c : Change) (k : List ℕ) (p : List (List ℕ)) → changed_by c (k ∷ p) ≡ below k (changed_by c p)
 changed_below (change.Add v) k p = refl

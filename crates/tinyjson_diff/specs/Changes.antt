@@ -1,14 +1,15 @@
 -- A member of a merge patch, given what the old and the new object have at its key; for private contracts.
-use Rattle.std.specs.Borrow.{Bor}
 use Rattle.std.specs.Prelude.{◌≡◌, ℕ, List, ◌∷◌, Option, Some, None, Result, Ok, Err, option_map, unwrap_or}
-use Rattle.tinyjson.specs.Access.{JsonMap}
 use Rattle.tinyjson.specs.Soundness.{IsTree}
-use Rattle.tinyjson.specs.Tree.{Tree, null, object, Members, no_members, find}
-use Rattle.tinyjson.specs.View.{view, members_view}
+use Rattle.tinyjson.specs.Tree.{Tree, null, object, Members, no_members, find, put}
+use Rattle.tinyjson.specs.View.{view}
 use Rattle.tinyjson.specs.declared.value.JsonValue.{JsonValue}
+use Rattle.tinyjson_document.specs.Parts.{members_in}
 use Rattle.tinyjson_patch.specs.Merge.{merged_at}
 use Rattle.tinyjson_pointer.specs.Tokens.{tokens_of}
 use Rattle.tinyjson_pointer.specs.Walk.{part_at}
+use Rattle.tinyjson_view.specs.Views.{tree_of}
+use Rattle.tinyjson_view.specs.declared.view.ValueView.{ValueView}
 use Rattle.tinyjson_diff.specs.Merging.{HasChangesAlone, Leads}
 use Rattle.tinyjson_diff.specs.declared.merge.NoMergePatch.{NoMergePatch}
 use Rattle.tinyjson_diff.specs.declared.merge.NoMergePatch.TheVariants.{Null, OutOfMemory}
@@ -18,9 +19,10 @@ abbrev pub object_members : Option Tree → Option Members
 object_members (Some (object ms)) = Some ms
 object_members _ = None
 
-abbrev pub members_in : Option (Bor JsonMap) → Members
-members_in None = no_members
-members_in (Some m) = members_view m.now.entries
+-- those of a value, if there is one
+abbrev pub members_had : Option ValueView → Members
+members_had None = no_members
+members_had (Some v) = members_in (tree_of v)
 
 -- the member of the patch leads from o to n, and is missing exactly if they are equal
 abbrev pub IsChange : Option Tree → Option Tree → Option Tree → Type 0
@@ -48,6 +50,11 @@ removal _ _ = None
 
 abbrev pub AreRemovals : Members → Members → Members → Type 0
 AreRemovals os ns ps = (q : List ℕ) → find q ps ≡ removal (find q os) (find q ns)
+
+-- with the member of a patch, if there is one
+abbrev pub with_change : List ℕ → Option Tree → Members → Members
+with_change k None ps = ps
+with_change k (Some p) ps = put k p ps
 
 -- the patch leads from t to itself
 abbrev pub KeepsAll : Tree → Tree → Type 0

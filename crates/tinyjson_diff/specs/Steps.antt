@@ -2,13 +2,14 @@
 use Rattle.std.specs.Prelude.{◌≡◌, ◌⊎◌, ◌≤◌, ℕ, suc, List, [], ◌∷◌, ◌++◌, Option, Some, None, Ok, length, map}
 use Rattle.tinyjson.specs.Soundness.{IsSorted}
 use Rattle.tinyjson.specs.Tree.{Tree, array, object, Members, find}
-use Rattle.tinyjson.specs.View.{view, items_view}
-use Rattle.tinyjson.specs.declared.value.JsonValue.{JsonValue}
+use Rattle.tinyjson.specs.View.{view}
 use Rattle.tinyjson_patch.specs.Document.{token_limit}
 use Rattle.tinyjson_patch.specs.Operation.{Action, add, remove, replace, move, copy, test, applied}
 use Rattle.tinyjson_pointer.specs.Index.{index_of}
 use Rattle.tinyjson_pointer.specs.Tokens.{tokens_of}
 use Rattle.tinyjson_pointer.specs.Walk.{part_at}
+use Rattle.tinyjson_view.specs.Views.{trees_of}
+use Rattle.tinyjson_view.specs.declared.view.ValueView.{ValueView}
 use Rattle.tinyjson_diff.specs.Patching.{path_of, AreApart}
 use Rattle.tinyjson_diff.specs.declared.step.Change.{Change}
 use Rattle.tinyjson_diff.specs.declared.step.Change.TheVariants as change
@@ -110,9 +111,9 @@ abbrev pub IsPast : ℕ → List ℕ → Type 0
 IsPast count k = (i : ℕ) × (index_of k ≡ Some i) × (count ≤ i)
 
 -- The actions remove the items beyond the length of the new array; these are left.
-pub record RemoveItems (vs ws : List JsonValue) (actions : List Action) (left : List JsonValue) : Type 0 where
-  pub gone : List JsonValue
+pub record RemoveItems (vs ws : List ValueView) (actions : List Action) (left : List ValueView) : Type 0 where
+  pub gone : List ValueView
   pub split : vs ≡ left ++ gone
   pub short : length left ≤ length ws
   pub full : (gone ≡ []) ⊎ (length left ≡ length ws)
-  pub begun : (room : ℕ) → Begun room (array (items_view vs)) (array (items_view ws)) (array (items_view left)) (IsPast (length ws)) actions
+  pub begun : (room : ℕ) → Begun room (array (trees_of vs)) (array (trees_of ws)) (array (trees_of left)) (IsPast (length ws)) actions

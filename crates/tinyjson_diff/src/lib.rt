@@ -3,13 +3,14 @@
 //! A JSON Patch (RFC 6902), or a JSON Merge Patch (RFC 7396), with no more than what differs:
 //!
 //! ```
-//! let patch = patch_diff(alloc, &old, &new)?; // from {"a":1} to {} it is [{"op":"remove","path":"/a"}]
-//! let patch = merge_diff(alloc, &old, &new)?; // and {"a":null}
+//! let patch = patch_diff(alloc, old.root(), new.root())?; // from {"a":1} to {} it is [{"op":"remove","path":"/a"}]
+//! let patch = merge_diff(alloc, old.root(), new.root())?; // and {"a":null}
 //! ```
 #![tactic(auto)]
 
 mod document;
 mod merge;
+mod parts;
 mod patch;
 mod step;
 

@@ -1,18 +1,23 @@
 //! The merge patch from one value to another.
 ghost use Rattle.std.specs.Bool.{Decides};
-ghost use Rattle.std.specs.Prelude.{◌≡◌, false, Some, IfOk, option_map};
+ghost use Rattle.std.specs.Prelude.{◌≡◌, false, Some, IfOk, OnOk, option_map};
 ghost use Rattle.std.specs.Str.{chars};
-ghost use Rattle.tinyjson.specs.Access.{is_object};
+ghost use Rattle.tinyjson.specs.Access.{is_null, is_object};
 ghost use Rattle.tinyjson.specs.Tree.{find};
 ghost use Rattle.tinyjson.specs.View.{view, members_view};
+ghost use Rattle.tinyjson_document.specs.Parts.{members_in};
+ghost use Rattle.tinyjson_view.specs.Views.{tree_of};
 ghost use Rattle.tinyjson_diff.specs.Changes.{AreRemovals, Changes, IsBelow, KeepsAll};
-ghost use Rattle.tinyjson_diff.specs.Changes.{members_in, object_members};
+ghost use Rattle.tinyjson_diff.specs.Changes.{members_had, object_members, with_change};
 ghost use Rattle.tinyjson_diff.specs.Merging.{GivesMergePatch};
 
+use crate::parts::{copy_of, has_key};
 use std::alloc::{AllocError, Global};
 use std::collections::HashMap;
-use tinyjson::JsonValue;
+use tinyjson::{JsonKind, JsonValue};
+use tinyjson_document::JsonView;
 use tinyjson_pointer::{Pointer, put_member};
+use tinyjson_view::{AsView, ValueView};
 
 /// Why no merge patch is returned.
 #[derive(Debug, Drop)]
@@ -43,16 +48,18 @@ impl From<AllocError> for NoMergePatch {
 /// value.
 ///
 /// ```
-/// let patch = merge_diff(alloc, &old, &new)?; // from {"a":1,"b":[2]} to {"b":[3]} it is {"a":null,"b":[3]}
+/// let patch = merge_diff(alloc, old.root(), new.root())?; // from {"a":1,"b":[2]} to {"b":[3]} it is {"a":null,"b":[3]}
 /// ```
-pub fn merge_diff(
+pub fn merge_diff<'v, O: AsView<'v>, N: AsView<'v>>(
     alloc: Global,
-    old: &JsonValue,
-    new: &JsonValue,
+    old: O,
+    new: N,
 ) -> Result<JsonValue, NoMergePatch>
-    ensures { GivesMergePatch (view old.now) (view new.now) result }
+    ensures { GivesMergePatch (O.tree old) (N.tree new) result }
 {
-    if new.is_null() {
+    let old = old.as_view();
+    let new = new.as_view();
+    if is_null(new) {
         return Ok(JsonValue::Null);
     }
     match change(alloc, Some(old), new) {
@@ -63,38 +70,38 @@ pub fn merge_diff(
 }
 
 /// The patch that leads from a value to itself.
-fn patch_to_itself(alloc: Global, value: &JsonValue) -> Result<JsonValue, AllocError>
-    ensures { IfOk result (λ p. KeepsAll (view value.now) (view p)) }
+fn patch_to_itself(alloc: Global, value: ValueView<'_>) -> Result<JsonValue, AllocError>
+    ensures { IfOk result (λ p. KeepsAll (tree_of value.entry) (view p)) }
 {
-    if value.is_object() {
+    if is_object(value) {
         return Ok(JsonValue::Object(HashMap::new(alloc)));
     }
-    value.try_clone(alloc)
+    copy_of(alloc, value)
 }
 
 /// The member of a patch that leads from what the old object has at a key to the new member. There is none if they are
 /// equal.
 fn change(
     alloc: Global,
-    old: Option<&JsonValue>,
-    new: &JsonValue,
+    old: Option<ValueView<'_>>,
+    new: ValueView<'_>,
 ) -> Result<Option<JsonValue>, NoMergePatch>
-    ensures { Changes (option_map (λ v. view v.now) old.entry) (view new.now) result }
+    ensures { Changes (option_map tree_of old.entry) (tree_of new.entry) result }
 {
-    let JsonValue::Object(after) = new else {
+    if !is_object(new) {
         return whole_change(alloc, old, new);
-    };
-    let before = members_of(old);
-    let mut changes = removals(alloc, before, after)?;
-    for (key, value) in after {
-        match change(alloc, member_of(before, key.as_str()), value) {
-            Ok(None) => {}
-            Ok(Some(patch)) => {
-                let Ok(()) = put_member(&mut changes, key.as_str(), patch, alloc) else {
+    }
+    let before = object_of(old);
+    let mut changes = removals(alloc, before, new)?;
+    let after = new.members(alloc)?;
+    for member in after.as_slice() {
+        match change(alloc, member_of(before, member.key), member.value) {
+            Ok(patch) => {
+                let Ok(()) = put_change(alloc, &mut changes, member.key, patch) else {
                     return Err(give_up(changes, NoMergePatch::OutOfMemory));
                 };
             }
-            Err(error) => return Err(give_up(changes, below(alloc, key.as_str(), error))),
+            Err(error) => return Err(give_up(changes, below(alloc, member.key, error))),
         }
     }
     if !changes.is_empty() {
@@ -106,55 +113,80 @@ fn change(
     }
 }
 
+/// Puts the member of a patch at the key, if there is one.
+fn put_change(
+    alloc: Global,
+    changes: &mut HashMap<String, JsonValue>,
+    key: &str,
+    patch: Option<JsonValue>,
+) -> Result<(), AllocError>
+    ensures { OnOk result (members_view changes.new.entries ≡ with_change (chars key.now)
+        (option_map view patch) (members_view changes.old.entries)) }
+{
+    match patch {
+        Some(patch) => put_member(changes, key, patch, alloc),
+        None => Ok(()),
+    }
+}
+
+fn is_object(value: ValueView<'_>) -> bool
+    ensures { result ≡ is_object (tree_of value.entry) }
+{
+    matches!(value.kind(), JsonKind::Object)
+}
+
+fn is_null(value: ValueView<'_>) -> bool
+    ensures { result ≡ is_null (tree_of value.entry) }
+{
+    matches!(value.kind(), JsonKind::Null)
+}
+
 /// The same where the new member is no object.
 fn whole_change(
     alloc: Global,
-    old: Option<&JsonValue>,
-    new: &JsonValue,
+    old: Option<ValueView<'_>>,
+    new: ValueView<'_>,
 ) -> Result<Option<JsonValue>, NoMergePatch>
-    requires { is_object (view new.now) ≡ false }
-    ensures { Changes (option_map (λ v. view v.now) old.entry) (view new.now) result }
+    requires { is_object (tree_of new) ≡ false }
+    ensures { Changes (option_map tree_of old.entry) (tree_of new.entry) result }
 {
     if are_equal(old, new) {
         return Ok(None);
     }
-    if new.is_null() {
+    if is_null(new) {
         return Err(NoMergePatch::Null(Pointer::root(alloc)));
     }
-    Ok(Some(new.try_clone(alloc)?))
+    Ok(Some(copy_of(alloc, new)?))
 }
 
 /// Whether there is an old value, and it is equal to the new one.
-fn are_equal(old: Option<&JsonValue>, new: &JsonValue) -> bool
-    ensures { Decides result (option_map (λ v. view v.now) old.entry ≡ Some (view new.now)) }
+fn are_equal(old: Option<ValueView<'_>>, new: ValueView<'_>) -> bool
+    ensures { Decides result (option_map tree_of old.entry ≡ Some (tree_of new.entry)) }
 {
     match old {
-        Some(old) => old == new,
+        Some(old) => old.equals(&new),
         None => false,
     }
 }
 
-/// The members of an object.
-fn members_of<'a>(value: Option<&'a JsonValue>) -> Option<&'a HashMap<String, JsonValue>>
-    ensures { option_map (λ m. members_view m.now.entries) result
-        ≡ object_members (option_map (λ v. view v.now) value.entry) }
+/// The value, if it is an object.
+fn object_of<'v>(value: Option<ValueView<'v>>) -> Option<ValueView<'v>>
+    ensures { option_map (λ v. members_in (tree_of v)) result
+        ≡ object_members (option_map tree_of value.entry) }
 {
-    match value {
-        Some(JsonValue::Object(members)) => Some(members),
-        _ => None,
+    let value = value?;
+    if is_object(value) {
+        return Some(value);
     }
+    None
 }
 
-/// The member at the key.
-fn member_of<'a>(
-    members: Option<&'a HashMap<String, JsonValue>>,
-    key: &str,
-) -> Option<&'a JsonValue>
-    ensures { option_map (λ v. view v.now) result
-        ≡ find (chars key.now) (members_in members.entry) }
+/// The member of the object at the key.
+fn member_of<'v>(object: Option<ValueView<'v>>, key: &str) -> Option<ValueView<'v>>
+    ensures { option_map tree_of result ≡ find (chars key.now) (members_had object.entry) }
 {
-    match members {
-        Some(members) => members.get(key),
+    match object {
+        Some(object) => object.member(key),
         None => None,
     }
 }
@@ -162,19 +194,20 @@ fn member_of<'a>(
 /// A patch that removes the members whose keys are not among the others'.
 fn removals(
     alloc: Global,
-    before: Option<&HashMap<String, JsonValue>>,
-    after: &HashMap<String, JsonValue>,
+    before: Option<ValueView<'_>>,
+    after: ValueView<'_>,
 ) -> Result<HashMap<String, JsonValue>, AllocError>
     ensures { IfOk result (λ m. AreRemovals
-        (members_in before.entry) (members_view after.now.entries) (members_view m.entries)) }
+        (members_had before.entry) (members_in (tree_of after.entry)) (members_view m.entries)) }
 {
     let mut removals = HashMap::new(alloc);
     let Some(before) = before else {
         return Ok(removals);
     };
-    for (key, _) in before {
-        if !after.contains_key(key.as_str()) {
-            let Ok(()) = put_member(&mut removals, key.as_str(), JsonValue::Null, alloc) else {
+    let members = before.members(alloc)?;
+    for member in members.as_slice() {
+        if !has_key(after, member.key) {
+            let Ok(()) = put_member(&mut removals, member.key, JsonValue::Null, alloc) else {
                 return Err(AllocError);
             };
         }

@@ -1,16 +1,20 @@
 //! The JSON Patch from one value to another.
 ghost use Rattle.std.specs.Prelude.{◌≡◌, ◌+◌, IfOk};
 ghost use Rattle.tinyjson.specs.Tree.{array, object};
-ghost use Rattle.tinyjson.specs.View.{view, items_view, members_view};
+ghost use Rattle.tinyjson.specs.View.{view};
+ghost use Rattle.tinyjson_document.specs.Parts.{members_in};
+ghost use Rattle.tinyjson_view.specs.Views.{tree_of, trees_of};
 ghost use Rattle.tinyjson_diff.specs.Patching.{IsPatchBetween};
 ghost use Rattle.tinyjson_diff.specs.Steps.{actions_of, Changes, RemoveMembers, RemoveItems};
 
 use crate::document::document;
+use crate::parts::{copy_of, has_key};
 use crate::step::{Change, Step, append_of_item, append_of_member, at_index, at_key};
 use std::alloc::{AllocError, Global};
-use std::collections::HashMap;
-use tinyjson::{JsonValue, sorted_members};
+use tinyjson::{JsonKind, JsonValue};
+use tinyjson_document::JsonView;
 use tinyjson_pointer::Pointer;
+use tinyjson_view::{AsView, ValueView};
 
 /// How many tokens a path of a patch may have, as [`tinyjson_patch`] reads them.
 const TOKEN_LIMIT: usize = 1_000;
@@ -24,12 +28,18 @@ const TOKEN_LIMIT: usize = 1_000;
 /// operations. It recurses once for each nested container that both values have.
 ///
 /// ```
-/// let patch = patch_diff(alloc, &old, &new)?; // from [1,2] to [3] it is [{"op":"remove","path":"/1"},
+/// let patch = patch_diff(alloc, old.root(), new.root())?; // from [1,2] to [3] it is [{"op":"remove","path":"/1"},
 /// // {"op":"replace","path":"/0","value":3}]
 /// ```
-pub fn patch_diff(alloc: Global, old: &JsonValue, new: &JsonValue) -> Result<JsonValue, AllocError>
-    ensures { IfOk result (λ p. IsPatchBetween (view old.now) (view new.now) (view p)) }
+pub fn patch_diff<'v, O: AsView<'v>, N: AsView<'v>>(
+    alloc: Global,
+    old: O,
+    new: N,
+) -> Result<JsonValue, AllocError>
+    ensures { IfOk result (λ p. IsPatchBetween (O.tree old) (N.tree new) (view p)) }
 {
+    let old = old.as_view();
+    let new = new.as_view();
     let steps = changes(alloc, TOKEN_LIMIT, old, new)?;
     document(alloc, steps)
 }
@@ -39,20 +49,20 @@ pub fn patch_diff(alloc: Global, old: &JsonValue, new: &JsonValue) -> Result<Jso
 fn changes(
     alloc: Global,
     room: usize,
-    old: &JsonValue,
-    new: &JsonValue,
+    old: ValueView<'_>,
+    new: ValueView<'_>,
 ) -> Result<Vec<Step>, AllocError>
-    ensures { IfOk result (λ steps. Changes room (view old.now) (view new.now)
+    ensures { IfOk result (λ steps. Changes room (tree_of old.entry) (tree_of new.entry)
         (actions_of steps.items)) }
 {
     if room == 0 {
         return replacement(alloc, old, new);
     }
-    match (old, new) {
-        (JsonValue::Object(before), JsonValue::Object(after)) => {
-            of_members(alloc, room - 1, before, after)
-        }
-        (JsonValue::Array(before), JsonValue::Array(after)) => {
+    match (old.kind(), new.kind()) {
+        (JsonKind::Object, JsonKind::Object) => of_members(alloc, room - 1, old, new),
+        (JsonKind::Array, JsonKind::Array) => {
+            let before = old.items(alloc)?;
+            let after = new.items(alloc)?;
             of_items(alloc, room - 1, before.as_slice(), after.as_slice())
         }
         _ => replacement(alloc, old, new),
@@ -64,23 +74,24 @@ fn changes(
 fn of_members(
     alloc: Global,
     room: usize,
-    before: &HashMap<String, JsonValue>,
-    after: &HashMap<String, JsonValue>,
+    before: ValueView<'_>,
+    after: ValueView<'_>,
 ) -> Result<Vec<Step>, AllocError>
-    ensures { IfOk result (λ steps. Changes (room + 1) (object (members_view before.now.entries))
-        (object (members_view after.now.entries)) (actions_of steps.items)) }
+    ensures { IfOk result (λ steps. Changes (room + 1)
+        (object (members_in (tree_of before.entry))) (object (members_in (tree_of after.entry)))
+        (actions_of steps.items)) }
 {
     let mut steps = removed_members(alloc, before, after)?;
-    let sorted = sorted_members(alloc, after)?;
-    for &(key, value) in sorted.as_slice() {
-        match before.get(key.as_str()) {
+    let members = after.members(alloc)?;
+    for member in members.as_slice() {
+        match before.member(member.key) {
             Some(part) => {
-                let inner = changes(alloc, room, part, value)?;
-                append_of_member(alloc, &mut steps, key.as_str(), inner)?;
+                let inner = changes(alloc, room, part, member.value)?;
+                append_of_member(alloc, &mut steps, member.key, inner)?;
             }
             None => {
-                let change = Change::Add(value.try_clone(alloc)?);
-                steps.push(at_key(alloc, key.as_str(), change)?)?;
+                let change = Change::Add(copy_of(alloc, member.value)?);
+                steps.push(at_key(alloc, member.key, change)?)?;
             }
         }
     }
@@ -92,41 +103,41 @@ fn of_members(
 fn of_items(
     alloc: Global,
     room: usize,
-    before: &[JsonValue],
-    after: &[JsonValue],
+    before: &[ValueView<'_>],
+    after: &[ValueView<'_>],
 ) -> Result<Vec<Step>, AllocError>
-    ensures { IfOk result (λ steps. Changes (room + 1) (array (items_view before.now))
-        (array (items_view after.now)) (actions_of steps.items)) }
+    ensures { IfOk result (λ steps. Changes (room + 1) (array (trees_of before.now))
+        (array (trees_of after.now)) (actions_of steps.items)) }
 {
-    let (mut steps, mut left) = removed_items(alloc, before, after)?;
+    let (mut steps, left) = removed_items(alloc, before, after)?;
     for (index, value) in after.iter().enumerate() {
-        match left.split_first() {
-            Some((part, others)) => {
-                let inner = changes(alloc, room, part, value)?;
-                append_of_item(alloc, &mut steps, index, inner)?;
-                left = others;
-            }
-            None => {
-                let change = Change::Add(value.try_clone(alloc)?);
-                steps.push(at_index(alloc, index, change)?)?;
-            }
+        if index < left.len() {
+            let inner = changes(alloc, room, left[index], *value)?;
+            append_of_item(alloc, &mut steps, index, inner)?;
+        } else {
+            let change = Change::Add(copy_of(alloc, *value)?);
+            steps.push(at_index(alloc, index, change)?)?;
         }
     }
     Ok(steps)
 }
 
 /// The step that replaces the old value, if the new one differs.
-fn replacement(alloc: Global, old: &JsonValue, new: &JsonValue) -> Result<Vec<Step>, AllocError>
-    ensures { IfOk result (λ steps. Changes 0 (view old.now) (view new.now)
+fn replacement(
+    alloc: Global,
+    old: ValueView<'_>,
+    new: ValueView<'_>,
+) -> Result<Vec<Step>, AllocError>
+    ensures { IfOk result (λ steps. Changes 0 (tree_of old.entry) (tree_of new.entry)
         (actions_of steps.items)) }
 {
     let mut steps = Vec::new(alloc);
-    if old == new {
+    if old.equals(&new) {
         return Ok(steps);
     }
     steps.push(Step {
         path: Pointer::root(alloc),
-        change: Change::Replace(new.try_clone(alloc)?),
+        change: Change::Replace(copy_of(alloc, new)?),
     })?;
     Ok(steps)
 }
@@ -134,38 +145,35 @@ fn replacement(alloc: Global, old: &JsonValue, new: &JsonValue) -> Result<Vec<St
 /// The steps that remove the members whose keys are not among the others'.
 fn removed_members(
     alloc: Global,
-    before: &HashMap<String, JsonValue>,
-    after: &HashMap<String, JsonValue>,
+    before: ValueView<'_>,
+    after: ValueView<'_>,
 ) -> Result<Vec<Step>, AllocError>
-    ensures { IfOk result (λ steps. RemoveMembers (members_view before.now.entries)
-        (members_view after.now.entries) (actions_of steps.items)) }
+    ensures { IfOk result (λ steps. RemoveMembers (members_in (tree_of before.entry))
+        (members_in (tree_of after.entry)) (actions_of steps.items)) }
 {
     let mut steps = Vec::new(alloc);
-    let sorted = sorted_members(alloc, before)?;
-    for &(key, _) in sorted.as_slice() {
-        if !after.contains_key(key.as_str()) {
-            steps.push(at_key(alloc, key.as_str(), Change::Remove)?)?;
+    let members = before.members(alloc)?;
+    for member in members.as_slice() {
+        if !has_key(after, member.key) {
+            steps.push(at_key(alloc, member.key, Change::Remove)?)?;
         }
     }
     Ok(steps)
 }
 
 /// The steps that remove the items beyond the length of the new array, from the end, and the items that are left.
-fn removed_items<'a>(
+fn removed_items<'a, 'v>(
     alloc: Global,
-    before: &'a [JsonValue],
-    after: &[JsonValue],
-) -> Result<(Vec<Step>, &'a [JsonValue]), AllocError>
+    before: &'a [ValueView<'v>],
+    after: &[ValueView<'_>],
+) -> Result<(Vec<Step>, &'a [ValueView<'v>]), AllocError>
     ensures { IfOk result (λ r. RemoveItems before.now after.now (actions_of r.0.items) r.1.now) }
 {
     let mut steps = Vec::new(alloc);
-    let mut left = before;
-    while let Some((_, front)) = left.split_last() {
-        if front.len() < after.len() {
-            return Ok((steps, left));
-        }
-        steps.push(at_index(alloc, front.len(), Change::Remove)?)?;
-        left = front;
+    let mut count = before.len();
+    while count > after.len() {
+        count -= 1;
+        steps.push(at_index(alloc, count, Change::Remove)?)?;
     }
-    Ok((steps, left))
+    Ok((steps, &before[..count]))
 }

@@ -1,5 +1,12 @@
-use Rattle.tinyjson_diff.proofs.Values.{member_found}
+use Rattle.std.proofs.Common.{◌∙◌, ap, sym}
+use Rattle.std.specs.Str.{chars}
+use Rattle.tinyjson.specs.Tree.{find}
+use Rattle.tinyjson_view.proofs.Callers.{key_at}
+use Rattle.tinyjson_view.specs.Views.{tree_of}
+use Rattle.tinyjson_diff.specs.Changes.{members_had}
 use Rattle.tinyjson_diff.proofs.merge.member_of.Goals as goal
 
 pub returns-in-Some : goal.returns-in-Some
-returns-in-Some c = member_found c.args.members c.in-Some.members c.args.key.now c.get.result c.in-Some.is c.utf8.key c.get.ensures.value
+returns-in-Some c =
+    c.member.ensures ∙ (key_at (tree_of c.in-Some.object) (chars c.args.key.now)
+    ∙ ap (λ o. find (chars c.args.key.now) (members_had o)) (sym c.in-Some.is))

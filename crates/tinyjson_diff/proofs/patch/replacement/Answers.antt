@@ -1,27 +1,28 @@
 use Rattle.std.proofs.Common.{◌≡◌, ◌∙◌, ◌++◌, ◌∷◌, [], sym, ap, subst, true≢false}
 use Rattle.tinyjson.specs.Equality.{tree_eq_Decides}
 use Rattle.tinyjson.specs.View.{view}
+use Rattle.tinyjson_view.specs.Views.{tree_of}
 use Rattle.tinyjson_patch.specs.Operation.{replace}
 use Rattle.tinyjson_diff.specs.Steps.{actions_of, Changes}
 use Rattle.tinyjson_diff.specs.declared.step.Change.TheVariants as change
 use Rattle.tinyjson_diff.proofs.Leading.{no_changes, whole_change}
 use Rattle.tinyjson_diff.proofs.patch.replacement.Goals as goal
 
-pub returns-then-eq : goal.returns-then-eq
-returns-then-eq c =
-    let t = view c.args.old.now in
-    let u = view c.args.new.now in
+pub returns-then-equals : goal.returns-then-equals
+returns-then-equals c =
+    let t = tree_of c.args.old in
+    let u = tree_of c.args.new in
     subst (λ l. Changes 0 t u (actions_of l)) (sym c.new-steps.ensures.items)
-    (no_changes 0 t u ((tree_eq_Decides t u).0 (sym c.eq.ensures ∙ c.if-eq.true)))
+    (no_changes 0 t u ((tree_eq_Decides t u).0 (sym c.equals.ensures ∙ c.if-equals.true)))
 
 pub returns : goal.returns
 returns c =
-    let t = view c.args.old.now in
-    let u = view c.args.new.now in
-    let differ : ¬ (t ≡ u) = λ e. true≢false (sym ((tree_eq_Decides t u).1 e) ∙ (sym c.eq.ensures ∙ c.if-eq.false)) in
+    let t = tree_of c.args.old in
+    let u = tree_of c.args.new in
+    let differ : ¬ (t ≡ u) = λ e. true≢false (sym ((tree_eq_Decides t u).1 e) ∙ (sym c.equals.ensures ∙ c.if-equals.false)) in
     subst (Changes 0 t u)
     (sym (ap actions_of (c.in_ok-push.ensures.items
-    ∙ ap (λ l. l ++ record { path = c.root.result; change = change.Replace c.in_ok-try_clone.field-0 } ∷ [])
+    ∙ ap (λ l. l ++ record { path = c.root.result; change = change.Replace c.in_ok-copy_of.field-0 } ∷ [])
     c.new-steps.ensures.items)
-    ∙ (ap (λ p. replace p (view c.in_ok-try_clone.field-0) ∷ []) c.root.ensures ∙ ap (λ x. replace [] x ∷ []) c.in_ok-try_clone.ensures)))
+    ∙ (ap (λ p. replace p (view c.in_ok-copy_of.field-0) ∷ []) c.root.ensures ∙ ap (λ x. replace [] x ∷ []) c.in_ok-copy_of.ensures)))
     (whole_change 0 t u differ)
