@@ -411,6 +411,10 @@ MANY_OPERATIONS = [
         ),
         ITEMS,
     ),
+    ("[[]]", patch(*[("add", "/0/0", "0")] * 100_000), array(array([0] * 100_000))),
+    # What is copied was changed just before; all else is large.
+    ('{"a":{},"c":%s}' % ITEMS, many(("add", "/a/x", "[0]"), ("add", "/a/x/0", "1"), ("copy", "/b", "/a"), ("test", "/b/x", "[1,0]")),
+        '{"a":{"x":[1,0]},"b":{"x":[1,0]},"c":%s}' % ITEMS),
 ]
 
 # Forty copies of the whole to its end: more than fits.
@@ -491,6 +495,9 @@ DEEP_APPLIED = [
     (ONE, patch(*KNOWN, ("copy", "/1", "/0"), ("remove", "/0"), ("remove", "/0")), array(range(RUN)).encode()),
     (TWO, patch(("replace", "/a", "1"), ("add", "/b", "2")), b'{"a":1,"b":2}'),
     (TWO, patch(("move", "/a", "/b")), b'{"a":%s}' % ONE),
+    # Pointers of as many tokens as one may have; a part that was changed that deep is copied.
+    *((given.encode(), operations, result.encode()) for given, operations, result in LONG_APPLIED if TOKENS * "/0" in operations),
+    (nested("1").encode(), patch(("replace", "/0" * TOKENS, "2"), ("copy", "/0", "/0")), array(nested("2", TOKENS - 1), nested("2", TOKENS - 1)).encode()),
 ]
 
 # The value and the patch, where memory is refused.

@@ -1,14 +1,17 @@
 //! Applies a patch to texts.
 ghost use Rattle.std.specs.Prelude.{◌≡◌};
-ghost use Rattle.tinyjson.specs.View.{view};
+ghost use Rattle.tinyjson.specs.Written.{WritesPrefix};
+ghost use Rattle.tinyjson_cli.specs.Layout.{laid_out};
 ghost use Rattle.tinyjson_cli.specs.Texts.{Answers};
+ghost use Rattle.tinyjson_document.specs.Document.{document_tree, tree};
 ghost use Rattle.tinyjson_patch.specs.Patch.{actions_of};
 ghost use Rattle.json_patch.specs.Apply.{GivesPatched, GivesPatchedOf};
 
 use std::alloc::Global;
 use std::io::{self, ErrorKind, Write};
-use tinyjson::JsonValue;
-use tinyjson_cli::{NoAnswer, TextAnswer, write_laid_out};
+use tinyjson_cli::{NoAnswer, TextAnswer};
+use tinyjson_document::{Document, Node};
+use tinyjson_edit::patch_document;
 use tinyjson_lines::Cause;
 use tinyjson_patch::{ApplyError, Patch};
 
@@ -32,8 +35,8 @@ impl TextAnswer for Asked<'_> {
         text: &str,
         output: &mut W,
     ) -> io::Result<Option<NoAnswer>> {
-        match JsonValue::from_str(alloc, text) {
-            Ok(value) => answer_value(alloc, *self, value, output),
+        match Document::read(alloc, text) {
+            Ok(document) => answer_document(alloc, *self, document, output),
             Err(error) => {
                 if error.is_out_of_memory() {
                     return Err(error.into());
@@ -44,34 +47,19 @@ impl TextAnswer for Asked<'_> {
     }
 }
 
-fn answer_value<W: Write>(
+/// Writes the text of a document with the patch applied.
+fn answer_document<W: Write>(
     alloc: Global,
     asked: Asked<'_>,
-    value: JsonValue,
+    document: Document,
     output: &mut W,
 ) -> io::Result<Option<NoAnswer>>
     ensures { Answers (GivesPatchedOf asked.entry.is_indented (actions_of asked.entry.patch.now)
-        (view value)) (W.contents output.old) (W.contents output.new) result }
+        (document_tree document)) (W.contents output.old) (W.contents output.new) result }
 {
-    let mut value = value;
-    let answer = answer_changed(alloc, asked, &mut value, output);
-    value.dismantle();
-    answer
-}
-
-/// Changes a value, and writes its text. Where the patch fails, the value may be any value then.
-fn answer_changed<W: Write>(
-    alloc: Global,
-    asked: Asked<'_>,
-    value: &mut JsonValue,
-    output: &mut W,
-) -> io::Result<Option<NoAnswer>>
-    ensures { Answers (GivesPatchedOf asked.entry.is_indented (actions_of asked.entry.patch.now)
-        (view value.old)) (W.contents output.old) (W.contents output.new) result }
-{
-    match asked.patch.apply_in_place(alloc, value) {
-        Ok(()) => {
-            write_laid_out(alloc, value, asked.is_indented, output)?;
+    match patch_document(alloc, asked.patch, document.root()) {
+        Ok(patched) => {
+            write_text(alloc, patched.root(), asked.is_indented, output)?;
             Ok(None)
         }
         Err(ApplyError::Failed(number, reason)) => {
@@ -80,4 +68,20 @@ fn answer_changed<W: Write>(
         }
         Err(ApplyError::OutOfMemory) => Err(io::Error::from(ErrorKind::OutOfMemory)),
     }
+}
+
+/// Writes the text of the patched value, compact or indented, and a line feed.
+fn write_text<W: Write>(
+    alloc: Global,
+    patched: Node<'_>,
+    is_indented: bool,
+    output: &mut W,
+) -> io::Result<()>
+    ensures { WritesPrefix (W.contents output.old) (W.contents output.new)
+        (laid_out is_indented (tree patched.entry)) result }
+{
+    if is_indented {
+        return patched.format_line_to(alloc, output);
+    }
+    patched.write_line_to(alloc, output)
 }

@@ -1,0 +1,10 @@
+mod Listed
+mod Trees
+mod Steps
+mod Taking
+mod Changing
+mod Opening
+mod Copying
+mod Left
+mod Operations
+mod Running

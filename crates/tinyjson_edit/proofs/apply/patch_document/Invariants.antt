@@ -1,0 +1,6 @@
+use Rattle.tinyjson_document.specs.Document.{document_tree, tree}
+use Rattle.tinyjson_edit.proofs.Running.{IsBehind}
+use Rattle.tinyjson_edit.proofs.apply.patch_document.Given as goal
+
+abbrev pub invariant-loop : goal.invariant-loop
+invariant-loop l = IsBehind l.total l.patch.operations.items (tree l.node) l.rest (document_tree l.document)

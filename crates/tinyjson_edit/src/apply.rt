@@ -1,0 +1,91 @@
+//! Applies a patch to a value of a document.
+ghost use Rattle.std.specs.Prelude.{◌≡◌, ◌≤◌, length, map};
+ghost use Rattle.tinyjson_document.specs.Document.{tree as node_tree};
+ghost use Rattle.tinyjson_edit.specs.Edited.{tree};
+ghost use Rattle.tinyjson_edit.specs.Patched.{GivesDocument, GivesFirst};
+ghost use Rattle.tinyjson_patch.specs.Operation.{action_of};
+ghost use Rattle.tinyjson_patch.specs.Patch.{actions_of, all_applied};
+ghost use Rattle.tinyjson_patch.specs.Running.{RunsFirst};
+
+use crate::edited::Edited;
+use crate::operation::{Stop, apply_to};
+use crate::write::document_of;
+use std::alloc::Global;
+use tinyjson_document::{Document, Node};
+use tinyjson_patch::{ApplyError, Operation, Patch};
+use tinyjson_view::ValueView;
+
+/// The document of the node's value with all operations applied (RFC 6902, section 5): the value that
+/// `Patch::apply` leaves, or the same error.
+///
+/// A part in which others made changes is copied as it is if they took apart at most 64 nested containers of it. Otherwise
+/// the operation writes the whole value first, which takes the time of reading it.
+///
+/// ```
+/// let patched = patch_document(alloc, &patch, document.root())?; // [1,2] by [{"op":"remove","path":"/0"}]
+/// patched.root().to_string(alloc)?; // [2]
+/// ```
+pub fn patch_document(alloc: Global, patch: &Patch, node: Node<'_>) -> Result<Document, ApplyError>
+    ensures { GivesDocument (all_applied 0 (actions_of patch.now) (node_tree node.entry)) result }
+{
+    let total = patch.operations.len();
+    let (mut document, mut rest) = apply_first(alloc, node, patch.operations.as_slice(), total)?;
+    for _ in 0..u64::MAX {
+        if rest.is_empty() {
+            return Ok(document);
+        }
+        let (next, others) = apply_first(alloc, document.root(), rest, total)?;
+        document = next;
+        rest = others;
+    }
+    Err(ApplyError::OutOfMemory)
+}
+
+/// Applies the operations up to the first that copies what others took apart. Returns the document then, and the
+/// operations that are left. The whole patch has `total` operations.
+fn apply_first<'o>(
+    alloc: Global,
+    node: Node<'_>,
+    operations: &'o [Operation],
+    total: usize,
+) -> Result<(Document, &'o [Operation]), ApplyError>
+    requires { length operations.now ≤ total }
+    ensures { GivesFirst total (map action_of operations.now) (node_tree node.entry) result }
+{
+    let mut value = Edited::Kept(ValueView::InDocument(node));
+    let answer = apply_all(alloc, &mut value, operations, total);
+    let answer = match answer {
+        Ok(rest) => match document_of(alloc, &value) {
+            Ok(document) => Ok((document, rest)),
+            Err(_) => Err(ApplyError::OutOfMemory),
+        },
+        Err(error) => Err(error),
+    };
+    value.dismantle(alloc);
+    answer
+}
+
+/// Applies the operations up to the first that copies what others took apart, and returns those that are left.
+fn apply_all<'d, 'o: 'd>(
+    alloc: Global,
+    value: &mut Edited<'d>,
+    operations: &'o [Operation],
+    total: usize,
+) -> Result<&'o [Operation], ApplyError>
+    requires { length operations.now ≤ total }
+    ensures { RunsFirst total (map action_of operations.now) (tree value.old)
+        result (tree value.new) }
+{
+    let mut rest = operations;
+    while let Some((operation, others)) = rest.split_first() {
+        match apply_to(operation, alloc, value) {
+            Ok(()) => rest = others,
+            Err(Stop::TakenApart) => return Ok(rest),
+            Err(Stop::Failed(reason)) => {
+                return Err(ApplyError::Failed(total - rest.len(), reason));
+            }
+            Err(Stop::OutOfMemory) => return Err(ApplyError::OutOfMemory),
+        }
+    }
+    Ok(rest)
+}

@@ -1,0 +1,20 @@
+//! JSON Patch (RFC 6902) on documents, without building a value. Only the containers on the way to what is changed
+//! are taken apart; all else stays where it was read.
+//!
+//! ```
+//! let document = Document::read(alloc, r#"{"a":[7],"b":{"c":8}}"#)?;
+//! let patched = patch_document(alloc, &patch, document.root())?; // by a removal of /a/0: {"a":[],"b":{"c":8}}
+//! ```
+#![tactic(auto)]
+
+mod apply;
+mod change;
+mod copy;
+mod edited;
+mod expand;
+mod find;
+mod opened;
+mod operation;
+mod write;
+
+pub use apply::patch_document;
