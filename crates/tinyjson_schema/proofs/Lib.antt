@@ -1,6 +1,7 @@
 pub mod Adding
 pub mod Emptied
 pub mod Forms
+pub mod Leading
 pub mod Leaves
 pub mod Loops
 pub mod Marks

@@ -1,5 +1,5 @@
--- The schemas of keys and of indices.
-use Rattle.std.proofs.Common.{◌≡◌, ℕ, List, Option, Some, None, option_map, Vec, Global, Bor, codes, refl, sym, ap, ◌∙◌}
+-- The schemas of indices.
+use Rattle.std.proofs.Common.{◌≡◌, ℕ, Option, Some, None, option_map, Vec, Global, Bor, codes, refl, sym, ap, ◌∙◌}
 use Rattle.std.specs.Prelude.{option_and_then, slice_get}
 use Rattle.tinyjson.proofs.Callers.{view_Array, nth_items_view, view_ref, no_array}
 use Rattle.tinyjson.specs.Index.{tree_at, tree_at_key}
@@ -7,16 +7,9 @@ use Rattle.tinyjson.specs.Tree.{Tree, Items, array}
 use Rattle.tinyjson.specs.View.{view}
 use Rattle.tinyjson.specs.declared.value.JsonValue.{JsonValue}
 use Rattle.tinyjson.specs.declared.value.JsonValue.TheVariants as is
-use Rattle.tinyjson_schema.specs.Parts.{property, prefix_item}
+use Rattle.tinyjson_schema.specs.Parts.{prefix_item}
 
--- the schema of a key, if there are any, and if there are none
-pub property_found : (s p : Tree) (k : List ℕ) (o : Option Tree) → Some p ≡ tree_at_key s (codes "properties")
-    → o ≡ tree_at_key p k → o ≡ property s k
-property_found s p k o h e = e ∙ ap (option_and_then (λ q. tree_at_key q k)) h
-
-pub property_missing : (s : Tree) (k : List ℕ) → None ≡ tree_at_key s (codes "properties") → None ≡ property s k
-property_missing s k h = ap (option_and_then (λ q. tree_at_key q k)) h
-
+-- the schema of an index, if there are any, and if there are none
 pub prefix_found : (s : Tree) (v : JsonValue) (l : Vec JsonValue Global) (i : ℕ) (r : Option (Bor JsonValue)) → v ≡ is.Array l
     → Some (view v) ≡ tree_at_key s (codes "prefixItems") → option_map (λ x. x.now) r ≡ slice_get l.items i
     → option_map (λ x. view x.now) r ≡ prefix_item s i

@@ -2,6 +2,7 @@ pub mod Applicators
 pub mod Circles
 pub mod Evaluated
 pub mod Every
+pub mod Leads
 pub mod Marks
 pub mod Operands
 pub mod Parts

@@ -9,7 +9,7 @@ use Rattle.tinyjson_schema_keywords.specs.declared.keyword.Keyword.TheVariants a
 
 -- A number below 64 for a name, from its length and two of its bytes. It tells most keywords apart.
 abbrev pub mark : List ℕ → ℕ
-mark bs = cond (nat_lt (length bs) 3) 0 ((47 * (length bs % 64) + 3 * get_or bs 1 0 + 38 * get_or bs 2 0) % 64)
+mark bs = cond (nat_lt (length bs) 3) 0 ((2 * (length bs % 64) + 25 * get_or bs 1 0 + 38 * get_or bs 2 0) % 64)
 
 -- The set has the marks of all keywords of the schema.
 abbrev pub HasMarks : ℕ → Tree → Type 0

@@ -10,17 +10,18 @@ ghost use Rattle.tinyjson_schema_keywords.specs.References.{referenced};
 ghost use Rattle.tinyjson_schema_keywords.specs.declared.keyword.Keyword.{Keyword};
 ghost use Rattle.tinyjson_schema.specs.Marks.{mark, HasMarks, AppliesNothing, TestsNothing};
 
+use crate::leads::led;
 use crate::walk::Walk;
 use std::alloc::{AllocError, Global};
 use std::collections::HashMap;
 use tinyjson::JsonValue;
-use tinyjson_schema_keywords::{Keyword, referenced, schema_at, schema_map_at, schemas_at};
+use tinyjson_schema_keywords::{Keyword, schema_at, schema_map_at, schemas_at, target};
 
 /// The marks of the keywords that apply schemas.
-const APPLICATORS: u64 = 0x8589_08c8_0205_0021;
+const APPLICATORS: u64 = 0x4841_0140_7029_0051;
 
 /// The marks of those among them that only accept or reject.
-const TESTING: u64 = 0x0008_0800_0204_0000;
+const TESTING: u64 = 0x4840_0000_0020_0040;
 
 /// A schema that is applied, and the marks of its names. A keyword whose mark is not among these is not in the schema,
 /// so it is not looked up. It is two words, as the walk is.
@@ -111,10 +112,15 @@ impl<'s> Applied<'s> {
             ≡ referenced (view walk.entry.ground.now.whole.now.root.now) keyword
             (view self.entry.schema.now)) }
     {
-        if !self.may_have(keyword) {
+        let Some(reference) = self.schema_at(keyword) else {
             return Ok(None);
+        };
+        if let JsonValue::String(text) = reference {
+            if let Some(schema) = led(walk.ground.leads, text.as_str()) {
+                return Ok(Some(schema));
+            }
         }
-        referenced(self.schema, keyword, walk.following())
+        target(reference, walk.following())
     }
 }
 
@@ -147,7 +153,7 @@ fn mark(name: &str) -> usize
     if bytes.len() < 3 {
         return 0;
     }
-    (47 * (bytes.len() % 64) + 3 * usize::from(bytes[1]) + 38 * usize::from(bytes[2])) % 64
+    (2 * (bytes.len() % 64) + 25 * usize::from(bytes[1]) + 38 * usize::from(bytes[2])) % 64
 }
 
 /// The mark of the keyword's name.
@@ -157,63 +163,63 @@ fn mark_of(keyword: Keyword) -> usize
     ensures below { result < 64 }
 {
     match keyword {
-        Keyword::Schema => 20,
-        Keyword::Id => 32,
-        Keyword::Comment => 27,
-        Keyword::Defs => 21,
-        Keyword::Definitions => 24,
-        Keyword::Ref => 16,
-        Keyword::Anchor => 0,
-        Keyword::DynamicRef => 39,
-        Keyword::DynamicAnchor => 52,
-        Keyword::Vocabulary => 33,
-        Keyword::AllOf => 55,
-        Keyword::AnyOf => 43,
-        Keyword::OneOf => 51,
-        Keyword::Not => 18,
+        Keyword::Schema => 59,
+        Keyword::Id => 31,
+        Keyword::Comment => 53,
+        Keyword::Defs => 12,
+        Keyword::Definitions => 23,
+        Keyword::Ref => 40,
+        Keyword::Anchor => 27,
+        Keyword::DynamicRef => 16,
+        Keyword::DynamicAnchor => 22,
+        Keyword::Vocabulary => 22,
+        Keyword::AllOf => 30,
+        Keyword::AnyOf => 62,
+        Keyword::OneOf => 6,
+        Keyword::Not => 21,
         Keyword::If => 0,
-        Keyword::Then => 50,
-        Keyword::Else => 18,
-        Keyword::DependentSchemas => 63,
-        Keyword::PrefixItems => 25,
-        Keyword::Items => 5,
-        Keyword::Contains => 25,
-        Keyword::Properties => 38,
-        Keyword::PatternProperties => 58,
-        Keyword::AdditionalProperties => 48,
-        Keyword::PropertyNames => 51,
-        Keyword::UnevaluatedItems => 56,
-        Keyword::UnevaluatedProperties => 35,
-        Keyword::Type => 7,
+        Keyword::Then => 46,
+        Keyword::Else => 38,
+        Keyword::DependentSchemas => 29,
+        Keyword::PrefixItems => 54,
+        Keyword::Items => 28,
+        Keyword::Contains => 59,
+        Keyword::Properties => 48,
+        Keyword::PatternProperties => 19,
+        Keyword::AdditionalProperties => 4,
+        Keyword::PropertyNames => 54,
+        Keyword::UnevaluatedItems => 28,
+        Keyword::UnevaluatedProperties => 38,
+        Keyword::Type => 57,
         Keyword::Enum => 36,
-        Keyword::Const => 12,
-        Keyword::MultipleOf => 61,
-        Keyword::Maximum => 60,
+        Keyword::Const => 53,
+        Keyword::MultipleOf => 9,
+        Keyword::Maximum => 23,
         Keyword::ExclusiveMaximum => 10,
-        Keyword::Minimum => 24,
+        Keyword::Minimum => 35,
         Keyword::ExclusiveMinimum => 10,
-        Keyword::MaxLength => 26,
-        Keyword::MinLength => 54,
-        Keyword::Pattern => 36,
-        Keyword::MaxItems => 43,
-        Keyword::MinItems => 7,
-        Keyword::UniqueItems => 37,
-        Keyword::MaxContains => 56,
-        Keyword::MinContains => 20,
-        Keyword::MaxProperties => 22,
-        Keyword::MinProperties => 50,
-        Keyword::Required => 45,
-        Keyword::DependentRequired => 46,
-        Keyword::Format => 19,
-        Keyword::ContentEncoding => 34,
-        Keyword::ContentMediaType => 17,
-        Keyword::ContentSchema => 4,
-        Keyword::Title => 30,
-        Keyword::Description => 6,
-        Keyword::Default => 28,
-        Keyword::Deprecated => 37,
-        Keyword::ReadOnly => 13,
-        Keyword::WriteOnly => 19,
-        Keyword::Examples => 6,
+        Keyword::MaxLength => 27,
+        Keyword::MinLength => 39,
+        Keyword::Pattern => 63,
+        Keyword::MaxItems => 25,
+        Keyword::MinItems => 37,
+        Keyword::UniqueItems => 42,
+        Keyword::MaxContains => 31,
+        Keyword::MinContains => 43,
+        Keyword::MaxProperties => 35,
+        Keyword::MinProperties => 47,
+        Keyword::Required => 51,
+        Keyword::DependentRequired => 31,
+        Keyword::Format => 15,
+        Keyword::ContentEncoding => 9,
+        Keyword::ContentMediaType => 11,
+        Keyword::ContentSchema => 5,
+        Keyword::Title => 3,
+        Keyword::Description => 5,
+        Keyword::Default => 15,
+        Keyword::Deprecated => 17,
+        Keyword::ReadOnly => 19,
+        Keyword::WriteOnly => 10,
+        Keyword::Examples => 46,
     }
 }

@@ -8,6 +8,8 @@ ghost use Rattle.tinyjson_schema_assertions.specs.Assertions.{meets, IsUnmetAmon
 use crate::applied::Applied;
 use crate::walk::Walk;
 use std::alloc::AllocError;
+use tinyjson::JsonValue;
+use tinyjson_document::{JsonView, NumberView};
 use tinyjson_schema_assertions::accepts;
 use tinyjson_schema_keywords::Keyword;
 use tinyjson_view::ValueView;
@@ -46,10 +48,31 @@ pub fn assertions(formats: bool) -> &'static [Keyword]
     }
 }
 
-/// One of the keywords that the schema has and the value violates, if there is one. Not inlined, since its frame takes 9 KB,
-/// and the recursion over schemas calls it at each level.
+/// One of the keywords that the schema has and the value violates, if there is one. A number in a document is read once
+/// for all keywords. Not inlined, since its frame takes 9 KB, and the recursion over schemas calls it at each level.
 #[inline(never)]
 pub fn unmet(
+    keywords: &[Keyword],
+    here: Applied<'_>,
+    value: &ValueView<'_>,
+    walk: Walk<'_, '_>,
+) -> Result<Option<Keyword>, AllocError>
+    ensures { IfOk result
+        (λ found. IsUnmetAmong keywords.now (view here.entry.schema.now) (tree_of value.now) found) }
+{
+    let Some(number) = value.number() else {
+        return first_unmet(keywords, here, value, walk);
+    };
+    match number {
+        NumberView::Made(made) => {
+            let read = JsonValue::Number(made);
+            first_unmet(keywords, here, &ValueView::InValue(&read), walk)
+        }
+        NumberView::Kept(_) => first_unmet(keywords, here, value, walk),
+    }
+}
+
+fn first_unmet(
     keywords: &[Keyword],
     here: Applied<'_>,
     value: &ValueView<'_>,

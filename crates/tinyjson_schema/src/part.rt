@@ -1,7 +1,10 @@
 //! The schema for a member or an item.
-ghost use Rattle.std.specs.Prelude.{◌≡◌, option_map, IfOk};
+ghost use Rattle.std.specs.Prelude.{◌≡◌, option_map, option_and_then, IfOk};
 ghost use Rattle.std.specs.Str.{chars};
+ghost use Rattle.tinyjson.specs.Index.{tree_at_key};
 ghost use Rattle.tinyjson.specs.View.{view, members_listed};
+ghost use Rattle.tinyjson_schema_keywords.specs.Applied.{schema_at};
+ghost use Rattle.tinyjson_schema_keywords.specs.declared.keyword.Keyword.TheVariants as kw;
 ghost use Rattle.tinyjson_schema.specs.Parts.{property, prefix_item, some_found, is_patterned};
 ghost use Rattle.tinyjson_schema.specs.Parts.{additional};
 ghost use Rattle.tinyjson_schema.specs.Places.{IsMemberPart, IsItemPart};
@@ -27,8 +30,23 @@ pub fn member_part<'s>(
 ) -> Result<Option<Part<'s>>, CheckError>
     ensures { IfOk result (λ part. IsMemberPart (view here.entry.schema.now) (chars key.now) part) }
 {
+    member_part_of(here, here.schema_at(Keyword::Properties), key, walk)
+}
+
+/// `member_part`, where the schema's `properties` is looked up already.
+pub fn member_part_of<'s>(
+    here: Applied<'s>,
+    properties: Option<&'s JsonValue>,
+    key: &str,
+    walk: Walk<'_, '_>,
+) -> Result<Option<Part<'s>>, CheckError>
+    ensures { IfOk result (λ part.
+        option_map (λ x. view x.now) properties.entry
+        ≡ schema_at (view here.entry.schema.now) kw.Properties
+        → IsMemberPart (view here.entry.schema.now) (chars key.now) part) }
+{
     walk.ground.whole.budget.spend(1)?;
-    if let Some(part) = property(here, key) {
+    if let Some(part) = property_of(properties, key) {
         return Ok(Some(Part {
             applicator: Keyword::Properties,
             schema: part,
@@ -67,7 +85,19 @@ pub fn property<'s>(here: Applied<'s>, key: &str) -> Option<&'s JsonValue>
     ensures { option_map (λ x. view x.now) result
         ≡ property (view here.entry.schema.now) (chars key.now) }
 {
-    operand(here.schema_at(Keyword::Properties)?, key)
+    property_of(here.schema_at(Keyword::Properties), key)
+}
+
+/// `property`, where the schema's `properties` is looked up already.
+fn property_of<'s>(properties: Option<&'s JsonValue>, key: &str) -> Option<&'s JsonValue>
+    ensures { option_map (λ x. view x.now) result
+        ≡ option_and_then (λ p. tree_at_key p (chars key.now))
+        (option_map (λ x. view x.now) properties.entry) }
+{
+    match properties {
+        Some(properties) => operand(properties, key),
+        None => None,
+    }
 }
 
 /// The schema of `additionalProperties` for a key that no pattern matches.

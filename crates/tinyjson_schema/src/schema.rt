@@ -1,9 +1,11 @@
 //! Schemas, which are checked before values are.
 ghost use Rattle.std.specs.Prelude.{◌≡◌, true, IfOk};
 ghost use Rattle.tinyjson.specs.View.{view};
+ghost use Rattle.tinyjson_schema.specs.Leads.{are_led};
 ghost use Rattle.tinyjson_schema.specs.Schemas.{is_schema};
 ghost use Rattle.tinyjson_schema.specs.declared.schema.SchemaError.{SchemaError};
 
+use crate::leads::{Lead, leads_of};
 use crate::refused::{Reason, refused_place};
 use crate::validate::{find_violation, find_violations};
 use crate::violation::Violation;
@@ -21,7 +23,9 @@ use tinyjson_view::AsView;
 #[derive(Drop)]
 pub struct Schema<'s> {
     whole: Whole<'s>,
+    leads: Vec<Lead<'s>>,
     ghost checked: { is_schema (view whole.root.now) true (view whole.root.now) ≡ true },
+    ghost led: { are_led (view whole.root.now) leads.items ≡ true },
 }
 
 /// How much a check may do.
@@ -94,7 +98,10 @@ impl<'s> Schema<'s> {
             again,
         };
         match refused_place(document, alloc)? {
-            None => Ok(Schema { whole }),
+            None => {
+                let leads = leads_of(&whole, alloc)?;
+                Ok(Schema { whole, leads })
+            }
             Some(place) => match place.reason {
                 Reason::Misfit => Err(SchemaError::Refused(place.pointer)),
                 Reason::PatternLimit => Err(SchemaError::PatternLimit(place.pointer)),
@@ -177,6 +184,7 @@ impl<'s> Schema<'s> {
         self.whole.budget.renew(checks.limits.steps);
         let ground = Ground {
             whole: &self.whole,
+            leads: self.leads.as_slice(),
             formats: checks.formats,
         };
         let walk = Walk {
@@ -210,6 +218,7 @@ impl<'s> Schema<'s> {
         let formats = checks.formats;
         let ground = Ground {
             whole: &self.whole,
+            leads: self.leads.as_slice(),
             formats,
         };
         let walk = Walk {

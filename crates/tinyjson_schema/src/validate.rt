@@ -22,7 +22,7 @@ mod uses;
 
 use crate::applied::{Applied, marks_of};
 use crate::assertions::{assertions, unmet};
-use crate::part::{item_part, member_part};
+use crate::part::{item_part, member_part_of};
 use crate::validate::tested::unmet_test;
 use crate::validate::unevaluated::in_rest;
 use crate::violation::Violation;
@@ -327,8 +327,9 @@ fn in_members(
         (λ f. members_accepted f (view here.entry.schema.now) (members_of members.now))
         (view here.entry.schema.now) (object (members_of members.now)) result }
 {
+    let properties = here.schema_at(Keyword::Properties);
     for member in members {
-        if let Some(part) = member_part(here, member.key, walk)? {
+        if let Some(part) = member_part_of(here, properties, member.key, walk)? {
             if let Some(mut found) = violation_in(&member.value, part.schema, walk)? {
                 found.enter_member(walk.alloc, part.applicator, member.key)?;
                 return Ok(Some(found));

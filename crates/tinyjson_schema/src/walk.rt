@@ -1,19 +1,23 @@
 //! The state of a check of a value, which is passed down from schema to subschema.
 ghost use Rattle.i_regexp.specs.PatternDeciding.{is_found};
-ghost use Rattle.std.specs.Prelude.{◌≡◌, IfOk};
+ghost use Rattle.std.specs.Prelude.{◌≡◌, IfOk, true};
 ghost use Rattle.std.specs.Str.{chars};
-ghost use Rattle.tinyjson_schema.specs.Walks.{IsDeeper};
+ghost use Rattle.tinyjson.specs.View.{view};
+ghost use Rattle.tinyjson_schema.specs.Leads.{are_led};
 
+use crate::leads::Lead;
 use std::alloc::Global;
 use tinyjson_schema_keywords as keywords;
 use tinyjson_schema_keywords::{CheckError, Whole};
 
-/// What is the same at each schema of a check: the whole schema, in which references lead, and whether `format` is an
-/// assertion.
+/// What is the same at each schema of a check: the whole schema, in which references lead, those that are followed
+/// already, and whether `format` is an assertion.
 #[derive(Clone, Copy)]
 pub struct Ground<'d, 's> {
     pub whole: &'d Whole<'s>,
+    pub leads: &'d [Lead<'s>],
     pub formats: bool,
+    pub ghost led: { are_led (view whole.now.root.now) leads.now ≡ true },
 }
 
 /// The ground of a check; how many more nested schemas may be applied; and the allocator. It is as small as may be, for
@@ -26,6 +30,8 @@ pub struct Walk<'d, 's> {
 }
 
 impl<'d, 's> Walk<'d, 's> {
+    ghost use Rattle.tinyjson_schema.specs.Walks.{IsDeeper};
+
     /// The walk in which references are followed.
     pub fn following(self) -> keywords::Walk<'d, 's>
         ensures { result.whole ≡ self.entry.ground.now.whole }

@@ -674,7 +674,7 @@ in_members-returns-in-Some-2 t c =
     let k = chars p.key.now in
     let part = c.in-Some.part in
     let r = view part.schema.now in
-    let applied = subst (λ o. IsMemberPart s k o) c.in-Some.is c.in_ok-part.ensures in
+    let applied = subst (λ o. IsMemberPart s k o) c.in-Some.is (c.in_ok-part.ensures c.schema_at-properties.ensures) in
     let inner = subst (λ o. Judges c.args.walk r (tree_of p.value) (Ok o)) c.in-Some-2.is c.in_ok-found.ensures in
     placed c.args.walk (λ f. members_accepted f s (members_of ps)) s (object (members_of ps)) c.enter_member.new.self _
     _ c.in_ok-enter_member.ensures
@@ -692,14 +692,14 @@ in_members-loop-member-preserved t c g =
       | in_members-in-Some+in_ok-found+in_default-2 w ↦
           let part = w.in-Some.part in
           let r = view part.schema.now in
-          let applied = subst (λ o. IsMemberPart s k o) w.in-Some.is c.in_ok-part.ensures in
+          let applied = subst (λ o. IsMemberPart s k o) w.in-Some.is (c.in_ok-part.ensures c.schema_at-properties.ensures) in
           members_turn (says c.args.walk g) s ps i p c.loop-member-test.true c.member-item.is
           (member_passes (says c.args.walk g) s k r u applied.0
           (subst (λ o. Judges c.args.walk r u (Ok o)) w.in_default-2.is w.in_ok-found.ensures g))
           (c.loop-member.invariant g)
       | in_members-in_default w ↦
           members_turn (says c.args.walk g) s ps i p c.loop-member-test.true c.member-item.is
-          (member_free (says c.args.walk g) s k u (subst (λ o. IsMemberPart s k o) w.in_default.is c.in_ok-part.ensures))
+          (member_free (says c.args.walk g) s k u (subst (λ o. IsMemberPart s k o) w.in_default.is (c.in_ok-part.ensures c.schema_at-properties.ensures)))
           (c.loop-member.invariant g)
     ]
 

@@ -1,0 +1,72 @@
+//! References that are followed once, when a schema is read.
+ghost use Rattle.std.specs.Prelude.{◌≡◌, option_map, IfOk, OnOk, true};
+ghost use Rattle.tinyjson.specs.View.{view};
+ghost use Rattle.tinyjson_schema.specs.Leads.{are_led, led};
+
+use std::alloc::{AllocError, Global};
+use tinyjson::JsonValue;
+use tinyjson_schema_keywords::{Keyword, SchemaMember, Walk, Whole, schema_members, target};
+
+/// How many references are kept. They are compared one by one.
+const KEPT: usize = 16;
+
+/// A reference by `$ref`, and the schema to which it leads.
+#[derive(Clone, Copy)]
+pub struct Lead<'s> {
+    pub reference: &'s String,
+    pub schema: &'s JsonValue,
+}
+
+/// The first references of the whole schema, up to 16 of them. The only error is out of memory.
+pub fn leads_of<'s>(whole: &Whole<'s>, alloc: Global) -> Result<Vec<Lead<'s>>, AllocError>
+    ensures { IfOk result (λ leads. are_led (view whole.now.root.now) leads.items ≡ true) }
+{
+    let members = schema_members(whole.root, alloc)?;
+    let walk = Walk {
+        whole,
+        steps: 0,
+        alloc,
+    };
+    let mut leads = Vec::new(alloc);
+    for member in members.as_slice() {
+        add_lead(*member, walk, &mut leads)?;
+    }
+    Ok(leads)
+}
+
+/// Appends the member, if it is a `$ref` that leads to a schema, and not too many are there.
+fn add_lead<'s>(
+    member: SchemaMember<'s>,
+    walk: Walk<'_, 's>,
+    leads: &mut Vec<Lead<'s>>,
+) -> Result<(), AllocError>
+    ensures { OnOk result (are_led (view walk.entry.whole.now.root.now) leads.old.items ≡ true
+        → are_led (view walk.entry.whole.now.root.now) leads.new.items ≡ true) }
+{
+    if leads.len() == KEPT {
+        return Ok(());
+    }
+    let Some(Keyword::Ref) = member.keyword else {
+        return Ok(());
+    };
+    let JsonValue::String(reference) = member.value else {
+        return Ok(());
+    };
+    let Some(schema) = target(member.value, walk)? else {
+        return Ok(());
+    };
+    leads.push(Lead { reference, schema })?;
+    Ok(())
+}
+
+/// The schema of the first of the references with this text.
+pub fn led<'s>(leads: &[Lead<'s>], reference: &str) -> Option<&'s JsonValue>
+    ensures { option_map (λ x. view x.now) result ≡ led leads.now reference.now }
+{
+    for lead in leads {
+        if lead.reference.as_str() == reference {
+            return Some(lead.schema);
+        }
+    }
+    None
+}
