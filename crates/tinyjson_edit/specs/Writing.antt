@@ -31,7 +31,8 @@ Encloses _ _ os u t = ⊥
 abbrev pub Waits : {E : Type 0} → (E → List Open → Type 0) → (E → Tree → Type 0) → List Open → Tree → List Left → E → Type 0
 Waits holds is os t [] e = Puts holds is os t e
 Waits holds is os t (left.Items xs ∷ rs) e =
-    (ts : List Tree) × (fs : List Open) × holds e (in_array ts ∷ fs) × Encloses rs fs os (array (after ts (items_tree (deque_iter_rest xs)))) t
+    (ts : List Tree) × (fs : List Open) × holds e (in_array ts ∷ fs)
+    × Encloses rs fs os (array (after ts (items_tree (deque_iter_rest xs)))) t
 Waits holds is os t (left.Members ms ∷ rs) e =
     (ns : Members) × (fs : List Open) × holds e (at_key ns ∷ fs) × Encloses rs fs os (object (put_members ns (listed ms))) t
 

@@ -161,7 +161,8 @@ spread f (u ∷ us) = map (under u) (f u) ++ spread f us
 abbrev pub every : Root → ℕ → Answers → Tree → Tree → List Spot
 every root zero g s t = cond (g.accepts s t) [] (here ∷ [])
 every root (suc n) g s t = cond (refuses_all s) (here ∷ [])
-    (map at_keyword (own root (judge root n g) s t) ++ spread (λ u. every root n g u.schema u.value) (uses root.tree (answers root n g) s t))
+    (map at_keyword (own root (judge root n g) s t)
+    ++ spread (λ u. every root n g u.schema u.value) (uses root.tree (answers root n g) s t))
 
 -- They are the first ones, up to the limit, of the violations of the root schema by t.
 abbrev pub AreFirst : ℕ → Root → ℕ → Tree → List Violation → Type 0
