@@ -75,14 +75,14 @@ LAST = "/43499"
 COMPACT = (*OVER, "documents")
 # Programs that read and free, by what they are called: the library, what they take of it, and how they read.
 READERS = {
-    "value": ("tinyjson", "tinyjson::JsonValue", "let Ok(_read) = JsonValue::from_str(alloc, text)"),
-    "document": ("tinyjson_document", "tinyjson_document::Document", "let Ok(_read) = Document::read(alloc, text)"),
+    "value": ("tinyjson", "tinyjson::JsonValue", "let Ok(_read) = JsonValue::from_str(alloc, text.as_str())"),
+    "document": ("tinyjson_document", "tinyjson_document::Document", "let Ok(_read) = Document::of_text(alloc, text)"),
     "json": (
         "json",
         "json::{Scratch, Value}",
-        "let mut scratch = Scratch::new(alloc);\n    let Ok(_read) = Value::parse(alloc, text, &mut scratch)",
+        "let mut scratch = Scratch::new(alloc);\n    let Ok(_read) = Value::parse(alloc, text.as_str(), &mut scratch)",
     ),
-    "serde_json": ("serde_json", "serde_json::Value", "let Ok(_read) = Value::from_str(alloc, text)"),
+    "serde_json": ("serde_json", "serde_json::Value", "let Ok(_read) = Value::from_str(alloc, text.as_str())"),
 }
 # What a program over `tinyjson` or `tinyjson_document` needs, the lowest first.
 LIBRARIES = (

@@ -13,17 +13,16 @@ use Rattle.tinyjson_output.specs.Buffer.{Output, SentPart, Sent, SendsFrom}
 use Rattle.tinyjson_output.proofs.Callers.{enc, enc_cons, two_bytes, null_bytes, quoted_bytes}
 use Rattle.tinyjson_output.proofs.Callers.{sent_goes as goes, sent_stops as stops, sent_stops_then as stops_then}
 use Rattle.tinyjson_output.proofs.Callers.{sent_written_none as written_none, sent_written_then as written_then}
-use Rattle.tinyjson_document.specs.Cell.{Is, IsBytes, IsKeptAt, IsShort}
-use Rattle.tinyjson_document.specs.Order.{part}
+use Rattle.tinyjson_document.specs.Cell.{Is, IsBytes, IsKeptAt}
 use Rattle.tinyjson_document.specs.Walking.{holds_others}
 use Rattle.tinyjson_document.specs.declared.store.Span.{Span}
 use Rattle.tinyjson_document.specs.declared.store.Cell.{Cell}
 use Rattle.tinyjson_document.specs.declared.store.Cell.TheVariants as node
 use Rattle.tinyjson_document.specs.declared.store.Store.{Store}
+use Rattle.tinyjson_document.specs.Texts.{part_of}
 use Rattle.tinyjson_document.proofs.Writing.{seen, empty_array, empty_object}
 use Rattle.tinyjson_document.proofs.Passing.{same_places}
 use Rattle.tinyjson_document.proofs.Places.{kept_there}
-use Rattle.tinyjson_document.proofs.Slices.{run_part}
 use Rattle.tinyjson_document.proofs.Stored.{number_bytes}
 
 -- what was appended is taken back
@@ -96,17 +95,17 @@ module _ (w : Option (List ℕ)) (k : ℕ) (s : Store) (t : Tree) (n : Cell) whe
   false_is b e f h =
       ap (λ z. enc (text w k z)) (seen s t (node.Boolean false) (subst (Is s t) (e ∙ ap node.Boolean f) h)) ∙ false_bytes
 
-  pub short_is : (p : Span) (b : List ℕ) → n ≡ node.Short p → b ≡ part s.texts.items p → Is s t n → enc (text w k t) ≡ b
+  pub short_is : (p : Span) (b : List ℕ) → n ≡ node.Short p → b ≡ part_of s.texts p → Is s t n → enc (text w k t) ≡ b
   short_is p b e f h =
       let v = seen s t (node.Short p) (subst (Is s t) e h) in
-      ap (λ z. enc (text w k z)) v.1 ∙ number_bytes v.0 v.2.canonical ∙ sym (run_part s.texts.items p (decimal_text v.0) v.2.run) ∙ sym f
+      ap (λ z. enc (text w k z)) v.1 ∙ number_bytes v.0 v.2.canonical ∙ sym v.2.text ∙ sym f
 
   pub kept_at : (i : ℕ) → n ≡ node.Kept i → Is s t n → (d : Decimal) × IsKeptAt s d i × (enc (text w k t) ≡ decimal_text d)
   kept_at i e h =
       let v = seen s t (node.Kept i) (subst (Is s t) e h) in
       (v.0, v.2, ap (λ z. enc (text w k z)) v.1 ∙ kept_bytes s v.0 i v.2)
 
-  pub string_is : (p : Span) (b : List ℕ) → n ≡ node.String p → b ≡ part s.texts.items p → Is s t n
+  pub string_is : (p : Span) (b : List ℕ) → n ≡ node.String p → b ≡ part_of s.texts p → Is s t n
       → enc (text w k t) ≡ 34 ∷ [] ++ (escapes b ++ 34 ∷ [])
   string_is p b e f h =
       let v = seen s t (node.String p) (subst (Is s t) e h) in

@@ -21,12 +21,13 @@ use Rattle.tinyjson_grammar.proofs.Callers.{find_put, find_below, sorted_put, me
 use Rattle.tinyjson_document.specs.Cell.{IsText, Is, AreMembers}
 use Rattle.tinyjson_document.specs.Order.{AreMembersBy}
 use Rattle.tinyjson_document.specs.Holding.{Entry, put_all, AreEntries, AreEntriesBy}
-use Rattle.tinyjson_document.specs.Order.{part, key_in, key_lt, paired, comes_again, lasts}
-use Rattle.tinyjson_document.proofs.Slices.{run_part}
+use Rattle.tinyjson_document.specs.Order.{key_in, key_lt, paired, comes_again, lasts}
 use Rattle.tinyjson_document.specs.declared.store.Span.{Span}
 use Rattle.tinyjson_document.specs.declared.store.Cell.{Cell}
 use Rattle.tinyjson_document.specs.declared.store.Member.{Member}
 use Rattle.tinyjson_document.specs.declared.store.Store.{Store}
+use Rattle.tinyjson_document.specs.declared.texts.Texts.{Texts}
+use Rattle.tinyjson_document.specs.Texts.{part_of}
 
 abbrev enc : List ℕ → List ℕ
 enc = encode_utf8_all
@@ -109,7 +110,7 @@ absorbs false o y z = or_none (or_some o None)
 absorbs true None y z = refl
 absorbs true (Some x) y z = refl
 
-module _ (xs : List ℕ) where
+module _ (xs : Texts) where
   abbrev last_at : List ℕ → List Member → Option Member
   last_at b [] = None
   last_at b (m ∷ ms) = or_some (last_at b ms) (cond (bytes_eq b (key_in xs m)) (Some m) None)
@@ -181,8 +182,8 @@ module _ (xs : List ℕ) where
 
 -- ---- the bytes of a key
 
-text_bytes : (s : Store) (k : List ℕ) (p : Span) → IsText s k p → part s.texts.items p ≡ enc k
-text_bytes s k p h = run_part s.texts.items p h.bytes h.run ∙ sym (encodes-chars h.bytes h.utf8) ∙ ap enc (sym h.characters)
+text_bytes : (s : Store) (k : List ℕ) (p : Span) → IsText s k p → part_of s.texts p ≡ enc k
+text_bytes s k p h = sym (encodes-chars (part_of s.texts p) h.utf8) ∙ ap enc (sym h.characters)
 
 sorted_put_all : (ms : Members) (es : List Entry) → IsSorted ms → IsSorted (put_all ms es)
 sorted_put_all ms [] h = h
@@ -190,8 +191,8 @@ sorted_put_all ms (e ∷ es) h = sorted_put_all (put e.0 e.1 ms) es (sorted_put 
 
 -- what a value stands for at its key
 module _ (s : Store) (R : List ℕ → Tree → Cell → Type 0) where
-  abbrev xs : List ℕ
-  xs = s.texts.items
+  abbrev xs : Texts
+  xs = s.texts
 
   -- what is found at a key is what the last member with it stands for
   abbrev Agrees : List ℕ → Option Tree → Option Member → Option Tree → Type 0
@@ -207,10 +208,10 @@ module _ (s : Store) (R : List ℕ → Tree → Cell → Type 0) where
   agrees (e ∷ es) (k ∷ ks) [] ms h q = absurd h
   agrees (e ∷ es) (k ∷ ks) (v ∷ vs) ms h q = step (last_at xs (enc q) (paired ks vs)) (agrees es ks vs (put e.0 e.1 ms) h.2 q)
     where
-      same : (c : Bool) → bytes_eq (enc q) (part xs k) ≡ c → bytes_eq q e.0 ≡ c
+      same : (c : Bool) → bytes_eq (enc q) (part_of xs k) ≡ c → bytes_eq q e.0 ≡ c
       same c g = sym (same_bytes_eq q e.0) ∙ ap (bytes_eq (enc q)) (sym (text_bytes s e.0 k h.0)) ∙ g
 
-      at : (c : Bool) → bytes_eq (enc q) (part xs k) ≡ c → find q (put_all (put e.0 e.1 ms) es) ≡ find q (put e.0 e.1 ms)
+      at : (c : Bool) → bytes_eq (enc q) (part_of xs k) ≡ c → find q (put_all (put e.0 e.1 ms) es) ≡ find q (put e.0 e.1 ms)
           → Agrees q (find q (put_all (put e.0 e.1 ms) es)) (cond c (Some (record { key = k; value = v })) None) (find q ms)
       at true g a =
           let here = same true g in (
@@ -223,13 +224,13 @@ module _ (s : Store) (R : List ℕ → Tree → Cell → Type 0) where
       at false g a = a ∙ find_put q e.0 e.1 ms ∙ ap (λ z. cond z (Some e.1) (find q ms)) (same false g)
 
       step : (p : Option Member) → Agrees q (find q (put_all (put e.0 e.1 ms) es)) p (find q (put e.0 e.1 ms))
-          → Agrees q (find q (put_all (put e.0 e.1 ms) es)) (or_some p (cond (bytes_eq (enc q) (part xs k)) (Some (record {
+          → Agrees q (find q (put_all (put e.0 e.1 ms) es)) (or_some p (cond (bytes_eq (enc q) (part_of xs k)) (Some (record {
             key =
                 k;
             value = v;
           })) None)) (find q ms)
       step (Some m) a = a
-      step None a = at (bytes_eq (enc q) (part xs k)) refl a
+      step None a = at (bytes_eq (enc q) (part_of xs k)) refl a
 
   abbrev HasText : Member → Type 0
   HasText m = (k : List ℕ) × IsText s k m.key
@@ -378,7 +379,7 @@ are_members s (member k t ms) [] h = h
 are_members s (member k t ms) (e ∷ es) h = (h.0, h.1, are_members s ms es h.2)
 
 pub gathered : (s : Store) (es : List Entry) (ks : List Span) (vs : List Cell) (ns : List Member) → AreEntries s es ks vs
-    → IsPermutation (paired ks vs) ns → IsSortedBy (key_lt s.texts.items) ns → IsStableBy (key_lt s.texts.items) (paired ks vs) ns
-    → AreMembers s (put_all no_members es) (lasts s.texts.items ns)
+    → IsPermutation (paired ks vs) ns → IsSortedBy (key_lt s.texts) ns → IsStableBy (key_lt s.texts) (paired ks vs) ns
+    → AreMembers s (put_all no_members es) (lasts s.texts ns)
 gathered s es ks vs ns h permuted sorted stable =
     are_members s _ _ (gathered_by s (λ k t n. Is s t n) es ks vs ns h permuted sorted stable)

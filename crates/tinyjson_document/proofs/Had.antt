@@ -9,9 +9,7 @@ use native.Mathlib.Decide.{ℕ_discrete}
 use native.Mathlib.Bridge.{le_prop}
 use Rattle.std.proofs.lemmas.List.{drop_at, length-take-le, take-append-drop}
 use Rattle.std.proofs.lemmas.Str.{IsUtf8-had}
-use Rattle.std.specs.Str.{IsUtf8, chars}
 use Rattle.tinyjson_number.specs.Decimal.{Decimal}
-use Rattle.tinyjson_number.specs.Text.{decimal_text}
 use Rattle.tinyjson_grammar.specs.Kind.{kind_of}
 use Rattle.tinyjson_grammar.specs.Tree.{Tree, null, boolean, number, string, array, object}
 use Rattle.tinyjson_grammar.specs.Tree.{Items, no_items, item, Members, no_members, member}
@@ -20,6 +18,7 @@ use Rattle.tinyjson_document.specs.declared.store.Cell.{Cell}
 use Rattle.tinyjson_document.specs.declared.store.Cell.TheVariants as node
 use Rattle.tinyjson_document.specs.declared.store.Member.{Member}
 use Rattle.tinyjson_document.specs.declared.store.Store.{Store}
+use Rattle.tinyjson_document.specs.Texts.{part_of}
 use Rattle.tinyjson_document.specs.Cell.{IsRun, IsText, IsKeptAt, IsShort, IsNumber, Is, Are, AreMembers}
 use Rattle.tinyjson_document.specs.Known.{kind_in, kind_is, run_one, Decimal_set}
 
@@ -69,12 +68,10 @@ run_had xs p h =
 
 text_had : (s : Store) (cs : List ℕ) (p : Span) → ∥ IsText s cs p ∥₁ → IsText s cs p
 text_had s cs p h =
-    let run = run_had s.texts.items p (∥∥₁_map h (λ g. (g.bytes, g.run))) in
     record {
-      bytes = run.0;
-      run = run.1;
-      utf8 = IsUtf8-had run.0 (∥∥₁_map h (λ g. subst IsUtf8 (run_one _ p _ _ g.run run.1) g.utf8));
-      characters = ∥∥₁_elim h (Codes_set _ _) (λ g. g.characters ∙ ap chars (run_one _ p _ _ g.run run.1));
+      within = ∥∥₁_elim h le_prop (λ g. g.within);
+      utf8 = IsUtf8-had (part_of s.texts p) (∥∥₁_map h (λ g. g.utf8));
+      characters = ∥∥₁_elim h (Codes_set _ _) (λ g. g.characters);
     }
 
 kept_had : (s : Store) (d : Decimal) (i : ℕ) → ∥ IsKeptAt s d i ∥₁ → IsKeptAt s d i
@@ -101,10 +98,9 @@ kept_had s d i h = by (drop i s.kept.items) refl
 
 short_had : (s : Store) (d : Decimal) (p : Span) → ∥ IsShort s d p ∥₁ → IsShort s d p
 short_had s d p h =
-    let run = run_had s.texts.items p (∥∥₁_map h (λ g. (decimal_text d, g.run))) in
-    let same : run.0 ≡ decimal_text d = ∥∥₁_elim h (Codes_set _ _) (λ g. run_one s.texts.items p run.0 (decimal_text d) run.1 g.run) in
     record {
-      run = subst (IsRun s.texts.items p) same run.1;
+      within = ∥∥₁_elim h le_prop (λ g. g.within);
+      text = ∥∥₁_elim h (Codes_set _ _) (λ g. g.text);
       few = ∥∥₁_elim h le_prop (λ g. g.few);
       canonical = ∥∥₁_elim h (Bool-set _ _) (λ g. g.canonical);
     }

@@ -6,6 +6,7 @@ use Rattle.tinyjson_document.specs.Order.{paired, comes_again, lasts}
 use Rattle.tinyjson_document.specs.declared.store.Span.{Span}
 use Rattle.tinyjson_document.specs.declared.store.Cell.{Cell}
 use Rattle.tinyjson_document.specs.declared.store.Member.{Member}
+use Rattle.tinyjson_document.specs.declared.texts.Texts.{Texts}
 
 -- ---- pairs
 
@@ -43,10 +44,10 @@ either : (b : Bool) (ms ns : List Member) (m : Member) → (ms ++ cond b [] (m �
 either true ms ns m = ap (λ z. z ++ ns) (append-nil ms)
 either false ms ns m = append_assoc ms (m ∷ []) ns
 
-pub lasts_next : (xs : List ℕ) (old ms new : List Member) (m : Member) (rest others : List Member) → rest ≡ m ∷ others
+pub lasts_next : (xs : Texts) (old ms new : List Member) (m : Member) (rest others : List Member) → rest ≡ m ∷ others
     → new ≡ ms ++ cond (comes_again xs m others) [] (m ∷ []) → ms ++ lasts xs rest ≡ old → new ++ lasts xs others ≡ old
 lasts_next xs old ms new m rest others e n h =
     ap (λ z. z ++ lasts xs others) n ∙ either (comes_again xs m others) ms (lasts xs others) m ∙ ap (λ z. ms ++ lasts xs z) (sym e) ∙ h
 
-pub lasts_end : (xs : List ℕ) (old ms rest : List Member) → length rest ≡ 0 → ms ++ lasts xs rest ≡ old → ms ≡ old
+pub lasts_end : (xs : Texts) (old ms rest : List Member) → length rest ≡ 0 → ms ++ lasts xs rest ≡ old → ms ≡ old
 lasts_end xs old ms rest n h = sym (append-nil ms) ∙ ap (λ z. ms ++ lasts xs z) (sym (nil_from_length rest n)) ∙ h

@@ -16,6 +16,7 @@ use Rattle.std.proofs.lemmas.Cmp.{nat_list_cmp_total}
 use Rattle.std.proofs.lemmas.List.MinMax.{ranks_by}
 use Rattle.tinyjson_document.specs.Order.{IsOrdered, key_in, key_lt, is_below_next, lasts, rise}
 use Rattle.tinyjson_document.specs.declared.store.Member.{Member}
+use Rattle.tinyjson_document.specs.declared.texts.Texts.{Texts}
 use Rattle.tinyjson_document.proofs.Callers.{rise_lasts, rise_sorted}
 
 module _ {X : Type 0} where
@@ -139,7 +140,7 @@ module _ {X : Type 0} (lt : X → X → Bool) (o : IsStrictWeakOrder lt) where
 
 -- ---- members whose keys rise
 
-module _ (xs : List ℕ) where
+module _ (xs : Texts) where
   order : IsStrictWeakOrder (key_lt xs)
   order = ranks_by nat_list_cmp_total (key_in xs)
 

@@ -1,8 +1,9 @@
 -- What is known of a place in a document, by its cell.
-use Rattle.std.proofs.Common.{◌≡◌, ℕ, zero, suc, Bool, List, [], ◌∷◌, Option, Some, None, option_map, slice_get}
+use Rattle.std.proofs.Common.{◌≡◌, ℕ, zero, suc, Bool, true, false, List, [], ◌∷◌, Option, Some, None, option_map, slice_get}
 use Rattle.std.proofs.Common.{◌++◌, inl, inr, length, refl, sym, ◌∙◌, ap, subst}
 use mathlib.Core.Logic.{∥∥₁_map}
 use Rattle.std.specs.Str.{chars}
+use Rattle.tinyjson.specs.Access.{is_number, is_string}
 use Rattle.tinyjson.specs.Index.{item_count, nth, tree_at}
 use Rattle.tinyjson_number.specs.Decimal.{Decimal}
 use Rattle.tinyjson_grammar.specs.Kind.{kind_of}
@@ -18,7 +19,7 @@ use Rattle.tinyjson_document.specs.declared.store.Store.{Store}
 use Rattle.tinyjson_document.specs.Cell.{IsText, IsKeptAt, IsShort, IsNumber, IsBytes, Is, Are, AreMembers}
 use Rattle.tinyjson_document.specs.Known.{Known, KnownItems, KnownMembers, kind_in, kind_is, known_are, known_members}
 use Rattle.tinyjson_document.specs.Known.{known_one, items_one, members_same}
-use Rattle.tinyjson_document.specs.Order.{part}
+use Rattle.tinyjson_document.specs.Texts.{part, part_of}
 use Rattle.tinyjson_document.specs.Parts.{boolean_in, number_in, string_in, items_in, members_in, member_count, size}
 use Rattle.tinyjson_document.proofs.Had.{is_had, are_had, members_had}
 use Rattle.tinyjson_document.proofs.Slices.{run_part, text_part}
@@ -30,7 +31,7 @@ boolean_at (node.Boolean b) = Some b
 boolean_at _ = None
 
 abbrev pub string_at : Store → Cell → Option (List ℕ)
-string_at s (node.String p) = Some (chars (part s.texts.items p))
+string_at s (node.String p) = Some (chars (part_of s.texts p))
 string_at s _ = None
 
 abbrev pub cells_at : Store → Cell → List Cell
@@ -45,6 +46,15 @@ abbrev pub size_at : Store → Cell → ℕ
 size_at s (node.Array p) = length (part s.items.items p)
 size_at s (node.Object p) = length (part s.members.items p)
 size_at s _ = 0
+
+abbrev pub is_string_cell : Cell → Bool
+is_string_cell (node.String p) = true
+is_string_cell _ = false
+
+abbrev pub is_number_cell : Cell → Bool
+is_number_cell (node.Short p) = true
+is_number_cell (node.Kept i) = true
+is_number_cell _ = false
 
 module _ (s : Store) where
   boolean_is : (t : Tree) (n : Cell) → Is s t n → boolean_at n ≡ boolean_in t
@@ -155,17 +165,17 @@ module _ (s : Store) where
   size_known n k = size_is k.tree n (known_had n k)
 
   -- the bytes of a string are its characters in UTF-8
-  string_bytes_is : (t : Tree) (p : Span) → Is s t (node.String p) → (cs : List ℕ) × IsBytes cs (part s.texts.items p)
+  string_bytes_is : (t : Tree) (p : Span) → Is s t (node.String p) → (cs : List ℕ) × IsBytes cs (part_of s.texts p)
   string_bytes_is null p h = absurd cc
   string_bytes_is (boolean b) p h = absurd cc
   string_bytes_is (number d) p (inl h) = let e = h.1 in absurd cc
   string_bytes_is (number d) p (inr h) = let e = h.1 in absurd cc
   string_bytes_is (string cs) p h = let e = h.1 in let same : h.0 ≡ p = cc in
-      (cs, subst (λ q. IsBytes cs (part s.texts.items q)) same (text_part s cs h.0 h.2))
+      (cs, subst (λ q. IsBytes cs (part_of s.texts q)) same (text_part s cs h.0 h.2))
   string_bytes_is (array ts) p h = let e = h.1 in absurd cc
   string_bytes_is (object ms) p h = let e = h.1 in absurd cc
 
-  pub string_bytes_known : (p : Span) (k : Known s (node.String p)) → (cs : List ℕ) × IsBytes cs (part s.texts.items p)
+  pub string_bytes_known : (p : Span) (k : Known s (node.String p)) → (cs : List ℕ) × IsBytes cs (part_of s.texts p)
   string_bytes_known p k = string_bytes_is k.tree p (known_had _ k)
 
   pub items_sound : (t : Tree) → IsTree t → IsTree (array (items_in t))
@@ -362,7 +372,7 @@ module _ (s : Store) where
 
   -- the text of a key is there, and its characters are the tree's
   pub key_text : (es : List Member) (e : Member) (rest : List Member) (h : es ≡ e ∷ rest) (k : KnownMembers s es)
-      → IsBytes (first_member es e rest h k).key (part s.texts.items e.key)
+      → IsBytes (first_member es e rest h k).key (part_of s.texts e.key)
   key_text es e rest h k = text_part s _ e.key (first_member es e rest h k).text
 
   pub member_joins : (es : List Member) (e : Member) (rest : List Member) (h : es ≡ e ∷ rest) (k : KnownMembers s es) (cs : List ℕ)
@@ -370,3 +380,38 @@ module _ (s : Store) where
   member_joins es e rest h k cs c l m =
       let next = first_member es e rest h k in
       next.joined ∙ (λ i. member (c i) (known_one s e.value next.here l i) (members_same s rest next.later m i))
+
+  -- ---- tests of kinds
+
+  string_kind : (t : Tree) (n : Cell) → Is s t n → is_string_cell n ≡ is_string t
+  string_kind null n h = ap is_string_cell h
+  string_kind (boolean b) n h = ap is_string_cell h
+  string_kind (number d) n (inl h) = ap is_string_cell h.1
+  string_kind (number d) n (inr h) = ap is_string_cell h.1
+  string_kind (string cs) n h = ap is_string_cell h.1
+  string_kind (array ts) n h = ap is_string_cell h.1
+  string_kind (object ms) n h = ap is_string_cell h.1
+
+  number_kind : (t : Tree) (n : Cell) → Is s t n → is_number_cell n ≡ is_number t
+  number_kind null n h = ap is_number_cell h
+  number_kind (boolean b) n h = ap is_number_cell h
+  number_kind (number d) n (inl h) = ap is_number_cell h.1
+  number_kind (number d) n (inr h) = ap is_number_cell h.1
+  number_kind (string cs) n h = ap is_number_cell h.1
+  number_kind (array ts) n h = ap is_number_cell h.1
+  number_kind (object ms) n h = ap is_number_cell h.1
+
+  pub string_tested : (n : Cell) (k : Known s n) → is_string_cell n ≡ is_string k.tree
+  string_tested n k = string_kind k.tree n (known_had s n k)
+
+  pub number_tested : (n : Cell) (k : Known s n) → is_number_cell n ≡ is_number k.tree
+  number_tested n k = number_kind k.tree n (known_had s n k)
+
+  pub no_string_cell : (n : Cell) → ((p : Span) → n ≡ node.String p → ⊥) → is_string_cell n ≡ false
+  no_string_cell (node.String p) h = absurd (h p refl)
+  no_string_cell _ h = refl
+
+  pub no_number_cell : (n : Cell) → ((p : Span) → n ≡ node.Short p → ⊥) → ((i : ℕ) → n ≡ node.Kept i → ⊥) → is_number_cell n ≡ false
+  no_number_cell (node.Short p) h k = absurd (h p refl)
+  no_number_cell (node.Kept i) h k = absurd (k i refl)
+  no_number_cell _ h k = refl

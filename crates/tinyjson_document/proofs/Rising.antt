@@ -13,6 +13,7 @@ use Rattle.tinyjson_document.specs.Cell.{IsRun}
 use Rattle.tinyjson_document.specs.Order.{key_in, key_lt, comes_again, lasts, is_below_next, rise, IsOrdered}
 use Rattle.tinyjson_document.specs.declared.store.Span.{Span}
 use Rattle.tinyjson_document.specs.declared.store.Member.{Member}
+use Rattle.tinyjson_document.specs.declared.texts.Texts.{Texts}
 use Rattle.tinyjson_document.proofs.Gathered.{apart}
 
 abbrev cmp : List ℕ → List ℕ → Ordering
@@ -29,7 +30,7 @@ not_above a b h = ap is_lt (nat_list_cmp_total.antisymm b a ∙ ap ordering_reve
 further : (k : ℕ) → suc (k + 1) ≡ suc k + 1
 further k = omega arith
 
-module _ (xs : List ℕ) where
+module _ (xs : Texts) where
   not_again : (m : Member) (ms : List Member) → is_below_next xs m ms ≡ true → comes_again xs m ms ≡ false
   not_again m [] h = refl
   not_again m (n ∷ ns) h = apart (key_in xs m) (key_in xs n) Less (less_from (cmp (key_in xs m) (key_in xs n)) h) (λ e. cc)

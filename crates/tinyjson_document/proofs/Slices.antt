@@ -1,29 +1,9 @@
 -- Slices up to the end, and runs.
-use Rattle.std.proofs.Common.{
-  ◌≡◌,
-  ℕ,
-  ◌+◌,
-  ◌-◌,
-  min,
-  List,
-  [],
-  ◌++◌,
-  length,
-  take,
-  drop,
-  refl,
-  sym,
-  ◌∙◌,
-  ap,
-  subst,
-  length-append,
-  length-drop,
-  arith,
-}
+use Rattle.std.proofs.Common.{◌≡◌, ℕ, ◌+◌, ◌-◌, min, List, [], ◌++◌, length, take, drop, refl, ◌∙◌, ap, length-append, length-drop, arith}
 use Rattle.std.specs.List.{slice_range}
 use Rattle.std.proofs.lemmas.List.{take_all, take_at, drop_at}
 use Rattle.tinyjson_document.specs.Cell.{IsRun, IsText, IsBytes}
-use Rattle.tinyjson_document.specs.Order.{part}
+use Rattle.tinyjson_document.specs.Texts.{part, part_of}
 use Rattle.tinyjson_document.specs.declared.store.Span.{Span}
 use Rattle.tinyjson_document.specs.declared.store.Store.{Store}
 
@@ -48,5 +28,5 @@ part_empty xs p e =
     ap (λ n. take n (drop from xs)) none
 
 -- the text that stands there, as bytes
-pub text_part : (s : Store) (cs : List ℕ) (p : Span) → IsText s cs p → IsBytes cs (part s.texts.items p)
-text_part s cs p h = subst (IsBytes cs) (sym (run_part s.texts.items p h.bytes h.run)) (h.utf8, h.characters)
+pub text_part : (s : Store) (cs : List ℕ) (p : Span) → IsText s cs p → IsBytes cs (part_of s.texts p)
+text_part s cs p h = (h.utf8, h.characters)

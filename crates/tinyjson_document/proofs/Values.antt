@@ -13,7 +13,7 @@ use Rattle.std.specs.Str.{IsUtf8, chars}
 use Rattle.std.specs.String.{string_eq, string_eq_equiv}
 use Rattle.std.proofs.lemmas.Map.{lookup-none}
 use Rattle.std.proofs.lemmas.Map.Entries.{none_past_head}
-use Rattle.tinyjson.proofs.Callers.{view_Number, view_Boolean, view_String, view_Array, view_Object, tree_at_view, tree_at_key_view}
+use Rattle.tinyjson.proofs.Callers.{view_Number, view_Boolean, view_String, view_Array, view_Object}
 use Rattle.tinyjson.proofs.Callers.{find_members_view, key_same, IsUtf8-string_bytes}
 use Rattle.tinyjson.proofs.Callers.{no_array, no_boolean, no_number, no_object, no_string, view_ref, Entry}
 use Rattle.tinyjson.specs.Access.{JsonMap}
@@ -23,7 +23,7 @@ use Rattle.tinyjson.specs.declared.value.JsonValue.{JsonValue}
 use Rattle.tinyjson.specs.declared.value.JsonValue.TheVariants as made
 use Rattle.tinyjson_number.specs.Decimal.{Decimal}
 use Rattle.tinyjson_number.specs.declared.number.JsonNumber.{JsonNumber}
-use Rattle.tinyjson_grammar.specs.Tree.{Tree, null, boolean, number, string, array, object, put}
+use Rattle.tinyjson_grammar.specs.Tree.{Tree, boolean, number, string, array, object, put}
 use Rattle.tinyjson_grammar.specs.Tree.{Items, Members, no_members, member, find, key_cmp}
 use Rattle.tinyjson_document.specs.Parts.{boolean_in, number_in, string_in, member_count, size}
 

@@ -3,7 +3,9 @@ use Rattle.std.proofs.Common.{◌≡◌, ℕ, List, [], ◌∷◌, ◌++◌, len
 use Rattle.std.proofs.lemmas.List.{take_at, drop_at, same_from_push}
 use Rattle.tinyjson_grammar.specs.Tree.{Tree, array, object, items_of, Members, no_members, put}
 use Rattle.tinyjson.specs.Events.{Open, in_array, at_key, at_value, Puts}
-use Rattle.tinyjson_document.specs.Cell.{IsRun, IsText, Is, Are, AreMembers, Grows}
+use Rattle.tinyjson_document.specs.Cell.{IsRun, IsText, Is, Are, AreMembers, Extends, Grows}
+use Rattle.tinyjson_document.specs.Texts.{source_bytes}
+use Rattle.tinyjson_document.specs.declared.arena.Built.{Built}
 use Rattle.tinyjson_document.specs.Holding.{
   Entry,
   put_all,
@@ -16,6 +18,10 @@ use Rattle.tinyjson_document.specs.Holding.{
   waiting_in,
   Holds,
   IsTree,
+  HoldsOver,
+  IsBuilt,
+  IsOver,
+  IsTreeOver,
 }
 use Rattle.tinyjson_document.specs.declared.store.Span.{Span}
 use Rattle.tinyjson_document.specs.declared.store.Cell.{Cell}
@@ -193,9 +199,9 @@ pub closes_object : (a b : Arena) (ms : Members) (fs : List Open) (p : Span) (pl
     → Holds a (at_key ms ∷ fs) → a.open.items ≡ places ++ place ∷ []
     → ks ≡ drop place.keys a.keys.items → keys ≡ take place.keys a.keys.items
     → vs ≡ drop place.values a.values.items → values ≡ take place.values a.values.items
-    → IsPermutation (paired ks vs) ns → IsSortedBy (key_lt a.store.texts.items) ns
-    → IsStableBy (key_lt a.store.texts.items) (paired ks vs) ns
-    → Grows a.store b.store → IsRun b.store.members.items p (lasts a.store.texts.items ns)
+    → IsPermutation (paired ks vs) ns → IsSortedBy (key_lt a.store.texts) ns
+    → IsStableBy (key_lt a.store.texts) (paired ks vs) ns
+    → Grows a.store b.store → IsRun b.store.members.items p (lasts a.store.texts ns)
     → b.open.items ≡ places → b.keys.items ≡ keys → b.values.items ≡ values ++ node.Object p ∷ []
     → Puts Holds IsTree fs (object ms) b
 closes_object a b ms fs p place places ks keys vs values ns h o dk tk dv tv permuted sorted stable g run eo ek ev =
@@ -203,14 +209,14 @@ closes_object a b ms fs p place places ks keys vs values ns h o dk tk dv tv perm
     let waiting : AreEntries a.store h.4.entries ks vs =
     subst (λ z. AreEntries a.store h.4.entries z vs) (sym (dk
     ∙ inner.own_keys)) (subst (AreEntries a.store h.4.entries h.1) (sym (dv ∙ inner.own_values)) h.4.waiting) in
-    let are = members_still a.store b.store (put_all no_members h.4.entries) (lasts a.store.texts.items ns) g
+    let are = members_still a.store b.store (put_all no_members h.4.entries) (lasts a.store.texts ns) g
     (gathered a.store h.4.entries ks vs ns waiting permuted sorted stable) in
     puts_in b.store h.0 fs (object ms) (node.Object p) b (holds_still a.store b.store h.0 fs g h.5) (
       p,
       refl,
-      lasts a.store.texts.items ns,
+      lasts a.store.texts ns,
       run,
-      subst (λ z. AreMembers b.store z (lasts a.store.texts.items ns))
+      subst (λ z. AreMembers b.store z (lasts a.store.texts ns))
           (sym h.4.members) are,
     ) refl
     (λ x. record {
@@ -248,3 +254,29 @@ awaits_value a b ms fs k p h g text eo ek ev =
       },
       holds_still a.store b.store h.0 fs g h.5,
     )
+
+-- the text that the arena is over stays
+pub puts_over : (s a : Arena) (os : List Open) (t : Tree) → Puts Holds IsTree os t a → IsOver s a
+    → Puts (HoldsOver s) (IsTreeOver s) os t a
+puts_over s a [] t h o = (h, o)
+puts_over s a (in_array ts ∷ os) t h o = (h, o)
+puts_over s a (at_key ms ∷ os) t h o = tt
+puts_over s a (at_value ms k ∷ os) t h o = (h, o)
+
+-- what was built over a text that is kept
+same_list : {A : Type 0} (xs ys : List A) → xs ≡ ys → Extends xs ys
+same_list xs ys e = ([], sym e ∙ sym (append-nil xs))
+
+pub built_over : (b : Built) (bytes : List ℕ) (s : Store) (t : Tree) → IsBuilt bytes b t → source_bytes s.texts.source ≡ bytes
+    → s.texts.added.items ≡ b.store.texts.added.items → s.kept.items ≡ b.store.kept.items → s.items.items ≡ b.store.items.items
+    → s.members.items ≡ b.store.members.items → Is s t b.root
+built_over b bytes s t h source added kept items members = is_still h.store s t b.root (record {
+  texts = record {
+    source = h.text ∙ sym source;
+    more = [];
+    added = added ∙ sym h.added ∙ sym (append-nil h.store.texts.added.items);
+  };
+  kept = same_list _ _ (h.kept ∙ sym kept);
+  items = same_list _ _ (h.items ∙ sym items);
+  members = same_list _ _ (h.members ∙ sym members);
+}) h.is

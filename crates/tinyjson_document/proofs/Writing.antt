@@ -44,6 +44,7 @@ use Rattle.tinyjson_document.specs.declared.store.Cell.{Cell}
 use Rattle.tinyjson_document.specs.declared.store.Cell.TheVariants as node
 use Rattle.tinyjson_document.specs.declared.store.Member.{Member}
 use Rattle.tinyjson_document.specs.declared.store.Store.{Store}
+use Rattle.tinyjson_document.specs.Texts.{part_of}
 use Rattle.tinyjson_document.specs.declared.walk.Rest.{Rest}
 use Rattle.tinyjson_document.specs.declared.walk.Rest.TheVariants as rest
 use Rattle.tinyjson_document.proofs.Slices.{part_empty, run_part, text_part}
@@ -55,7 +56,7 @@ Seen s node.Null t = t ≡ null
 Seen s (node.Boolean b) t = t ≡ boolean b
 Seen s (node.Short p) t = (d : _) × (t ≡ number d) × IsShort s d p
 Seen s (node.Kept i) t = (d : _) × (t ≡ number d) × IsKeptAt s d i
-Seen s (node.String p) t = (cs : List ℕ) × (t ≡ string cs) × IsBytes cs (part s.texts.items p)
+Seen s (node.String p) t = (cs : List ℕ) × (t ≡ string cs) × IsBytes cs (part_of s.texts p)
 Seen s (node.Array p) t = (ts : Items) × (t ≡ array ts) × Are s ts (part s.items.items p)
 Seen s (node.Object p) t = (ms : Members) × (t ≡ object ms) × AreMembers s ms (part s.members.items p)
 
@@ -286,7 +287,7 @@ module _ (w : Option (List ℕ)) where
 
   pub record NextMember (s : Store) (m : Member) (es : List Member) (first : Bool) (rs : List Rest) (k : ℕ) (xs : List ℕ) : Type 0 where
     pub key : List ℕ
-    pub is_key : IsBytes key (part s.texts.items m.key)
+    pub is_key : IsBytes key (part_of s.texts m.key)
     pub tree : Tree
     pub is : Is s tree m.value
     pub own : List ℕ

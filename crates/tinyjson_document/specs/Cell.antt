@@ -7,6 +7,7 @@ use Rattle.tinyjson_number.specs.Number.{Canonical}
 use Rattle.tinyjson_number.specs.Text.{decimal_text}
 use Rattle.tinyjson_grammar.specs.Tree.{Tree, null, boolean, number, string, array, object}
 use Rattle.tinyjson_grammar.specs.Tree.{Items, no_items, item, Members, no_members, member}
+use Rattle.tinyjson_document.specs.Texts.{part_of, IsWithin, TextsGrow}
 use Rattle.tinyjson_document.specs.declared.store.Span.{Span}
 use Rattle.tinyjson_document.specs.declared.store.Cell.{Cell}
 use Rattle.tinyjson_document.specs.declared.store.Cell.TheVariants as node
@@ -27,10 +28,9 @@ IsBytes cs bytes = IsUtf8 bytes × (cs ≡ chars bytes)
 
 -- the range has these characters in UTF-8
 pub record IsText (s : Store) (cs : List ℕ) (p : Span) : Type 0 where
-  pub bytes : List ℕ
-  pub run : IsRun s.texts.items p bytes
-  pub utf8 : IsUtf8 bytes
-  pub characters : cs ≡ chars bytes
+  pub within : IsWithin s.texts p
+  pub utf8 : IsUtf8 (part_of s.texts p)
+  pub characters : cs ≡ chars (part_of s.texts p)
 
 -- the number that is kept at the index
 pub record IsKeptAt (s : Store) (d : Decimal) (n : ℕ) : Type 0 where
@@ -43,7 +43,8 @@ pub record IsKeptAt (s : Store) (d : Decimal) (n : ℕ) : Type 0 where
 
 -- the range has the text of the number, which is short
 pub record IsShort (s : Store) (d : Decimal) (p : Span) : Type 0 where
-  pub run : IsRun s.texts.items p (decimal_text d)
+  pub within : IsWithin s.texts p
+  pub text : part_of s.texts p ≡ decimal_text d
   pub few : length (decimal_text d) ≤ 24
   pub canonical : IsDecimal d
 
@@ -77,7 +78,7 @@ abbrev pub Extends : {A : Type 0} → List A → List A → Type 0
 Extends {A} xs ys = (more : List A) × (ys ≡ xs ++ more)
 
 pub record Grows (old new : Store) : Type 0 where
-  pub texts : Extends old.texts.items new.texts.items
+  pub texts : TextsGrow old.texts new.texts
   pub kept : Extends old.kept.items new.kept.items
   pub items : Extends old.items.items new.items.items
   pub members : Extends old.members.items new.members.items

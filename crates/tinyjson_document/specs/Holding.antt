@@ -3,11 +3,13 @@ use Rattle.std.specs.Prelude.{◌≡◌, ℕ, List, [], ◌∷◌, ◌++◌, len
 use Rattle.tinyjson_grammar.specs.Tree.{Tree, items_of, Members, no_members, put}
 use Rattle.tinyjson.specs.Events.{Open, in_array, at_key, at_value}
 use Rattle.tinyjson_document.specs.Cell.{Is, Are, IsText}
+use Rattle.tinyjson_document.specs.Texts.{source_bytes}
 use Rattle.tinyjson_document.specs.declared.store.Span.{Span}
 use Rattle.tinyjson_document.specs.declared.store.Cell.{Cell}
 use Rattle.tinyjson_document.specs.declared.store.Store.{Store}
 use Rattle.tinyjson_document.specs.declared.arena.Place.{Place}
 use Rattle.tinyjson_document.specs.declared.arena.Arena.{Arena}
+use Rattle.tinyjson_document.specs.declared.arena.Built.{Built}
 
 -- a key and its value
 abbrev pub Entry : Type 0
@@ -80,3 +82,24 @@ Holds a os = HoldsIn a.store (waiting_in a) os
 -- the arena has this tree, and no container is open
 abbrev pub IsTree : Arena → Tree → Type 0
 IsTree a t = (n : Cell) × (a.values.items ≡ n ∷ []) × Is a.store t n
+
+-- both arenas are over one text
+abbrev pub IsOver : Arena → Arena → Type 0
+IsOver start a = source_bytes start.store.texts.source ≡ source_bytes a.store.texts.source
+
+-- With a text in the place of its source, the store has this tree at the root.
+pub record IsBuilt (bytes : List ℕ) (b : Built) (t : Tree) : Type 0 where
+  pub store : Store
+  pub text : source_bytes store.texts.source ≡ bytes
+  pub added : store.texts.added.items ≡ b.store.texts.added.items
+  pub kept : store.kept.items ≡ b.store.kept.items
+  pub items : store.items.items ≡ b.store.items.items
+  pub members : store.members.items ≡ b.store.members.items
+  pub is : Is store t b.root
+
+-- an arena over the text of the one at the start has these open containers, or this tree
+abbrev pub HoldsOver : Arena → Arena → List Open → Type 0
+HoldsOver start a os = Holds a os × IsOver start a
+
+abbrev pub IsTreeOver : Arena → Arena → Tree → Type 0
+IsTreeOver start a t = IsTree a t × IsOver start a

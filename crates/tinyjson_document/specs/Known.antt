@@ -1,11 +1,10 @@
 -- The tree that a cell stands for: there is at most one.
-use Rattle.std.specs.Prelude.{◌≡◌, ℕ, ◌+◌, List, [], ◌∷◌, ◌++◌, length, take, drop}
+use Rattle.std.specs.Prelude.{◌≡◌, ℕ, List, [], ◌∷◌, ◌++◌, length, take, drop}
 use Rattle.std.proofs.Common.{Bool, true, false, inl, inr, true≢false, refl, sym, ◌∙◌, ap, subst, arith}
 use Rattle.std.proofs.lemmas.List.{take_at, drop_at}
 use mathlib.Core.HLevel.{Discrete, hedberg, is_prop→PathP}
 use Rattle.tinyjson.specs.Equality.{tree_eq, tree_eq_Decides, items_eq, items_eq_Decides, members_eq, members_eq_Decides}
 use Rattle.std.proofs.Math.Logic.{∥∥₁_elim}
-use Rattle.std.specs.Str.{chars}
 use Rattle.tinyjson_number.specs.Decimal.{Decimal}
 use Rattle.tinyjson_number.proofs.Callers.{one_decimal, text_is_number}
 use Rattle.tinyjson_number.specs.Number.{decimal_eq, decimal_eq_Decides}
@@ -60,7 +59,7 @@ run_one xs p ys zs h k =
     ∙ take_at zs k.back (length ys) (omega (arith, h.to, k.to, h.from, k.from))
 
 pub text_one : (s : Store) (a b : List ℕ) (p : Span) → IsText s a p → IsText s b p → a ≡ b
-text_one s a b p h k = h.characters ∙ ap chars (run_one _ p _ _ h.run k.run) ∙ sym k.characters
+text_one s a b p h k = h.characters ∙ sym k.characters
 
 kept_one : (s : Store) (a b : Decimal) (i : ℕ) → IsKeptAt s a i → IsKeptAt s b i → a ≡ b
 kept_one s a b i h k =
@@ -71,7 +70,7 @@ kept_one s a b i h k =
 
 short_one : (s : Store) (a b : Decimal) (p : Span) → IsShort s a p → IsShort s b p → a ≡ b
 short_one s a b p h k =
-    let same = run_one s.texts.items p (decimal_text a) (decimal_text b) h.run k.run in
+    let same = sym h.text ∙ k.text in
     one_decimal power_width power_width (decimal_text b) a b
     (subst (λ t. IsNumberTextAt power_width t a) same (text_is_number power_width a h.canonical)) (text_is_number power_width b k.canonical)
 

@@ -4,6 +4,7 @@ pub mod Equality
 pub mod Numbers
 pub mod Parts
 -- Which tree a cell stands for, and that there is at most one.
+pub mod Texts
 pub mod Cell
 pub mod Known
 -- Which open containers an arena has.

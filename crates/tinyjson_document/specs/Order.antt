@@ -1,6 +1,5 @@
 -- Members in the order of their keys; of equal keys only the last. For private contracts.
-use Rattle.std.specs.Prelude.{⊤, ℕ, Bool, true, false, ◌&&◌, cond, min, Option, Some, None, List, [], ◌∷◌, length}
-use Rattle.std.specs.List.{slice_range}
+use Rattle.std.specs.Prelude.{⊤, ℕ, Bool, true, false, ◌&&◌, cond, Option, Some, None, List, [], ◌∷◌}
 use Rattle.std.specs.List.Sorted.{IsPermutation, IsSortedBy, IsStableBy}
 use Rattle.std.specs.Str.{bytes_eq}
 use Rattle.std.specs.Cmp.Lexicographic.{slice_cmp}
@@ -10,18 +9,17 @@ use Rattle.tinyjson_document.specs.declared.store.Cell.{Cell}
 use Rattle.tinyjson_document.specs.declared.store.Member.{Member}
 use Rattle.tinyjson_document.specs.declared.store.Store.{Store}
 use Rattle.tinyjson_document.specs.Cell.{IsText}
+pub use Rattle.tinyjson_document.specs.Texts.{part}
+use Rattle.tinyjson_document.specs.Texts.{part_of}
+use Rattle.tinyjson_document.specs.declared.texts.Texts.{Texts}
 use Rattle.tinyjson_grammar.specs.Tree.{Tree, Members, no_members, member}
 
--- the elements in the range, as far as there are any
-abbrev pub part : {A : Type 0} → List A → Span → List A
-part xs p = slice_range xs (min p.from (min p.to (length xs))) (min p.to (length xs))
-
 -- the key of a member
-abbrev pub key_in : List ℕ → Member → List ℕ
-key_in xs m = part xs m.key
+abbrev pub key_in : Texts → Member → List ℕ
+key_in xs m = part_of xs m.key
 
 -- the key of the first member is less than that of the second
-abbrev pub key_lt : List ℕ → Member → Member → Bool
+abbrev pub key_lt : Texts → Member → Member → Bool
 key_lt xs m n = is_lt (slice_cmp nat_cmp (key_in xs m) (key_in xs n))
 
 -- each key with its value
@@ -31,32 +29,32 @@ paired (k ∷ ks) [] = []
 paired (k ∷ ks) (v ∷ vs) = record { key = k; value = v } ∷ paired ks vs
 
 -- the first of the members has the same key
-abbrev pub comes_again : List ℕ → Member → List Member → Bool
+abbrev pub comes_again : Texts → Member → List Member → Bool
 comes_again xs m [] = false
 comes_again xs m (n ∷ ns) = bytes_eq (key_in xs m) (key_in xs n)
 
 -- of neighbours with equal keys only the last
-abbrev pub lasts : List ℕ → List Member → List Member
+abbrev pub lasts : Texts → List Member → List Member
 lasts xs [] = []
 lasts xs (m ∷ ms) = cond (comes_again xs m ms) (lasts xs ms) (m ∷ lasts xs ms)
 
 -- the first of the members has a greater key
-abbrev pub is_below_next : List ℕ → Member → List Member → Bool
+abbrev pub is_below_next : Texts → Member → List Member → Bool
 is_below_next xs m [] = true
 is_below_next xs m (n ∷ ns) = key_lt xs m n
 
 -- each key is less than the next one
-abbrev pub rise : List ℕ → List Member → Bool
+abbrev pub rise : Texts → List Member → Bool
 rise xs [] = true
 rise xs (m ∷ ms) = is_below_next xs m ms && rise xs ms
 
 -- the first of the members whose key has these bytes
-abbrev pub member_with : List ℕ → List ℕ → List Member → Option Member
+abbrev pub member_with : Texts → List ℕ → List Member → Option Member
 member_with xs bs [] = None
 member_with xs bs (m ∷ ms) = cond (bytes_eq bs (key_in xs m)) (Some m) (member_with xs bs ms)
 
 -- the members, stably sorted by their keys
-pub record IsOrdered (xs : List ℕ) (ms ns : List Member) : Type 0 where
+pub record IsOrdered (xs : Texts) (ms ns : List Member) : Type 0 where
   pub permuted : IsPermutation ms ns
   pub sorted : IsSortedBy (key_lt xs) ns
   pub stable : IsStableBy (key_lt xs) ms ns

@@ -1,16 +1,18 @@
 //! The arena, and the events that build it.
-ghost use Rattle.std.specs.Prelude.{◌++◌, [], encode_utf8_all};
+ghost use Rattle.std.specs.Prelude.{◌≡◌, ◌++◌, [], encode_utf8_all};
 ghost use Rattle.tinyjson.specs.Events.{literal_tree};
 ghost use Rattle.tinyjson.specs.Indent.{indent_of};
 ghost use Rattle.tinyjson.specs.Text.{text};
 ghost use Rattle.tinyjson.specs.Tree.{Tree};
 ghost use Rattle.tinyjson.specs.Written.{WritesPrefix};
-ghost use Rattle.tinyjson_document.specs.Holding.{Holds, IsTree};
+ghost use Rattle.tinyjson_document.specs.Holding.{Holds, IsBuilt, IsTree};
 ghost use Rattle.tinyjson_document.specs.Cell.{Is};
+ghost use Rattle.tinyjson_document.specs.Texts.{source_bytes};
 ghost use Rattle.tinyjson_document.specs.declared.store.Store.{Store as Nodes};
 
 use crate::sorting::pair;
 use crate::store::{Cell, Member, Span, Store};
+use crate::texts::{Source, Texts};
 use crate::walk::Root;
 use std::alloc::{AllocError, Global};
 use std::io::{self, ErrorKind, Write};
@@ -25,8 +27,8 @@ pub(crate) struct Place {
 
 /// A tree that is built from a text's events. Keys and values are pending until their container is closed.
 #[derive(Drop)]
-pub struct Arena {
-    pub(crate) store: Store,
+pub struct Arena<'t> {
+    pub(crate) store: Store<'t>,
     pub(crate) open: Vec<Place>,
     pub(crate) keys: Vec<Span>,
     pub(crate) values: Vec<Cell>,
@@ -39,13 +41,30 @@ pub struct Arena {
     pub(crate) deepest: usize,
 }
 
-impl Arena {
+/// What an arena has built, without the text that it was over.
+#[derive(Drop)]
+pub(crate) struct Built {
+    pub(crate) store: Store<'static>,
+    pub(crate) root: Cell,
+    pub(crate) deepest: usize,
+}
+
+impl<'t> Arena<'t> {
     /// An empty arena: it has no value, and no container is open.
     pub fn new(alloc: Global) -> Self
         ensures { Holds result [] }
     {
+        Arena::over(alloc, b"")
+    }
+
+    /// An empty arena for the events of a text. Strings and keys without escapes are ranges of that text.
+    pub fn over(alloc: Global, text: &'t [u8]) -> Self
+        ensures holds { Holds result [] }
+        ensures text { source_bytes result.store.texts.source ≡ text.now }
+    {
+        let source = Source::Lent(text);
         Arena {
-            store: Store::new(alloc),
+            store: Store::new(alloc, source),
             open: Vec::new(alloc),
             keys: Vec::new(alloc),
             values: Vec::new(alloc),
@@ -53,6 +72,37 @@ impl Arena {
             ranks: Vec::new(alloc),
             sorted: Vec::new(alloc),
             deepest: 0,
+        }
+    }
+
+    /// What it has built, without the text that was lent.
+    pub(crate) fn built(self) -> Built
+        requires { (t : Tree) × IsTree self t }
+        ensures { (t : Tree) → IsTree self.entry t →
+            IsBuilt (source_bytes self.entry.store.texts.source) result t }
+    {
+        let root = self.values[0];
+        let Store {
+            texts,
+            kept,
+            items,
+            members,
+            alloc,
+        } = self.store;
+        let texts = Texts {
+            source: Source::Lent(b""),
+            added: texts.added,
+        };
+        Built {
+            store: Store {
+                texts,
+                kept,
+                items,
+                members,
+                alloc,
+            },
+            root,
+            deepest: self.deepest,
         }
     }
 
@@ -80,12 +130,12 @@ impl Arena {
     }
 }
 
-impl Events for Arena {
-    ghost use Rattle.tinyjson_document.specs.Holding.{Holds, IsTree};
+impl Events for Arena<'_> {
+    ghost use Rattle.tinyjson_document.specs.Holding.{HoldsOver, IsTreeOver};
 
-    ghost holds = { λ _. Holds };
+    ghost holds = { HoldsOver };
 
-    ghost is = { λ _. IsTree };
+    ghost is = { IsTreeOver };
 
     fn open_array(&mut self) -> Result<(), AllocError> {
         self.open.push(Place {
@@ -141,8 +191,20 @@ impl Events for Arena {
         Ok(())
     }
 
+    fn key_before(&mut self, key: &str, end: usize) -> Result<(), AllocError> {
+        let span = self.store.text_before(key, end)?;
+        self.keys.push(span)?;
+        Ok(())
+    }
+
     fn string(&mut self, value: &str) -> Result<(), AllocError> {
         let span = self.store.add_text(value)?;
+        self.values.push(Cell::String(span))?;
+        Ok(())
+    }
+
+    fn string_before(&mut self, value: &str, end: usize) -> Result<(), AllocError> {
+        let span = self.store.text_before(value, end)?;
         self.values.push(Cell::String(span))?;
         Ok(())
     }

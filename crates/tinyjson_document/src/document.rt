@@ -1,9 +1,10 @@
 //! The document: a text that was parsed.
 ghost use Rattle.tinyjson_document.specs.Known.{Known, Known_prop};
 
-use crate::arena::Arena;
+use crate::arena::{Arena, Built};
 use crate::node::Node;
 use crate::store::{Cell, Store};
+use crate::texts::{Source, Texts};
 use std::alloc::Global;
 use tinyjson::{JsonParseError, read_events, read_events_with_depth_limit};
 
@@ -17,7 +18,7 @@ use tinyjson::{JsonParseError, read_events, read_events_with_depth_limit};
 /// ```
 #[derive(Drop)]
 pub struct Document {
-    pub(crate) store: Store,
+    pub(crate) store: Store<'static>,
     root: Cell,
     /// The depth: how many containers are nested at most.
     pub(crate) deepest: usize,
@@ -25,13 +26,13 @@ pub struct Document {
 }
 
 impl Document {
-    ghost use Rattle.std.specs.Prelude.{◌≡◌, None, Some};
+    ghost use Rattle.std.specs.Prelude.{◌≡◌, None, Some, string_bytes};
     ghost use Rattle.std.specs.Str.{chars};
     ghost use Rattle.tinyjson.specs.Events.{TellsText};
     ghost use Rattle.tinyjson_grammar.specs.Soundness as sound;
     ghost use Rattle.tinyjson_grammar.specs.Tree.{Tree};
     ghost use Rattle.tinyjson_document.specs.Document.{document_tree, HasTree, tree};
-    ghost use Rattle.tinyjson_document.specs.Holding.{IsTree};
+    ghost use Rattle.tinyjson_document.specs.Holding.{IsBuilt, IsTree};
 
     /// Parses a text as `JsonValue::from_str` does: into the tree of the same value, or with the same error. Only
     /// memory may run out for one of the two alone.
@@ -72,6 +73,53 @@ impl Document {
         }
     }
 
+    /// Parses a text, which it keeps: strings and keys without escapes stay in its place. In all else it is
+    /// [`Document::read`]. With the text a document has up to 4,294,967,295 bytes.
+    ///
+    /// ```
+    /// let text = String::from_str(alloc, r#"["a", "b"]"#)?;
+    /// let document = Document::of_text(alloc, text)?;
+    /// ```
+    pub fn of_text(alloc: Global, text: String) -> Result<Document, JsonParseError>
+        ensures { TellsText HasTree None (chars (string_bytes text)) result }
+    {
+        let arena = Arena::over(alloc, text.as_bytes());
+        let built = match read_events(alloc, text.as_str(), arena) {
+            Ok(arena) => arena.built(),
+            Err((error, _)) => return Err(error),
+        };
+        Ok(Document::over(built, text.into_bytes()))
+    }
+
+    /// The document of what was built over this text.
+    fn over(built: Built, text: Vec<u8>) -> Document
+        requires { (t : Tree) × IsBuilt text.items built t × ∥ sound.IsTree t ∥₁ }
+        ensures { (t : Tree) → IsBuilt text.items built t → HasTree result t }
+    {
+        let Store {
+            texts,
+            kept,
+            items,
+            members,
+            alloc,
+        } = built.store;
+        let texts = Texts {
+            source: Source::Kept(text),
+            added: texts.added,
+        };
+        Document {
+            store: Store {
+                texts,
+                kept,
+                items,
+                members,
+                alloc,
+            },
+            root: built.root,
+            deepest: built.deepest,
+        }
+    }
+
     /// The root: the value of the whole text.
     ///
     /// ```
@@ -94,9 +142,9 @@ impl Document {
     /// replay(alloc, node, &mut arena)?; // of tinyjson_replay
     /// let copy = Document::of_arena(arena); // its root is equal to the node
     /// ```
-    pub fn of_arena(arena: Arena) -> Document
+    pub fn of_arena(arena: Arena<'static>) -> Document
         requires { (t : Tree) × IsTree arena t × ∥ sound.IsTree t ∥₁ }
-        ensures { (t : Tree) → IsTree arena t → HasTree result t }
+        ensures { (t : Tree) → IsTree arena.entry t → HasTree result t }
     {
         let root = arena.values[0];
         Document {

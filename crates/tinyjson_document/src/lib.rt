@@ -20,6 +20,8 @@ pub mod sorting;
 #[doc(hidden)]
 pub mod store;
 mod text;
+#[doc(hidden)]
+pub mod texts;
 pub mod view;
 mod walk;
 

@@ -11,10 +11,10 @@ ghost use Rattle.tinyjson_number.specs.Decimal.{Decimal};
 ghost use Rattle.tinyjson_number.specs.Text.{decimal_text};
 ghost use Rattle.tinyjson_document.specs.Cell.{Is, IsBytes, IsKeptAt};
 ghost use Rattle.tinyjson_document.specs.Walking.{holds_others};
-ghost use Rattle.tinyjson_document.specs.Order.{part};
+ghost use Rattle.tinyjson_document.specs.Texts.{part_of};
 
 use crate::layout::quick_line;
-use crate::store::{Cell, Member, Store, part};
+use crate::store::{Cell, Member, Store};
 use tinyjson_output::{Buffer, quick_number, quick_text, quick_word};
 
 /// Where an item or a member begins: the indent, its level, and whether it is the first one of its container.
@@ -27,7 +27,7 @@ pub(crate) struct Line<'a> {
 
 /// Appends a scalar or an empty container to the buffer if it fits, and returns whether it did.
 #[inline(always)]
-fn quick_leaf(buffer: &mut Buffer, store: &Store, node: Cell) -> bool
+fn quick_leaf(buffer: &mut Buffer, store: &Store<'_>, node: Cell) -> bool
     ensures { (w : Option (List ℕ)) (k : ℕ) (t : Tree) → holds_others node ≡ false
         → Is store.now t node → MatchBool result
         (buffered buffer.new ≡ buffered buffer.old ++ encode_utf8_all (text w k t))
@@ -37,9 +37,9 @@ fn quick_leaf(buffer: &mut Buffer, store: &Store, node: Cell) -> bool
         Cell::Null => quick_word(buffer, b"null"),
         Cell::Boolean(true) => quick_word(buffer, b"true"),
         Cell::Boolean(false) => quick_word(buffer, b"false"),
-        Cell::Short(span) => quick_word(buffer, part(&store.texts, span)),
+        Cell::Short(span) => quick_word(buffer, store.texts.part(span)),
         Cell::Kept(index) => quick_kept(buffer, store, index),
-        Cell::String(span) => quick_text(buffer, part(&store.texts, span)),
+        Cell::String(span) => quick_text(buffer, store.texts.part(span)),
         Cell::Array(_) => quick_word(buffer, b"[]"),
         Cell::Object(_) => quick_word(buffer, b"{}"),
     }
@@ -47,7 +47,7 @@ fn quick_leaf(buffer: &mut Buffer, store: &Store, node: Cell) -> bool
 
 /// Appends the text of a kept number to the buffer if it fits, and returns whether it did.
 #[inline(always)]
-fn quick_kept(buffer: &mut Buffer, store: &Store, index: u32) -> bool
+fn quick_kept(buffer: &mut Buffer, store: &Store<'_>, index: u32) -> bool
     ensures { (d : Decimal) → IsKeptAt store.now d index → MatchBool result
         (buffered buffer.new ≡ buffered buffer.old ++ decimal_text d)
         (buffered buffer.new ≡ buffered buffer.old) }
@@ -60,7 +60,7 @@ fn quick_kept(buffer: &mut Buffer, store: &Store, index: u32) -> bool
 
 /// Appends an item and what precedes it to the buffer if they fit, and returns whether it did.
 #[inline(always)]
-pub(crate) fn quick_item(buffer: &mut Buffer, store: &Store, line: Line<'_>, node: Cell) -> bool
+pub(crate) fn quick_item(buffer: &mut Buffer, store: &Store<'_>, line: Line<'_>, node: Cell) -> bool
     ensures { (t : Tree) → holds_others node ≡ false → Is store.now t node → MatchBool result
         (buffered buffer.new ≡ buffered buffer.old
         ++ (encode_utf8_all (before (indent_of line.entry.indent) line.entry.level line.entry.first)
@@ -135,12 +135,12 @@ pub(crate) fn quick_key(buffer: &mut Buffer, line: Line<'_>, key: &[u8]) -> bool
 #[inline(always)]
 pub(crate) fn quick_member(
     buffer: &mut Buffer,
-    store: &Store,
+    store: &Store<'_>,
     line: Line<'_>,
     member: Member,
 ) -> bool
     ensures { (cs : List ℕ) (t : Tree) → holds_others member.value ≡ false
-        → IsBytes cs (part store.now.texts.items member.key) → Is store.now t member.value
+        → IsBytes cs (part_of store.now.texts member.key) → Is store.now t member.value
         → MatchBool result
         (buffered buffer.new ≡ buffered buffer.old
         ++ ((encode_utf8_all
@@ -151,7 +151,7 @@ pub(crate) fn quick_member(
         (buffered buffer.new ≡ buffered buffer.old) }
 {
     let len = buffer.len();
-    if !quick_key(buffer, line, part(&store.texts, member.key)) {
+    if !quick_key(buffer, line, store.texts.part(member.key)) {
         return false;
     }
     if quick_leaf(buffer, store, member.value) {

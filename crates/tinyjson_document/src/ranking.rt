@@ -6,7 +6,8 @@ ghost use Rattle.tinyjson_document.specs.Order.{IsOrdered, lasts};
 ghost use Rattle.tinyjson_document.specs.declared.store.Member.{Member as Pair};
 
 use crate::sorting::{push_lasts, rise, sort};
-use crate::store::{Member, part};
+use crate::store::Member;
+use crate::texts::Texts;
 use std::alloc::AllocError;
 use tinyjson_bytes::{Keys, place_mask, rank};
 
@@ -17,7 +18,7 @@ const FEW: usize = 32;
 /// the last object, which the ranks have, since many objects of a text have the same keys. If that object
 /// had equal keys, there are no ranks, and few members are simply sorted.
 pub fn keep_ordered(
-    texts: &[u8],
+    texts: &Texts<'_>,
     members: &mut Vec<Member>,
     ranks: &mut Vec<u64>,
     kept: &mut Vec<Member>,
@@ -46,7 +47,7 @@ pub fn keep_ordered(
 
 /// Keeps the members in the order of the ranks, and returns whether each key is less than the next one.
 fn keep_rising(
-    texts: &[u8],
+    texts: &Texts<'_>,
     members: &[Member],
     ranks: &[u64],
     kept: &mut Vec<Member>,
@@ -78,7 +79,11 @@ fn pick(members: &[Member], ranks: &[u64], kept: &mut Vec<Member>) -> Result<(),
 }
 
 /// Ranks the members by their keys.
-fn rank_members(texts: &[u8], members: &[Member], ranks: &mut Vec<u64>) -> Result<(), AllocError> {
+fn rank_members(
+    texts: &Texts<'_>,
+    members: &[Member],
+    ranks: &mut Vec<u64>,
+) -> Result<(), AllocError> {
     ranks.clear();
     ranks.reserve(members.len())?;
     for place in 0..members.len() {
@@ -92,7 +97,7 @@ fn rank_members(texts: &[u8], members: &[Member], ranks: &mut Vec<u64>) -> Resul
 /// The keys of members, which are ranges of the text.
 #[derive(Clone, Copy)]
 struct MemberKeys<'t> {
-    texts: &'t [u8],
+    texts: &'t Texts<'t>,
     members: &'t [Member],
 }
 
@@ -100,7 +105,7 @@ impl<'t> Keys for MemberKeys<'t> {
     #[inline(always)]
     fn key_at(&self, place: u64) -> &[u8] {
         match self.members.get(place as usize) {
-            Some(member) => part(self.texts, member.key),
+            Some(member) => self.texts.part(member.key),
             None => b"",
         }
     }

@@ -4,7 +4,8 @@ ghost use Rattle.std.specs.List.Sorted.{IsPermutation, IsSortedBy, IsStableBy};
 ghost use Rattle.tinyjson_document.specs.Order.{comes_again, is_below_next, key_lt, lasts, paired, rise};
 ghost use Rattle.tinyjson_document.specs.Order.{member_with};
 
-use crate::store::{Cell, Member, Span, part};
+use crate::store::{Cell, Member, Span};
+use crate::texts::Texts;
 use std::alloc::AllocError;
 
 /// Makes a member of each key and its value.
@@ -28,17 +29,17 @@ pub(crate) fn pair(
 }
 
 /// Sorts the members by the bytes of their keys. The sort is stable.
-pub fn sort(texts: &[u8], members: &mut Vec<Member>) -> Result<(), AllocError>
+pub fn sort(texts: &Texts<'_>, members: &mut Vec<Member>) -> Result<(), AllocError>
     ensures permutation { IsPermutation members.old.items members.new.items }
     ensures sorted { OnOk result (IsSortedBy (key_lt texts.now) members.new.items) }
     ensures stable { IsStableBy (key_lt texts.now) members.old.items members.new.items }
 {
-    members.sort_by(|a, b| part(texts, a.key).cmp(part(texts, b.key)))?;
+    members.sort_by(|a, b| texts.part(a.key).cmp(texts.part(b.key)))?;
     Ok(())
 }
 
 /// Whether each key is less than the next one.
-pub fn rise(texts: &[u8], members: &[Member]) -> bool
+pub fn rise(texts: &Texts<'_>, members: &[Member]) -> bool
     ensures { result ≡ rise texts.now members.now }
 {
     let mut rest = members;
@@ -52,18 +53,18 @@ pub fn rise(texts: &[u8], members: &[Member]) -> bool
 }
 
 /// Whether the member's key is less than that of the first of the others.
-fn is_below_next(texts: &[u8], member: Member, others: &[Member]) -> bool
+fn is_below_next(texts: &Texts<'_>, member: Member, others: &[Member]) -> bool
     ensures { result ≡ is_below_next texts.now member others.now }
 {
     match others.first() {
-        Some(next) => part(texts, member.key).cmp(part(texts, next.key)).is_lt(),
+        Some(next) => texts.part(member.key).cmp(texts.part(next.key)).is_lt(),
         None => true,
     }
 }
 
 /// Appends the sorted members; of those with equal keys, only the last.
 pub fn push_lasts(
-    texts: &[u8],
+    texts: &Texts<'_>,
     members: &mut Vec<Member>,
     sorted: &[Member],
 ) -> Result<(), AllocError>
@@ -79,7 +80,7 @@ pub fn push_lasts(
 
 /// Appends a member, unless the first of the others has the same key.
 fn push_last(
-    texts: &[u8],
+    texts: &Texts<'_>,
     members: &mut Vec<Member>,
     member: Member,
     others: &[Member],
@@ -94,21 +95,21 @@ fn push_last(
 }
 
 /// Whether the first of the others has the same key.
-fn comes_again(texts: &[u8], member: Member, others: &[Member]) -> bool
+fn comes_again(texts: &Texts<'_>, member: Member, others: &[Member]) -> bool
     ensures { result ≡ comes_again texts.now member others.now }
 {
     match others.first() {
-        Some(next) => part(texts, member.key) == part(texts, next.key),
+        Some(next) => texts.part(member.key) == texts.part(next.key),
         None => false,
     }
 }
 
 /// Finds the member with the key by binary search. Each key has to be less than the next one.
-pub fn find<'a>(texts: &[u8], members: &'a [Member], key: &[u8]) -> Option<&'a Member>
+pub fn find<'a>(texts: &Texts<'_>, members: &'a [Member], key: &[u8]) -> Option<&'a Member>
     ensures { rise texts.now members.now ≡ true →
         option_map (λ m. m.now) result ≡ member_with texts.now key.now members.now }
 {
-    let found = members.binary_search_by(|member| part(texts, member.key).cmp(key));
+    let found = members.binary_search_by(|member| texts.part(member.key).cmp(key));
     match found {
         Ok(index) => Some(&members[index]),
         Err(_) => None,

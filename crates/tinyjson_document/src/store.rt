@@ -6,12 +6,13 @@ ghost use Rattle.tinyjson_document.specs.Cell.{IsBytes, IsKeptAt, IsNumber, IsRu
 ghost use Rattle.tinyjson_number.specs.Decimal.{Decimal};
 ghost use Rattle.tinyjson_document.specs.Numbers.{decimal_of};
 ghost use Rattle.tinyjson_document.specs.declared.store.Member.{Member};
-ghost use Rattle.tinyjson_document.specs.Order.{IsOrdered, lasts, part};
+ghost use Rattle.tinyjson_document.specs.Order.{IsOrdered, lasts};
+ghost use Rattle.tinyjson_document.specs.Texts.{part, part_of, source_bytes};
 
-use crate::append::{append, append_number};
 use crate::number::NumberView;
 use crate::ranking::keep_ordered;
 use crate::sorting::rise;
+use crate::texts::{Source, Texts};
 use std::alloc::{AllocError, Global};
 use std::{mem, str};
 use tinyjson_number::JsonNumber;
@@ -56,11 +57,11 @@ pub fn part<T>(all: &[T], span: Span) -> &[T]
 }
 
 /// The text in the range, if its bytes are UTF-8.
-pub fn text_at(texts: &[u8], span: Span) -> Option<&str>
-    ensures { (cs : List ℕ) → IsBytes cs (part texts.now span) →
+pub fn text_at<'a>(texts: &'a Texts<'_>, span: Span) -> Option<&'a str>
+    ensures { (cs : List ℕ) → IsBytes cs (part_of texts.now span) →
         option_map (λ s. chars s.now) result ≡ Some cs }
 {
-    match str::from_utf8(part(texts, span)) {
+    match str::from_utf8(texts.part(span)) {
         Ok(text) => Some(text),
         Err(_) => None,
     }
@@ -80,9 +81,6 @@ pub enum Cell {
     Object(Span),
 }
 
-/// How many bytes the text of a short number has at most: a number is then made of it without memory.
-const SHORT: usize = 24;
-
 /// A member of an object. Its key is a range of the texts.
 #[derive(Clone, Copy)]
 pub struct Member {
@@ -92,9 +90,9 @@ pub struct Member {
 
 /// The vectors that hold the parts of all values. A cell keeps its meaning while they grow.
 #[derive(Drop)]
-pub struct Store {
-    /// The characters of strings, keys and short numbers, in UTF-8.
-    pub texts: Vec<u8>,
+pub struct Store<'t> {
+    /// The characters of strings, keys and short numbers.
+    pub texts: Texts<'t>,
     /// The numbers whose texts are not short.
     pub kept: Vec<JsonNumber>,
     pub items: Vec<Cell>,
@@ -102,10 +100,13 @@ pub struct Store {
     pub alloc: Global,
 }
 
-impl Store {
-    pub fn new(alloc: Global) -> Self {
+impl<'t> Store<'t> {
+    /// An empty store, over the text that is read.
+    pub fn new(alloc: Global, source: Source<'t>) -> Self
+        ensures { source_bytes result.texts.source ≡ source_bytes source.entry }
+    {
         Store {
-            texts: Vec::new(alloc),
+            texts: Texts::new(alloc, source),
             kept: Vec::new(alloc),
             items: Vec::new(alloc),
             members: Vec::new(alloc),
@@ -118,9 +119,19 @@ impl Store {
         ensures text { IfOk result (IsText self.new (chars text.now)) }
         ensures grows { OnOk result (Grows self.old self.new) }
     {
-        let from = self.texts.len();
-        append(&mut self.texts, text.as_bytes())?;
-        Span::new(from, self.texts.len())
+        self.texts.add(text.as_bytes())
+    }
+
+    /// The characters, where the source has them one byte before `end`, or else appended.
+    #[inline(always)]
+    pub fn text_before(&mut self, text: &str, end: usize) -> Result<Span, AllocError>
+        ensures text { IfOk result (IsText self.new (chars text.now)) }
+        ensures grows { OnOk result (Grows self.old self.new) }
+    {
+        match self.texts.find(text.as_bytes(), end) {
+            Some(span) => Ok(span),
+            None => self.add_text(text),
+        }
     }
 
     /// Appends the text of a short number, and keeps another one.
@@ -128,9 +139,8 @@ impl Store {
         ensures number { IfOk result (IsNumber self.new number.decimal) }
         ensures grows { OnOk result (Grows self.old self.new) }
     {
-        let from = self.texts.len();
-        if append_number(&mut self.texts, &number)? && self.texts.len() - from <= SHORT {
-            return Ok(Cell::Short(Span::new(from, self.texts.len())?));
+        if let Some(span) = self.texts.add_number(&number)? {
+            return Ok(Cell::Short(span));
         }
         let index = place(self.kept.len())?;
         self.kept.push(number)?;
@@ -142,7 +152,7 @@ impl Store {
         ensures { (d : Decimal) → IsShort self.now d span →
             option_map decimal_of result ≡ Some d }
     {
-        let Ok(text) = str::from_utf8(part(&self.texts, span)) else {
+        let Ok(text) = str::from_utf8(self.texts.part(span)) else {
             return None;
         };
         match JsonNumber::from_text(self.alloc, text) {
@@ -208,8 +218,8 @@ impl Store {
         kept: &mut Vec<Member>,
     ) -> Result<Span, AllocError>
         ensures members { IfOk result (λ span. (ns : List Member)
-            × IsOrdered self.old.texts.items members.old.items ns
-            × IsRun self.new.members.items span (lasts self.old.texts.items ns)) }
+            × IsOrdered self.old.texts members.old.items ns
+            × IsRun self.new.members.items span (lasts self.old.texts ns)) }
         ensures grows { OnOk result (Grows self.old self.new) }
     {
         if rise(&self.texts, members) {

@@ -10,7 +10,7 @@ ghost use Rattle.tinyjson_document.specs.declared.walk.Rest.TheVariants.{Items, 
 ghost use Rattle.tinyjson_number.specs.Decimal.{Decimal};
 ghost use Rattle.tinyjson_number.specs.Text.{decimal_text};
 ghost use Rattle.tinyjson_document.specs.Cell.{Is, IsBytes, IsKeptAt};
-ghost use Rattle.tinyjson_document.specs.Order.{part};
+ghost use Rattle.tinyjson_document.specs.Texts.{part_of};
 ghost use Rattle.tinyjson_document.specs.declared.store.Store.{Store as Nodes};
 ghost use Rattle.tinyjson_document.specs.Walking.{head, holds_others, IsRest, AreLeft, Advances, Passes, cost};
 ghost use Rattle.tinyjson_document.specs.Walking.{rest_cost, left_cost};
@@ -36,7 +36,7 @@ pub(crate) enum Rest<'a> {
 /// one last.
 #[derive(Drop)]
 pub(crate) struct Walk<'a> {
-    pub(crate) store: &'a Store,
+    pub(crate) store: &'a Store<'a>,
     pub(crate) indent: Option<&'a str>,
     pub(crate) most: usize,
     pub(crate) buffer: Buffer,
@@ -46,7 +46,7 @@ pub(crate) struct Walk<'a> {
 /// A value in a store, in which at most `most` containers are nested.
 #[derive(Clone, Copy)]
 pub(crate) struct Root<'a> {
-    pub(crate) store: &'a Store,
+    pub(crate) store: &'a Store<'a>,
     pub(crate) cell: Cell,
     pub(crate) most: usize,
 }
@@ -74,7 +74,12 @@ impl<'a> Root<'a> {
 }
 
 impl<'a> Walk<'a> {
-    pub(crate) fn new(alloc: Global, store: &'a Store, indent: Option<&'a str>, most: usize) -> Self
+    pub(crate) fn new(
+        alloc: Global,
+        store: &'a Store<'a>,
+        indent: Option<&'a str>,
+        most: usize,
+    ) -> Self
         ensures store { result.store ≡ store.entry }
         ensures indent { result.indent ≡ indent.entry }
         ensures stack { result.stack.items ≡ [] }
@@ -344,18 +349,18 @@ fn holds_others(node: Cell) -> bool
 fn begin_member<W: Write>(
     out: &mut W,
     buffer: &mut Buffer,
-    store: &Store,
+    store: &Store<'_>,
     line: Line<'_>,
     key: Span,
 ) -> io::Result<()>
-    ensures { (cs : List ℕ) → IsBytes cs (part store.now.texts.items key)
+    ensures { (cs : List ℕ) → IsBytes cs (part_of store.now.texts key)
         → Sends W.contents out.old out.new buffer.old buffer.new
         (encode_utf8_all (before (indent_of line.entry.indent) line.entry.level line.entry.first)
         ++ encode_utf8_all (quoted cs
         ++ (name_separator ∷ after_colon (indent_of line.entry.indent))))
         result }
 {
-    let bytes = part(&store.texts, key);
+    let bytes = store.texts.part(key);
     if quick_key(buffer, line, bytes) {
         return Ok(());
     }
@@ -369,7 +374,7 @@ fn begin_member<W: Write>(
 fn write_leaf<W: Write>(
     out: &mut W,
     buffer: &mut Buffer,
-    store: &Store,
+    store: &Store<'_>,
     node: Cell,
 ) -> io::Result<()>
     ensures { (w : Option (List ℕ)) (k : ℕ) (t : Tree) → holds_others node ≡ false
@@ -396,7 +401,7 @@ fn push<'a>(stack: &mut Vec<Rest<'a>>, most: usize, rest: Rest<'a>) -> Result<()
 }
 
 /// What is left of a value after its opening bracket, if it has one.
-fn rest_of<'a>(store: &'a Store, node: Cell) -> Option<Rest<'a>>
+fn rest_of<'a>(store: &'a Store<'a>, node: Cell) -> Option<Rest<'a>>
     ensures rest { (w : Option (List ℕ)) (t : Tree) (k : ℕ) → Is store.now t node →
         MatchOption result (text w k t ≡ head t) (λ r. (xs : List ℕ)
         × IsRest w k store.now r xs × (text w k t ≡ head t ++ xs)) }
@@ -421,7 +426,7 @@ fn rest_of<'a>(store: &'a Store, node: Cell) -> Option<Rest<'a>>
 fn write_head<W: Write>(
     out: &mut W,
     buffer: &mut Buffer,
-    store: &Store,
+    store: &Store<'_>,
     node: Cell,
 ) -> io::Result<()>
     ensures { (t : Tree) → Is store.now t node
@@ -431,9 +436,9 @@ fn write_head<W: Write>(
         Cell::Null => write_bytes(out, buffer, b"null"),
         Cell::Boolean(true) => write_bytes(out, buffer, b"true"),
         Cell::Boolean(false) => write_bytes(out, buffer, b"false"),
-        Cell::Short(span) => write_bytes(out, buffer, part(&store.texts, span)),
+        Cell::Short(span) => write_bytes(out, buffer, store.texts.part(span)),
         Cell::Kept(index) => write_kept(out, buffer, store, index),
-        Cell::String(span) => write_text(out, buffer, part(&store.texts, span)),
+        Cell::String(span) => write_text(out, buffer, store.texts.part(span)),
         Cell::Array(_) => write_bytes(out, buffer, b"["),
         Cell::Object(_) => write_bytes(out, buffer, b"{"),
     }
@@ -444,7 +449,7 @@ fn write_head<W: Write>(
 fn write_kept<W: Write>(
     out: &mut W,
     buffer: &mut Buffer,
-    store: &Store,
+    store: &Store<'_>,
     index: u32,
 ) -> io::Result<()>
     ensures { (d : Decimal) → IsKeptAt store.now d index

@@ -436,12 +436,12 @@ module _ (s : Store) (text : List ℕ) where
   all_stand (member k t ms) (n ∷ ns) h = (λ i. h.1 i ++ all_stand ms ns h.2 i)
 
   pub members_stand : (front : List ℕ) (at : ℕ) (es : List Entry) (bs : List Begun) (ns : List Member) → AreBegun s at es bs
-      → text ≡ front ++ entries_bytes es → at ≡ length front → IsOrdered s.texts.items (members_of bs (length text)) ns
-      → all_placed text (lasts s.texts.items ns) ≡ members_bytes (put_all no_members es)
+      → text ≡ front ++ entries_bytes es → at ≡ length front → IsOrdered s.texts (members_of bs (length text)) ns
+      → all_placed text (lasts s.texts ns) ≡ members_bytes (put_all no_members es)
   members_stand front at es bs ns h w f o =
-      let order : IsOrdered s.texts.items (paired (keys_of bs) (spans_of bs (length text))) ns =
-      subst (λ z. IsOrdered s.texts.items z ns) (members_paired bs (length text)) o in
-      all_stand (put_all no_members es) (lasts s.texts.items ns) (gathered_by s Stands es (keys_of bs) (spans_of bs (length text)) ns
+      let order : IsOrdered s.texts (paired (keys_of bs) (spans_of bs (length text))) ns =
+      subst (λ z. IsOrdered s.texts z ns) (members_paired bs (length text)) o in
+      all_stand (put_all no_members es) (lasts s.texts ns) (gathered_by s Stands es (keys_of bs) (spans_of bs (length text)) ns
       (stand front at es bs h w f).0 order.permuted order.sorted order.stable)
 
 -- what stands before the members, and they
@@ -471,8 +471,8 @@ pub closes_object : {T E : Type 0} (r : Result T E) (a b c : Compact) (ms : Memb
     (places : List Start) (members ns : List Member)
     → Holds a (at_key ms ∷ os) → a.opened.items ≡ places ++ place ∷ []
     → members ≡ members_of (drop place.members a.begun.items) (length a.text.items)
-    → IsOrdered a.store.texts.items members ns
-    → b.text.items ≡ take place.inside a.text.items ++ all_placed a.text.items (lasts a.store.texts.items ns)
+    → IsOrdered a.store.texts members ns
+    → b.text.items ≡ take place.inside a.text.items ++ all_placed a.text.items (lasts a.store.texts ns)
     → ((xs : List ℕ) → b.text.items ≡ xs ++ 44 ∷ [] → OnOk r (c.text.items ≡ xs ++ 125 ∷ 44 ∷ []))
     → ((xs : List ℕ) (x : ℕ) → b.text.items ≡ xs ++ x ∷ [] → (x == 44) ≡ false → OnOk r (c.text.items ≡ xs ++ x ∷ 125 ∷ 44 ∷ []))
     → c.store ≡ a.store → c.opened.items ≡ places → c.begun.items ≡ take place.members a.begun.items
@@ -485,7 +485,7 @@ closes_object r a b c ms os place places members ns h o em ordered et some none 
     h.3.text ∙ ap (λ z. h.0.text ++ z) h.4.written ∙ sym (append_assoc h.0.text (123 ∷ []) (entries_bytes h.4.entries)) in
     let mine : members ≡ members_of h.1 (length a.text.items) = em ∙ ap (λ z. members_of z (length a.text.items)) inner.own_begun in
     let stands = members_stand a.store a.text.items front (length h.0.text + 1) h.4.entries h.1 ns h.4.begun whole
-    (sym (length-append h.0.text (123 ∷ []))) (subst (λ z. IsOrdered a.store.texts.items z ns) mine ordered) in
+    (sym (length-append h.0.text (123 ∷ []))) (subst (λ z. IsOrdered a.store.texts z ns) mine ordered) in
     let sorted : b.text.items ≡ h.0.text ++ 123 ∷ members_bytes ms =
     et ∙ (λ i. apart.0 i ++ (stands ∙ ap members_bytes (sym h.4.members)) i)
     ∙ append_assoc h.0.text (123 ∷ []) (members_bytes ms) in

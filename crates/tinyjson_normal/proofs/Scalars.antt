@@ -17,12 +17,13 @@ use Rattle.tinyjson_document.specs.declared.store.Member.{Member}
 use Rattle.tinyjson_document.specs.declared.store.Cell.{Cell}
 use Rattle.tinyjson_document.specs.declared.store.Span.{Span}
 use Rattle.tinyjson_document.specs.declared.store.Store.{Store}
+use Rattle.tinyjson_document.specs.Texts.{part_of}
 
 -- an indent of scalars, where there is one
 module _ (w : Option (List ℕ)) (indent : IfSome w AreScalars) (s : Store) where
   quoted_scalars : (cs : List ℕ) (p : Span) → IsText s cs p → AreScalars (quoted cs)
   quoted_scalars cs p h =
-      text_of_scalars w indent 0 (string cs) (subst AreScalars (sym h.characters) (scalars-chars h.bytes h.utf8))
+      text_of_scalars w indent 0 (string cs) (subst AreScalars (sym h.characters) (scalars-chars (part_of s.texts p) h.utf8))
 
   number_canonical : (d : Decimal) (n : Cell) → IsNumber s d n → IsDecimalAt power_width d
   number_canonical d n (inl h) = h.2.canonical

@@ -24,6 +24,7 @@ use tinyjson_document::append::{ROOM, append, append_number, append_quoted};
 use tinyjson_document::ranking::keep_ordered;
 use tinyjson_document::sorting::rise;
 use tinyjson_document::store::{Cell, Member, Span, Store, part};
+use tinyjson_document::texts::Source;
 use tinyjson_output::{Buffer, flush, quote, write_number};
 
 /// Where an open container begins: its contents in the text, and its members in the list of all.
@@ -51,7 +52,7 @@ pub(crate) struct Begun {
 #[derive(Drop)]
 pub struct Compact {
     /// The characters of keys.
-    store: Store,
+    store: Store<'static>,
     pub(crate) text: Vec<u8>,
     opened: Vec<Start>,
     begun: Vec<Begun>,
@@ -77,7 +78,7 @@ impl Compact {
         ensures { Holds result [] }
     {
         Compact {
-            store: Store::new(alloc),
+            store: Store::new(alloc, Source::Lent(b"")),
             text: Vec::new(alloc),
             opened: Vec::new(alloc),
             begun: Vec::new(alloc),
@@ -125,9 +126,9 @@ impl Compact {
         ensures text { self.old.text.items ≡ take inside self.old.text.items
             ++ all_placed self.old.text.items self.old.members.items →
             OnOk result ((ns : List Pair)
-            × IsOrdered self.old.store.texts.items self.old.members.items ns
+            × IsOrdered self.old.store.texts self.old.members.items ns
             × (self.new.text.items ≡ take inside self.old.text.items
-            ++ all_placed self.old.text.items (lasts self.old.store.texts.items ns))) }
+            ++ all_placed self.old.text.items (lasts self.old.store.texts ns))) }
         ensures store { self.new.store ≡ self.old.store }
         ensures opened { self.new.opened ≡ self.old.opened }
         ensures begun { self.new.begun ≡ self.old.begun }

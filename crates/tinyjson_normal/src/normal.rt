@@ -30,7 +30,7 @@ pub(crate) enum Content {
     Text(Vec<u8>),
     /// As an arena. So large and nested are the objects whose members are out of order that their texts
     /// would be moved too often.
-    Arena(Arena),
+    Arena(Arena<'static>),
 }
 
 /// The tree of a parsed text, kept to be written in normal form. No value is built.
@@ -239,7 +239,7 @@ impl NormalText {
 }
 
 /// The compact text of an arena.
-fn arena_bytes(alloc: Global, arena: &Arena) -> Result<Vec<u8>, AllocError>
+fn arena_bytes(alloc: Global, arena: &Arena<'_>) -> Result<Vec<u8>, AllocError>
     ensures { (t : Tree) → IsKept (Content.Arena arena.now) t →
         IfOk result (λ v. v.items ≡ encode_utf8_all (compact t)) }
 {

@@ -65,6 +65,12 @@ impl<S: Tokens> TokenReader<S> {
         self.source.consume(c);
     }
 
+    /// How many bytes of a text in memory were consumed. It may be 0.
+    #[inline(always)]
+    pub fn offset(&self) -> usize {
+        self.source.offset()
+    }
+
     /// The line and the column after what was consumed.
     pub fn position(&self) -> (usize, usize)
         ensures { position_at result.0 result.1 ≡ S.sight.place self.now.source }

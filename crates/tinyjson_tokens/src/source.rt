@@ -107,6 +107,11 @@ pub trait Source: Drop {
         ensures left { OnOk result (left self.new + length (string_bytes buffer.new)
             ≤ left self.old + length (string_bytes buffer.old)) };
 
+    /// How many bytes of a text in memory were consumed, for a caller that finds a string there again. It may be 0.
+    fn offset(&self) -> usize {
+        0
+    }
+
     /// The line and the column after what was consumed.
     fn position(&self) -> (usize, usize)
         ensures { position_at result.0 result.1 ≡ sight.place self.now };

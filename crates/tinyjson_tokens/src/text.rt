@@ -195,6 +195,11 @@ impl<'a> Source for TextBytes<'a> {
         Ok(())
     }
 
+    #[inline(always)]
+    fn offset(&self) -> usize {
+        self.at
+    }
+
     fn position(&self) -> (usize, usize) {
         place_after(&self.text[..self.at])
     }

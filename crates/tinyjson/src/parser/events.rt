@@ -95,10 +95,32 @@ pub trait Events: Drop {
             holds start self.old (at_key ms ∷ os) →
             OnOk result (holds start self.new (at_value ms (chars key.now) ∷ os)) };
 
+    /// As [`Events::key`], of a key that may be found again in the text: its characters end one byte before `end`,
+    /// unless they have escapes, or the text is not in memory.
+    #[inline(always)]
+    fn key_before(&mut self, key: &str, end: usize) -> Result<(), AllocError>
+        requires { (start : Self) × (ms : Members) × (os : List Open) ×
+            holds start self.old (at_key ms ∷ os) }
+        ensures { (start : Self) (ms : Members) (os : List Open) →
+            holds start self.old (at_key ms ∷ os) →
+            OnOk result (holds start self.new (at_value ms (chars key.now) ∷ os)) }
+    {
+        self.key(key)
+    }
+
     /// A string is complete.
     fn string(&mut self, value: &str) -> Result<(), AllocError>
         ensures { (start : Self) (os : List Open) → holds start self.old os →
             OnOk result (Puts (holds start) (is start) os (string (chars value.now)) self.new) };
+
+    /// As [`Events::string`], of a string that may be found again in the text, as in [`Events::key_before`].
+    #[inline(always)]
+    fn string_before(&mut self, value: &str, end: usize) -> Result<(), AllocError>
+        ensures { (start : Self) (os : List Open) → holds start self.old os →
+            OnOk result (Puts (holds start) (is start) os (string (chars value.now)) self.new) }
+    {
+        self.string(value)
+    }
 
     /// A number is complete.
     fn number(&mut self, value: JsonNumber) -> Result<(), AllocError>
@@ -144,8 +166,16 @@ impl<E: Events> Events for Box<E> {
         E::key(&mut **self, key)
     }
 
+    fn key_before(&mut self, key: &str, end: usize) -> Result<(), AllocError> {
+        E::key_before(&mut **self, key, end)
+    }
+
     fn string(&mut self, value: &str) -> Result<(), AllocError> {
         E::string(&mut **self, value)
+    }
+
+    fn string_before(&mut self, value: &str, end: usize) -> Result<(), AllocError> {
+        E::string_before(&mut **self, value, end)
     }
 
     fn number(&mut self, value: JsonNumber) -> Result<(), AllocError> {

@@ -119,14 +119,14 @@ impl<E: Events> Nest<E> {
 
     /// Gives the innermost container, an object, a key.
     #[inline(always)]
-    pub(super) fn key(&mut self, key: &str) -> Result<(), AllocError>
+    pub(super) fn key(&mut self, key: &str, end: usize) -> Result<(), AllocError>
         requires { (start : E) × (ms : Members) × (fs : List Frame) ×
             E.holds start self.old.events (at_key ms ∷ fs) }
         ensures { (start : E) (ms : Members) (fs : List Frame) →
             IsWithin (E.holds start) self.old (at_key ms) fs →
             OnOk result (IsOpen (E.holds start) self.new (at_value ms (chars key.now) ∷ fs)) }
     {
-        self.events.key(key)?;
+        self.events.key_before(key, end)?;
         self.set_innermost(Awaited::Value);
         Ok(())
     }
@@ -212,14 +212,14 @@ impl<E: Events> Nest<E> {
 
     /// Puts a string where it belongs, which is no key.
     #[inline(always)]
-    pub(super) fn string(&mut self, value: &str) -> Result<Progress, JsonParseErrorKind>
+    pub(super) fn string(&mut self, value: &str, end: usize) -> Result<Progress, JsonParseErrorKind>
         ensures joins { (start : E) (fs : List Frame) → IsOpen (E.holds start) self.old fs →
             TakesValue fs →
             Joins (E.holds start) (E.is start)
             (complete true fs (string (chars value.now)) true) result self.new }
         ensures kept { KeepsEvents result self.old self.new }
     {
-        completed(self.events.string(value))
+        completed(self.events.string_before(value, end))
     }
 
     /// Puts a number where it belongs.

@@ -204,7 +204,8 @@ impl<S: Tokens> Reader<S> {
         if nest.awaits_key() {
             return self.colon(nest, lent);
         }
-        nest.string(self.tokens.characters(lent, &self.string))
+        let end = self.tokens.offset();
+        nest.string(self.tokens.characters(lent, &self.string), end)
     }
 
     /// Reads the number whose first character, a minus sign or a digit, comes next, and puts it
@@ -334,8 +335,9 @@ impl<S: Tokens> Reader<S> {
             IsOpen (E.holds start) nest.old (at_key ms ∷ fs) →
             LeavesSome (E.holds start) (E.is start) result nest.new }
     {
+        let end = self.tokens.offset();
         if nest
-            .key(self.tokens.characters(lent, &self.string))
+            .key(self.tokens.characters(lent, &self.string), end)
             .is_err()
         {
             return Err(JsonParseErrorKind::OutOfMemory);

@@ -1,5 +1,4 @@
-use Rattle.std.proofs.Common.{◌≡◌, ◌∙◌, true, false, ap, rules}
-use Rattle.tinyjson_document.specs.Order.{part}
+use Rattle.std.proofs.Common.{◌≡◌, true, false, rules}
 use Rattle.tinyjson_document.proofs.Buffering.{same_bytes, null_is, true_is, false_is, short_is, kept_at, string_is, array_is, object_is}
 use Rattle.tinyjson_document.proofs.quick.quick_leaf.Goals as goal
 
@@ -21,7 +20,7 @@ returns-in-Boolean-false c = λ w k t e h.
 
 pub returns-in-Short : goal.returns-in-Short
 returns-in-Short c = λ w k t e h.
-    let is = c.part.ensures ∙ ap (λ z. part z c.in-Short.span) c.deref.ensures.value in
+    let is = c.part.ensures in
     same_bytes c.quick_word-in-Short.result _ _ _ _ (short_is w k c.args.store.now t c.args.node _ _ c.in-Short.is is h)
     c.quick_word-in-Short.ensures
 
@@ -32,7 +31,7 @@ returns-in-Kept c = λ w k t e h.
 
 pub returns-in-String : goal.returns-in-String
 returns-in-String c = λ w k t e h.
-    let is = c.part-in-String.ensures ∙ ap (λ z. part z c.in-String.span) c.deref-in-String.ensures.value in
+    let is = c.part-in-String.ensures in
     same_bytes c.quick_text.result _ _ _ _ (string_is w k c.args.store.now t c.args.node _ _ c.in-String.is is h) c.quick_text.ensures
 
 pub returns-in-Array : goal.returns-in-Array

@@ -2,9 +2,7 @@ use Rattle.std.proofs.Common.{◌≡◌, encode_utf8_all, sym, ap, ◌∙◌, su
 use Rattle.tinyjson_number.specs.Text.{decimal_text}
 use Rattle.tinyjson_output.specs.Buffer.{Sends, SendsText}
 use Rattle.tinyjson_document.specs.Cell.{Is}
-use Rattle.tinyjson_document.specs.Order.{part}
 use Rattle.tinyjson_document.specs.Walking.{head}
-use Rattle.tinyjson_document.proofs.Slices.{run_part}
 use Rattle.tinyjson_document.proofs.Stored.{number_bytes}
 use Rattle.tinyjson_document.proofs.Writing.{seen}
 use Rattle.tinyjson_document.proofs.walk.write_head.Goals as goal
@@ -13,8 +11,7 @@ pub returns-in-Short : goal.returns-in-Short
 returns-in-Short g c = λ t h.
     let s = c.args.store.now in
     let v = seen s t _ (subst (Is s t) c.in-Short.is h) in
-    let bytes : c.part.result.now ≡ decimal_text v.0 = c.part.ensures ∙ ap (λ z. part z c.in-Short.span) c.deref.ensures.value
-    ∙ run_part s.texts.items c.in-Short.span (decimal_text v.0) v.2.run in
+    let bytes : c.part.result.now ≡ decimal_text v.0 = c.part.ensures ∙ v.2.text in
     let written : c.part.result.now ≡ encode_utf8_all (head t)
     = bytes ∙ sym (number_bytes v.0 v.2.canonical) ∙ ap (λ z. encode_utf8_all (head z)) (sym v.1) in
     subst (λ bs. Sends g.W.Write.contents c.args.out.now c.write_bytes-in-Short.new.out c.args.buffer.now

@@ -14,7 +14,7 @@ returns-in-Ok-read_events g c = λ t e k.
     subst (λ z. WritesPrefix (g.W.Write.contents c.args.out.now) (g.W.Write.contents c.write_to.new.out)
     (enc (text (indent_of c.args.indent) 0 z) ++ c.args.behind.now) c.write_to.result)
     (read_again c.args.bytes.now t u.1 c.in-Ok.ensures.cases.1 e k
-    (subst (λ z. IsText None (chars z) u.1) c.in-Ok.ensures.cases.0 u.2)) (c.write_to.ensures u.1 u.3)
+    (subst (λ z. IsText None (chars z) u.1) c.in-Ok.ensures.cases.0 u.2)) (c.write_to.ensures u.1 u.3.0)
 
 pub returns-in_default : goal.returns-in_default
 returns-in_default g c =

@@ -1,7 +1,8 @@
-use Rattle.std.proofs.Common.{refl}
-use Rattle.tinyjson_document.proofs.Waiting.{puts}
+use Rattle.std.proofs.Common.{refl, ◌∙◌}
+use Rattle.tinyjson_document.proofs.Waiting.{puts, puts_over}
 use Rattle.tinyjson_document.proofs.arena.ArenaEvents.number.Goals as goal
 
 pub returns : goal.returns
-returns c = λ _ fs h. puts c.args.self.now _ fs _ _ h c.in_ok-number.ensures.grows
-    c.in_ok-number.ensures.number refl refl c.in_ok-push.ensures.items
+returns c = λ s fs h.
+    puts_over s _ fs _ (puts c.args.self.now _ fs _ _ h.0 c.in_ok-number.ensures.grows c.in_ok-number.ensures.number refl refl
+    c.in_ok-push.ensures.items) (h.1 ∙ c.in_ok-number.ensures.grows.texts.source)

@@ -7,17 +7,20 @@ pub returns : goal.returns
 returns c = λ _ fs h.
     let a = c.args.self.now in
     let none : Gathers a.store no_members [] [] = record { entries = []; members = refl; waiting = tt } in (
-      waiting_in a,
-      [],
-      [],
-      record {
-        place = record { keys = c.len.result; values = c.len-2.result };
-        places = c.in_ok-push.ensures.items;
-        keys = sym (append-nil a.keys.items);
-        values = sym (append-nil a.values.items);
-        first_key = omega (arith, a.keys.ok.0);
-        first_value = omega (arith, a.values.ok.0);
-      },
-      none,
-      h,
+      (
+        waiting_in a,
+        [],
+        [],
+        record {
+          place = record { keys = c.len.result; values = c.len-2.result };
+          places = c.in_ok-push.ensures.items;
+          keys = sym (append-nil a.keys.items);
+          values = sym (append-nil a.values.items);
+          first_key = omega (arith, a.keys.ok.0);
+          first_value = omega (arith, a.values.ok.0);
+        },
+        none,
+        h.0,
+      ),
+      h.1,
     )

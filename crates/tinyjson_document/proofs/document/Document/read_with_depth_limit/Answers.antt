@@ -2,7 +2,7 @@ use Rattle.tinyjson_grammar.proofs.Callers.{text_sound}
 use Rattle.tinyjson_document.proofs.document.Document.read_with_depth_limit.Goals as goal
 
 pub of_arena-requires : goal.of_arena-requires
-of_arena-requires c = let h = c.in-Ok.ensures.tells in (h.answer.1, h.answer.3, ∣ text_sound _ _ _ h.answer.2 ∣₁)
+of_arena-requires c = let h = c.in-Ok.ensures.tells in (h.answer.1, h.answer.3.0, ∣ text_sound _ _ _ h.answer.2 ∣₁)
 
 pub returns-in-Ok : goal.returns-in-Ok
 returns-in-Ok c =
@@ -11,7 +11,7 @@ returns-in-Ok c =
       consumed = h.consumed;
       rest = h.rest;
       whole = h.whole;
-      answer = (h.answer.0, h.answer.1, h.answer.2, c.of_arena.ensures h.answer.1 h.answer.3);
+      answer = (h.answer.0, h.answer.1, h.answer.2, c.of_arena.ensures h.answer.1 h.answer.3.0);
       refused = tt;
       broken_off = tt;
     }

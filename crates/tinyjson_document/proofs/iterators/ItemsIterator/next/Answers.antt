@@ -1,7 +1,6 @@
-use Rattle.std.proofs.Common.{◌≡◌, ◌∙◌, sym, ap, subst}
-use Rattle.tinyjson_grammar.specs.Tree.{item, no_items}
-use Rattle.tinyjson_document.specs.Document.{GivesItem, items_left}
-use Rattle.tinyjson_document.specs.Known.{KnownItems, known_one, items_one}
+use Rattle.std.proofs.Common.{sym, subst}
+use Rattle.tinyjson_document.specs.Document.{GivesItem}
+use Rattle.tinyjson_document.specs.Known.{KnownItems}
 use Rattle.tinyjson_document.proofs.Places.{item_joins, next_item, no_item_left}
 use Rattle.tinyjson_document.proofs.iterators.ItemsIterator.next.Goals as goal
 

@@ -1,10 +1,8 @@
-use Rattle.std.proofs.Common.{◌≡◌, ◌∙◌, sym, ap, subst}
+use Rattle.std.proofs.Common.{◌≡◌, sym, subst}
 use Rattle.std.proofs.lemmas.Option.{none-some, same_Some}
 use Rattle.std.specs.Str.{chars}
-use Rattle.tinyjson_document.specs.Cell.{IsBytes}
 use Rattle.tinyjson_document.specs.Document.{GivesMember}
 use Rattle.tinyjson_document.specs.Known.{KnownMembers}
-use Rattle.tinyjson_document.specs.Order.{part}
 use Rattle.tinyjson_document.proofs.Places.{first_member, key_text, member_joins, next_member, no_member_left}
 use Rattle.tinyjson_document.proofs.iterators.MembersIterator.next.Goals as goal
 
@@ -19,9 +17,8 @@ returns-in_err-key-clause-steps c =
     let i = c.args.self.now in
     let s = i.document.now.store in
     let e = c.in_ok-member.member.now in
-    let key = (first_member s i.rest.now e _ c.in_ok-member.ensures.cases.0 i.known).key in
     let text = key_text s i.rest.now e _ c.in_ok-member.ensures.cases.0 i.known in
-    absurd (none-some _ (c.in_err-key.ensures _ (subst (λ z. IsBytes key (part z e.key)) (sym c.deref.ensures.value) text)))
+    absurd (none-some _ (c.in_err-key.ensures _ text))
 
 pub invariant_of-self : goal.invariant_of-self
 invariant_of-self c =
@@ -43,6 +40,6 @@ returns-clause-steps c =
     let whole = c.in_ok-member.ensures.cases.0 in
     let key = (first_member s i.rest.now e _ whole i.known).key in
     let text = key_text s i.rest.now e _ whole i.known in
-    let seen = c.in_ok-key.ensures _ (subst (λ z. IsBytes key (part z e.key)) (sym c.deref.ensures.value) text) in
+    let seen = c.in_ok-key.ensures _ text in
     let same : key ≡ chars c.in_ok-key.key.now = sym (same_Some _ _ seen) in
     member_joins s i.rest.now e _ whole i.known _ same c.result-2-1.given.0 c.self-1.given.0

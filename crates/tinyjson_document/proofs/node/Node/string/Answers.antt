@@ -1,7 +1,5 @@
-use Rattle.std.proofs.Common.{◌≡◌, ◌∙◌, Some, sym, ap, subst}
-use Rattle.tinyjson_document.specs.Cell.{IsBytes}
+use Rattle.std.proofs.Common.{◌∙◌, Some, sym, ap, subst}
 use Rattle.tinyjson_document.specs.Known.{Known}
-use Rattle.tinyjson_document.specs.Order.{part}
 use Rattle.tinyjson_document.proofs.Places.{string_at, string_known, string_bytes_known, string_not}
 use Rattle.tinyjson_document.proofs.node.Node.string.Goals as goal
 
@@ -10,7 +8,7 @@ returns-in-String c =
     let n = c.args.self.now in
     let s = n.document.now.store in
     let h = string_bytes_known s c.in-String.span (subst (Known s) c.in-String.is n.known) in
-    c.text_at.ensures h.0 (subst (λ z. IsBytes h.0 (part z c.in-String.span)) (sym c.deref.ensures.value) h.1)
+    c.text_at.ensures h.0 h.1
     ∙ ap Some h.1.1 ∙ ap (string_at s) (sym c.in-String.is) ∙ string_known s n.cell n.known
 
 pub returns-in_default : goal.returns-in_default

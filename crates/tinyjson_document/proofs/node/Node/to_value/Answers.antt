@@ -1,4 +1,4 @@
-use Rattle.std.proofs.Common.{◌≡◌, ◌∙◌, None, sym, ap, subst}
+use Rattle.std.proofs.Common.{◌∙◌, None, ap, subst}
 use mathlib.Core.Logic.{∥∥₁_elim}
 use Rattle.std.specs.Str.{chars}
 use Rattle.tinyjson.specs.Grammar.{IsText}

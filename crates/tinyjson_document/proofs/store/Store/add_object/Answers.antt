@@ -6,10 +6,9 @@ use Rattle.tinyjson_document.proofs.store.Store.add_object.Goals as goal
 
 pub returns-then-rise-clause-members : goal.returns-then-rise-clause-members
 returns-then-rise-clause-members c =
-    let texts = c.args.self.now.texts.items in
+    let texts = c.args.self.now.texts in
     let ms = c.args.members.now.items in
     let all = c.add_members.new.self.members.items in
-    let they : rise texts ms ≡ true = sym (c.rise.ensures ∙ ap (λ z. rise z c.deref-2.result.now) c.deref.ensures.value
-    ∙ ap (rise texts) c.deref-2.ensures.value) ∙ c.if-rise.true in
+    let they : rise texts ms ≡ true = sym (c.rise.ensures ∙ ap (rise texts) c.deref.ensures.value) ∙ c.if-rise.true in
     rise_adds texts all ms c.add_members.result they (subst (λ z. IfOk c.add_members.result (λ p. IsRun all p z))
     c.deref-then-rise.ensures.value c.add_members.ensures.members)

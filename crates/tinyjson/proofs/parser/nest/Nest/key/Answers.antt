@@ -9,6 +9,6 @@ pub returns : goal.returns
 returns g c = λ start ms fs h.
     let w = c.set_innermost.ensures in
     let k = chars c.args.key.now in
-    renewed (g.E.Events.holds start) (record c.args.self.now { events = c.key.new.self }) c.set_innermost.new.self Value (at_value ms k) fs
-    (subst (λ b. g.E.Events.holds start b (at_value ms k ∷ fs)) (sym w.events) (c.in_ok-key.ensures start ms fs h.0)) h.1 w.awaited
+    renewed (g.E.Events.holds start) (record c.args.self.now { events = c.key_before.new.self }) c.set_innermost.new.self Value (at_value ms k) fs
+    (subst (λ b. g.E.Events.holds start b (at_value ms k ∷ fs)) (sym w.events) (c.in_ok-key_before.ensures start ms fs h.0)) h.1 w.awaited
     (λ os j. j)

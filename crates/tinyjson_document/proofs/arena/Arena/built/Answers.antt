@@ -1,0 +1,17 @@
+use Rattle.std.proofs.Common.{◌≡◌, ◌∙◌, slice_index_or, refl, sym, ap, subst}
+use Rattle.tinyjson_document.specs.Cell.{Is}
+use Rattle.tinyjson_document.proofs.arena.Arena.built.Goals as goal
+
+pub returns : goal.returns
+returns c = λ t h.
+    let a = c.args.self in
+    let root : h.0 ≡ c.index-root.result.now = sym (c.index-root.ensures ∙ ap (λ z. slice_index_or z 0 c.index-root.result.now) h.1) in
+    record {
+      store = a.store;
+      text = refl;
+      added = refl;
+      kept = refl;
+      items = refl;
+      members = refl;
+      is = subst (Is a.store t) root h.2;
+    }

@@ -1,0 +1,33 @@
+use Rattle.std.proofs.Common.{◌≡◌, ◌∙◌, None, Ok, sym, ap, subst}
+use Rattle.std.specs.Str.{chars}
+use Rattle.tinyjson_grammar.proofs.Callers.{text_sound}
+use Rattle.tinyjson.specs.Events.{TellsText}
+use Rattle.tinyjson_document.specs.Document.{HasTree}
+use Rattle.tinyjson_document.specs.Holding.{IsBuilt}
+use Rattle.tinyjson_document.specs.Texts.{source_bytes}
+use Rattle.tinyjson_document.proofs.document.Document.of_text.Goals as goal
+
+pub over-requires : goal.over-requires
+over-requires c =
+    let h = c.in-Ok.ensures.tells in
+    let same : source_bytes c.in-Ok.arena.store.texts.source ≡ c.into_bytes.result.items
+    = sym h.answer.3.1 ∙ (c.over-arena.ensures.text ∙ (c.as_bytes.ensures.value ∙ ap (λ v. v.items) (sym c.into_bytes.ensures.value))) in (
+      h.answer.1,
+      subst (λ z. IsBuilt z c.built-built.result h.answer.1) same (c.built-built.ensures h.answer.1 h.answer.3.0),
+      ∣ text_sound _ _ _ h.answer.2 ∣₁,
+    )
+
+pub returns : goal.returns
+returns c =
+    let h = c.in-Ok.ensures.tells in
+    let same : source_bytes c.in-Ok.arena.store.texts.source ≡ c.into_bytes.result.items
+    = sym h.answer.3.1 ∙ (c.over-arena.ensures.text ∙ (c.as_bytes.ensures.value ∙ ap (λ v. v.items) (sym c.into_bytes.ensures.value))) in
+    let built = subst (λ z. IsBuilt z c.built-built.result h.answer.1) same (c.built-built.ensures h.answer.1 h.answer.3.0) in
+    subst (λ bs. TellsText HasTree None (chars bs) (Ok c.over.result)) c.as_str.ensures.value (record {
+      consumed = h.consumed;
+      rest = h.rest;
+      whole = h.whole;
+      answer = (h.answer.0, h.answer.1, h.answer.2, c.over.ensures h.answer.1 built);
+      refused = tt;
+      broken_off = tt;
+    })
