@@ -127,6 +127,15 @@ pub trait Events: Drop {
         ensures { (start : Self) (os : List Open) → holds start self.old os →
             OnOk result (Puts (holds start) (is start) os (number value.decimal) self.new) };
 
+    /// As [`Events::number`], of a number whose text may be found again: it ends at `end`, if the text is in memory.
+    #[inline(always)]
+    fn number_before(&mut self, value: JsonNumber, end: usize) -> Result<(), AllocError>
+        ensures { (start : Self) (os : List Open) → holds start self.old os →
+            OnOk result (Puts (holds start) (is start) os (number value.decimal) self.new) }
+    {
+        self.number(value)
+    }
+
     /// A boolean is complete, or `null`.
     fn literal(&mut self, value: Option<bool>) -> Result<(), AllocError>
         ensures { (start : Self) (os : List Open) → holds start self.old os →
@@ -180,6 +189,10 @@ impl<E: Events> Events for Box<E> {
 
     fn number(&mut self, value: JsonNumber) -> Result<(), AllocError> {
         E::number(&mut **self, value)
+    }
+
+    fn number_before(&mut self, value: JsonNumber, end: usize) -> Result<(), AllocError> {
+        E::number_before(&mut **self, value, end)
     }
 
     fn literal(&mut self, value: Option<bool>) -> Result<(), AllocError> {

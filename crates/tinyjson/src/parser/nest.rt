@@ -224,14 +224,18 @@ impl<E: Events> Nest<E> {
 
     /// Puts a number where it belongs.
     #[inline(always)]
-    pub(super) fn number(&mut self, value: JsonNumber) -> Result<Progress, JsonParseErrorKind>
+    pub(super) fn number(
+        &mut self,
+        value: JsonNumber,
+        end: usize,
+    ) -> Result<Progress, JsonParseErrorKind>
         ensures joins { (start : E) (fs : List Frame) → IsOpen (E.holds start) self.old fs →
             Joins (E.holds start) (E.is start)
             (complete true fs (number value.decimal) true) result self.new }
         ensures kept { KeepsEvents result self.old self.new }
     {
         self.refuse_key(JsonKind::Number)?;
-        completed(self.events.number(value))
+        completed(self.events.number_before(value, end))
     }
 
     /// Puts a boolean, or null, where it belongs.

@@ -221,7 +221,8 @@ impl<S: Tokens> Reader<S> {
         ensures kept { KeepsEvents result nest.old nest.new }
     {
         let number = self.tokens.number()?;
-        nest.number(number)
+        let end = self.tokens.offset();
+        nest.number(number, end)
     }
 
     /// Opens the array whose bracket comes next, or reads all of it if it is empty.
