@@ -57,7 +57,8 @@ impl<'t> Arena<'t> {
         Arena::over(alloc, b"")
     }
 
-    /// An empty arena for the events of a text. Strings and keys without escapes are ranges of that text.
+    /// An empty arena for the events of a text. Strings and keys without escapes, and short numbers in normal form,
+    /// are ranges of that text.
     pub fn over(alloc: Global, text: &'t [u8]) -> Self
         ensures holds { Holds result [] }
         ensures text { source_bytes result.store.texts.source ≡ text.now }
@@ -210,7 +211,11 @@ impl Events for Arena<'_> {
     }
 
     fn number(&mut self, value: JsonNumber) -> Result<(), AllocError> {
-        let number = self.store.add_number(value)?;
+        self.number_before(value, 0)
+    }
+
+    fn number_before(&mut self, value: JsonNumber, end: usize) -> Result<(), AllocError> {
+        let number = self.store.add_number(value, end)?;
         self.values.push(number)?;
         Ok(())
     }

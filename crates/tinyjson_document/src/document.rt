@@ -73,8 +73,8 @@ impl Document {
         }
     }
 
-    /// Parses a text, which it keeps: strings and keys without escapes stay in its place. In all else it is
-    /// [`Document::read`]. With the text a document has up to 4,294,967,295 bytes.
+    /// Parses a text, which it keeps: strings and keys without escapes, and short numbers in normal form, stay in
+    /// its place. In all else it is [`Document::read`]. With the text a document has up to 4,294,967,295 bytes.
     ///
     /// ```
     /// let text = String::from_str(alloc, r#"["a", "b"]"#)?;

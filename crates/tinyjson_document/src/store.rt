@@ -128,18 +128,18 @@ impl<'t> Store<'t> {
         ensures text { IfOk result (IsText self.new (chars text.now)) }
         ensures grows { OnOk result (Grows self.old self.new) }
     {
-        match self.texts.find(text.as_bytes(), end) {
+        match self.texts.find(text.as_bytes(), end.saturating_sub(1)) {
             Some(span) => Ok(span),
             None => self.add_text(text),
         }
     }
 
-    /// Appends the text of a short number, and keeps another one.
-    pub fn add_number(&mut self, number: JsonNumber) -> Result<Cell, AllocError>
+    /// The text of a short number, where the source has it up to `end`, or else appended. Another number is kept.
+    pub fn add_number(&mut self, number: JsonNumber, end: usize) -> Result<Cell, AllocError>
         ensures number { IfOk result (IsNumber self.new number.decimal) }
         ensures grows { OnOk result (Grows self.old self.new) }
     {
-        if let Some(span) = self.texts.add_number(&number)? {
+        if let Some(span) = self.texts.add_number(&number, end)? {
             return Ok(Cell::Short(span));
         }
         let index = place(self.kept.len())?;

@@ -3,7 +3,7 @@
 ghost use Rattle.std.specs.Prelude.{◌≡◌, ◌+◌, [], IfOk, IfSome, OnOk, length};
 ghost use Rattle.tinyjson_document.specs.Texts.{IsAt, IsNumberAt, TextsGrow, part_of, source_bytes};
 
-use crate::append::{append, append_number};
+use crate::append::{ROOM, append};
 use crate::store::{Span, part};
 use std::alloc::{AllocError, Global};
 use tinyjson_number::JsonNumber;
@@ -93,29 +93,35 @@ impl<'t> Texts<'t> {
         Span::new(from, to)
     }
 
-    /// Appends the text of a number, if it is short.
-    pub fn add_number(&mut self, number: &JsonNumber) -> Result<Option<Span>, AllocError>
+    /// The text of a number, if it is short: where the source has it up to `end`, or else appended.
+    pub fn add_number(
+        &mut self,
+        number: &JsonNumber,
+        end: usize,
+    ) -> Result<Option<Span>, AllocError>
         ensures at { IfOk result (λ found. IfSome found (IsNumberAt self.new number.now)) }
         ensures grows { OnOk result (TextsGrow self.old self.new) }
     {
-        let from = self.end()?;
-        if !append_number(&mut self.added, number)? {
+        let mut buffer = [0; ROOM];
+        let Some(count) = number.write_short(&mut buffer) else {
+            return Ok(None);
+        };
+        if count > SHORT {
             return Ok(None);
         }
-        let to = self.end()?;
-        if to - from > SHORT {
-            return Ok(None);
+        let text = &buffer[..count];
+        if let Some(span) = self.find(text, end) {
+            return Ok(Some(span));
         }
-        Ok(Some(Span::new(from, to)?))
+        Ok(Some(self.add(text)?))
     }
 
-    /// The range of the source that ends one byte before `end`, if it has these bytes.
+    /// The range of the source that ends at `to`, if it has these bytes.
     #[inline(always)]
-    pub fn find(&self, bytes: &[u8], end: usize) -> Option<Span>
+    pub fn find(&self, bytes: &[u8], to: usize) -> Option<Span>
         ensures { IfSome result (IsAt self.now bytes.now) }
     {
         let source = self.source.bytes();
-        let to = end.checked_sub(1)?;
         let from = to.checked_sub(bytes.len())?;
         if to > source.len() {
             return None;

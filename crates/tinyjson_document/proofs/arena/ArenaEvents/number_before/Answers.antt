@@ -1,6 +1,6 @@
 use Rattle.std.proofs.Common.{refl, ◌∙◌}
 use Rattle.tinyjson_document.proofs.Waiting.{puts, puts_over}
-use Rattle.tinyjson_document.proofs.arena.ArenaEvents.number.Goals as goal
+use Rattle.tinyjson_document.proofs.arena.ArenaEvents.number_before.Goals as goal
 
 pub returns : goal.returns
 returns c = λ s fs h.
