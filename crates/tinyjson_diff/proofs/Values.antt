@@ -11,7 +11,7 @@ use Rattle.tinyjson.specs.Tree.{Tree, null, object, no_members, find}
 use Rattle.tinyjson.specs.View.{view, text, members_view}
 use Rattle.tinyjson_document.specs.Comparing.{weight, members_weight}
 use Rattle.tinyjson_document.specs.Parts.{members_in}
-use Rattle.tinyjson_view.proofs.Shapes.{sorted_in, value_sound}
+use Rattle.tinyjson_view.proofs.Callers.{sorted_in, value_sound}
 use Rattle.tinyjson_view.specs.Views.{tree_of, members_of}
 use Rattle.tinyjson_view.specs.declared.view.MemberView.{MemberView}
 use Rattle.tinyjson_view.specs.declared.view.ValueView.{ValueView}

@@ -8,7 +8,7 @@ use Rattle.tinyjson_patch.specs.Operation.{or_fail, and_then, added, removed, re
 use Rattle.tinyjson_patch.specs.Operation as spec
 use Rattle.tinyjson_patch.specs.declared.operation.Reason.{Reason}
 use Rattle.tinyjson_patch.specs.declared.operation.Reason.TheVariants as reason
-use Rattle.tinyjson_pointer.proofs.Changing.{without_part_at, part_last}
+use Rattle.tinyjson_pointer.proofs.Callers.{without_part_at, part_last}
 use Rattle.tinyjson_pointer.specs.Change.{changed_at, without_child, without_part}
 use Rattle.tinyjson_pointer.specs.Tokens.{begins_with}
 use Rattle.tinyjson_pointer.specs.Walk.{step, part_at, with_part}

@@ -4,7 +4,7 @@ use Rattle.std.specs.Borrow.{Bor}
 use Rattle.tinyjson_document.specs.Document.{document_tree}
 use Rattle.tinyjson_document.specs.declared.document.Document.{Document}
 use Rattle.tinyjson_grammar.specs.Tree.{Tree}
-use Rattle.tinyjson_patch.proofs.Turns.{as_many, one_applied, one_failed}
+use Rattle.tinyjson_patch.proofs.Callers.{as_many, one_applied, one_failed}
 use Rattle.tinyjson_patch.specs.Operation.{Action, action_of, applied}
 use Rattle.tinyjson_patch.specs.Patch.{all_applied}
 use Rattle.tinyjson_patch.specs.Running.{last_applied, RunsFirst}

@@ -10,7 +10,7 @@ use Rattle.tinyjson_grammar.proofs.Callers.{are_put}
 use Rattle.tinyjson_grammar.specs.Soundness.{IsTree, AreItemsAt, AreMembersAt}
 use Rattle.tinyjson_grammar.specs.Tree.{Tree, array, object, item, items_of}
 use Rattle.tinyjson_number.specs.Numeral.{power_width}
-use Rattle.tinyjson_view.proofs.Shapes.{value_sound}
+use Rattle.tinyjson_view.proofs.Callers.{value_sound}
 use Rattle.tinyjson_view.specs.Views.{tree_of}
 use Rattle.tinyjson_view.specs.declared.view.ValueView.{ValueView}
 use Rattle.tinyjson.specs.View.{text}

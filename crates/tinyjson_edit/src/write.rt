@@ -35,12 +35,16 @@ pub(crate) fn document_of(alloc: Global, value: &Edited<'_>) -> Result<Document,
 }
 
 /// Passes the value to events, with the members of objects in the order of their keys.
-fn pass<E: Events>(alloc: Global, value: &Edited<'_>, events: &mut E) -> Result<(), AllocError>
+fn pass<'e, 'd, E: Events>(
+    alloc: Global,
+    value: &'e Edited<'d>,
+    events: &mut E,
+) -> Result<(), AllocError>
     requires { (start : E) × (os : List Open) × E.holds start events.old os }
     ensures { (start : E) (os : List Open) → E.holds start events.old os →
         OnOk result (Puts (E.holds start) (E.is start) os (tree value.now) events.new) }
 {
-    let mut stack = Vec::new(alloc);
+    let mut stack: Vec<Left<'e, 'd>> = Vec::new(alloc);
     begin(alloc, value, events, &mut stack)?;
     while let Some(rest) = stack.pop() {
         resume(alloc, rest, events, &mut stack)?;

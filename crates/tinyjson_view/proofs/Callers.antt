@@ -3,3 +3,4 @@
 pub use Rattle.tinyjson_view.proofs.Filling.{drop_at, drop_past}
 pub use Rattle.tinyjson_view.proofs.Listed.{member_found, nth_tree}
 pub use Rattle.tinyjson_view.proofs.Shapes.{array_is, object_is, number_is, string_is, key_at, some_mapped, view_compact, views_compact}
+pub use Rattle.tinyjson_view.proofs.Shapes.{sorted_in, value_sound}

@@ -1,5 +1,5 @@
 use Rattle.std.proofs.Common.{◌∙◌, ◌+◌, drop, ap, sym}
-use Rattle.tinyjson_view.proofs.Filling.{drop_at, drop_past}
+use Rattle.tinyjson_view.proofs.Callers.{drop_at, drop_past}
 use Rattle.tinyjson_edit.proofs.Taking.{kept_before, no_more, one_more}
 use Rattle.tinyjson_edit.proofs.expand.kept_items.Goals as goal
 

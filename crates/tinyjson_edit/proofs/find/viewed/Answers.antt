@@ -1,7 +1,7 @@
 use Rattle.std.proofs.Common.{◌≡◌, ◌≤◌, ◌^◌, option_map, sym, ap, ◌∙◌, arith}
 use Rattle.std.proofs.lemmas.Option.{same_Some}
 use Rattle.std.specs.Str.{chars}
-use Rattle.tinyjson_pointer.proofs.Viewed.{no_item_step}
+use Rattle.tinyjson_pointer.proofs.Callers.{no_item_step}
 use Rattle.tinyjson_view.specs.Views.{tree_of}
 use Rattle.tinyjson_edit.proofs.find.viewed.Goals as goal
 

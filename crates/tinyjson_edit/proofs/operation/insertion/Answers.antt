@@ -2,7 +2,7 @@ use Rattle.std.proofs.Common.{◌≡◌, ◌++◌, ◌∷◌, [], map, sym, ap, 
 use Rattle.std.proofs.lemmas.List.{map-append}
 use Rattle.std.specs.Str.{chars}
 use Rattle.tinyjson.specs.View.{text}
-use Rattle.tinyjson_pointer.proofs.Changing.{new_part_at}
+use Rattle.tinyjson_pointer.proofs.Callers.{new_part_at}
 use Rattle.tinyjson_pointer.specs.Change.{changed_at, with_child, with_new_part}
 use Rattle.tinyjson_pointer.specs.Tokens.{tokens_of}
 use Rattle.tinyjson_edit.specs.Edited.{tree}
