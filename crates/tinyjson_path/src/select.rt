@@ -18,7 +18,8 @@ ghost use Rattle.tinyjson_path.specs.Strings.{query_strings, strings_in, IsFrom,
 ghost use Rattle.tinyjson_path.specs.Strings.{segments_strings, selectors_strings};
 ghost use Rattle.tinyjson_path.specs.Strings.{selector_strings, expression_strings, comparable_strings};
 ghost use Rattle.tinyjson_path.specs.Strings.{filter_strings};
-ghost use Rattle.tinyjson_path.specs.Waiting.{waits_view, waits_at};
+ghost use Rattle.tinyjson_path.specs.Waiting.{waits_view, waits_at, wants};
+ghost use Rattle.tinyjson_path.specs.declared.children.Wanted.TheVariants.{Containers};
 
 use crate::answers::{Answer, Found, Question, Reply, found_of, keep, reply_to};
 use crate::children::{children, containers, push_children, push_indexed, push_named, push_slice};
@@ -146,7 +147,7 @@ impl<'v> Finder<'v> {
                     self.push_selected(selectors.as_slice(), &node, segment + 1, &mut waiting)?;
                 }
                 Segment::Descendant(selectors) => {
-                    push_reversed(containers(self.alloc, &node)?, segment, &mut waiting)?;
+                    push_containers(self.alloc, &node, segment, &mut waiting)?;
                     self.push_selected(selectors.as_slice(), &node, segment + 1, &mut waiting)?;
                 }
             }
@@ -566,6 +567,20 @@ fn first<'v>(alloc: Global, value: ValueView<'v>) -> Result<Vec<Waiting<'v>>, Al
     let node = Node::root(alloc, value)?;
     waiting.push(Waiting { node, segment: 0 })?;
     Ok(waiting)
+}
+
+/// Puts the children of a node that may have children behind the nodes that wait, the last one first.
+fn push_containers<'v>(
+    alloc: Global,
+    node: &Node<'v>,
+    segment: usize,
+    waiting: &mut Vec<Waiting<'v>>,
+) -> Result<(), AllocError>
+    ensures { OnOk result (waits_view waiting.new.items ≡ waits_view waiting.old.items
+        ++ reverse (waits_at segment
+        (kept (wants Containers) (children (path_of node.now) (tree_of node.now.value))))) }
+{
+    push_reversed(containers(alloc, node)?, segment, waiting)
 }
 
 /// Puts the nodes behind those that wait, the last one first.

@@ -24,7 +24,7 @@ use Rattle.tinyjson_path.specs.declared.children.Wanted.TheVariants.{Containers}
 use Rattle.tinyjson_path_query.specs.declared.query.Origin.TheVariants.{Root}
 use Rattle.tinyjson_path.proofs.select.Finder.+selecting.Goals as goal
 use Rattle.tinyjson_path.proofs.select.Finder.+selecting.Goals.{find_from-in-Child+in_ok-push_selected-in-Child}
-use Rattle.tinyjson_path.proofs.select.Finder.+selecting.Goals.{find_from-in-Descendant+in_ok-containers-in-Descendant+in_ok-push_reversed-in-Descendant+in_ok-push_selected-in-Descendant}
+use Rattle.tinyjson_path.proofs.select.Finder.+selecting.Goals.{find_from-in-Descendant+in_ok-push_containers-in-Descendant+in_ok-push_selected-in-Descendant}
 
 pub select_each-returns-in_err-select-clause-err : goal.select_each-returns-in_err-select-clause-err
 select_each-returns-in_err-select-clause-err t c =
@@ -268,14 +268,13 @@ find_from-loop-node-smaller t c =
           (ap (λ r. selected_by w.as_slice.result.now (tree_of r) (part_view n)) c.loop-node.invariant.root
           ∙ ap (λ xs. selected_by xs root (part_view n)) w.as_slice.ensures.value)) in
           less_child ss root i s l at sels (part_view n) ws mid new w.in-Child.is popped pushed
-      | find_from-in-Descendant+in_ok-containers-in-Descendant+in_ok-push_reversed-in-Descendant+in_ok-push_selected-in-Descendant w ↦
+      | find_from-in-Descendant+in_ok-push_containers-in-Descendant+in_ok-push_selected-in-Descendant w ↦
           let sels = w.in-Descendant.selectors in
           let chosen = selected_by sels.items root (part_view n) in
           let below = children (path_of n) (tree_of n.value) in
           let inner = kept (wants Containers) below in
-          let low = waits_view w.push_reversed.new.waiting.items in
-          let lower : low ≡ mid ++ reverse (waits_at i inner) = w.in_ok-push_reversed-in-Descendant.ensures
-          ∙ ap (λ z. mid ++ reverse (waits_at i z)) w.in_ok-containers-in-Descendant.ensures in
+          let low = waits_view w.push_containers.new.waiting.items in
+          let lower : low ≡ mid ++ reverse (waits_at i inner) = w.in_ok-push_containers-in-Descendant.ensures in
           let pushed : new ≡ low ++ reverse (waits_at (i + 1) chosen) = ap (λ v. waits_view v.items) w.waiting-is
           ∙ (w.in_ok-push_selected-in-Descendant.ensures.ok
           ∙ ap (λ z. low ++ reverse (waits_at (i + 1) z))
@@ -315,14 +314,13 @@ find_from-loop-node-preserved t c =
             within = are_pushed zs mid new (i + 1) chosen pushed here.0
                 (are_in (strings_in (tree_of n.value)) zs chosen here.1 (chosen_within sels root (part_view n)));
           }
-      | find_from-in-Descendant+in_ok-containers-in-Descendant+in_ok-push_reversed-in-Descendant+in_ok-push_selected-in-Descendant w ↦
+      | find_from-in-Descendant+in_ok-push_containers-in-Descendant+in_ok-push_selected-in-Descendant w ↦
           let sels = w.in-Descendant.selectors in
           let chosen = selected_by sels.items root (part_view n) in
           let below = children (path_of n) (tree_of n.value) in
           let inner = kept (wants Containers) below in
-          let low = waits_view w.push_reversed.new.waiting.items in
-          let lower : low ≡ mid ++ reverse (waits_at i inner) = w.in_ok-push_reversed-in-Descendant.ensures
-          ∙ ap (λ z. mid ++ reverse (waits_at i z)) w.in_ok-containers-in-Descendant.ensures in
+          let low = waits_view w.push_containers.new.waiting.items in
+          let lower : low ≡ mid ++ reverse (waits_at i inner) = w.in_ok-push_containers-in-Descendant.ensures in
           let pushed : new ≡ low ++ reverse (waits_at (i + 1) chosen) = ap (λ v. waits_view v.items) w.waiting-is
           ∙ (w.in_ok-push_selected-in-Descendant.ensures.ok
           ∙ ap (λ z. low ++ reverse (waits_at (i + 1) z))
