@@ -1,16 +1,18 @@
 //! Prints the part of a text that a pointer names.
-ghost use Rattle.std.specs.Prelude.{◌++◌, ◌∷◌, [], encode_utf8_all};
+ghost use Rattle.std.specs.Prelude.{◌++◌, ◌∷◌, [], ℕ, List, None, encode_utf8_all};
 ghost use Rattle.std.specs.Str.{chars};
 ghost use Rattle.tinyjson.specs.Characters.{line_feed};
+ghost use Rattle.tinyjson.specs.Events.{TellsText};
 ghost use Rattle.tinyjson.specs.Written.{WritesPrefix};
 ghost use Rattle.tinyjson_cli.specs.Layout.{laid_out};
 ghost use Rattle.tinyjson_cli.specs.Texts.{Answers};
-ghost use Rattle.tinyjson_document.specs.Document.{document_tree, tree};
+ghost use Rattle.tinyjson_document.specs.Document.{document_tree, tree, HasTree};
 ghost use Rattle.tinyjson_pointer.specs.Tokens.{tokens_of};
 ghost use Rattle.json_part.specs.Part.{GivesMissing, GivesPart, GivesPartOf, printed};
 
 use std::alloc::Global;
 use std::io::{self, Write};
+use tinyjson::JsonParseError;
 use tinyjson_cli::{NoAnswer, TextAnswer};
 use tinyjson_document::{Document, Node};
 use tinyjson_lines::{Cause, write_all};
@@ -46,14 +48,37 @@ impl TextAnswer for Asked<'_> {
         text: &str,
         output: &mut W,
     ) -> io::Result<Option<NoAnswer>> {
-        match Document::read(alloc, text) {
-            Ok(document) => answer_document(alloc, *self, &document, output),
-            Err(error) => {
-                if error.is_out_of_memory() {
-                    return Err(error.into());
-                }
-                Ok(Some(NoAnswer::Refused(Cause::NotJson(error))))
+        answer_read(alloc, *self, Document::read(alloc, text), output)
+    }
+
+    fn answer_owned<W: Write>(
+        &self,
+        alloc: Global,
+        text: String,
+        output: &mut W,
+    ) -> io::Result<Option<NoAnswer>> {
+        answer_read(alloc, *self, Document::of_text(alloc, text), output)
+    }
+}
+
+/// Answers for what was read of a text.
+fn answer_read<W: Write>(
+    alloc: Global,
+    asked: Asked<'_>,
+    read: Result<Document, JsonParseError>,
+    output: &mut W,
+) -> io::Result<Option<NoAnswer>>
+    ensures { (text : List ℕ) → TellsText HasTree None text read
+        → Answers (GivesPart asked.entry.form (tokens_of asked.entry.pointer.now) text)
+        (W.contents output.old) (W.contents output.new) result }
+{
+    match read {
+        Ok(document) => answer_document(alloc, asked, &document, output),
+        Err(error) => {
+            if error.is_out_of_memory() {
+                return Err(error.into());
             }
+            Ok(Some(NoAnswer::Refused(Cause::NotJson(error))))
         }
     }
 }

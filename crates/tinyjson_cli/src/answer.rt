@@ -21,6 +21,16 @@ pub trait Answer {
         text: &str,
         output: &mut W,
     ) -> Result<Status, Failure>;
+
+    /// Does as [`Answer::answer`], for a text that the answer may keep.
+    fn answer_owned<W: Write>(
+        &self,
+        alloc: Global,
+        text: String,
+        output: &mut W,
+    ) -> Result<Status, Failure> {
+        self.answer(alloc, text.as_str(), output)
+    }
 }
 
 /// Answers each file, or standard input for `-` and if there are no files. A message about a file begins with its name.
@@ -69,7 +79,7 @@ fn answer_file<A: Answer, W: Write>(
     output: &mut W,
 ) -> Result<Status, Failure> {
     let text = read_text(rt, file)?;
-    let status = asked.answer(rt.alloc(), text.as_str(), output)?;
+    let status = asked.answer_owned(rt.alloc(), text, output)?;
     output.flush().map_err(writing_error)?;
     Ok(status)
 }

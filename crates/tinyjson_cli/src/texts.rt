@@ -1,5 +1,5 @@
 //! Programs that answer texts: whole inputs, or each line of an input.
-ghost use Rattle.std.specs.Prelude.{◌≡◌, ℕ, List, Option, Result, Bool, option_map};
+ghost use Rattle.std.specs.Prelude.{◌≡◌, ℕ, List, Option, Result, Bool, option_map, string_bytes};
 ghost use Rattle.std.specs.Str.{chars};
 ghost use Rattle.tinyjson_cli.specs.Arguments.{given_of};
 ghost use Rattle.tinyjson_cli.specs.Texts.{AnswersLine, AnswersText, failure_of, handles_text, texts_given};
@@ -51,6 +51,19 @@ pub trait TextAnswer {
     ) -> io::Result<Option<NoAnswer>>
         ensures { AnswersText gives self.now (chars text.now)
             (W.contents output.old) (W.contents output.new) result };
+
+    /// Does as [`TextAnswer::answer_text`], for a text that the answer may keep.
+    fn answer_owned<W: Write>(
+        &self,
+        alloc: Global,
+        text: String,
+        output: &mut W,
+    ) -> io::Result<Option<NoAnswer>>
+        ensures { AnswersText gives self.now (chars (string_bytes text))
+            (W.contents output.old) (W.contents output.new) result }
+    {
+        self.answer_text(alloc, text.as_str(), output)
+    }
 }
 
 /// How the texts of an input are found.
@@ -105,11 +118,25 @@ impl<A: TextAnswer + Copy> Answer for Whole<A> {
         text: &str,
         output: &mut W,
     ) -> Result<Status, Failure> {
-        match self.asked.answer_text(alloc, text, output) {
-            Ok(None) => Ok(Status::Done),
-            Ok(Some(why)) => Err(unanswered_failure(why)),
-            Err(error) => Err(writing_error(error)),
-        }
+        ended(self.asked.answer_text(alloc, text, output))
+    }
+
+    fn answer_owned<W: Write>(
+        &self,
+        alloc: Global,
+        text: String,
+        output: &mut W,
+    ) -> Result<Status, Failure> {
+        ended(self.asked.answer_owned(alloc, text, output))
+    }
+}
+
+/// How a text ends that has an answer, or has none.
+fn ended(answered: io::Result<Option<NoAnswer>>) -> Result<Status, Failure> {
+    match answered {
+        Ok(None) => Ok(Status::Done),
+        Ok(Some(why)) => Err(unanswered_failure(why)),
+        Err(error) => Err(writing_error(error)),
     }
 }
 
