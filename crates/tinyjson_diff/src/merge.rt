@@ -1,6 +1,6 @@
 //! The merge patch from one value to another.
 ghost use Rattle.std.specs.Bool.{Decides};
-ghost use Rattle.std.specs.Prelude.{◌≡◌, false, Some, IfOk, OnOk, option_map};
+ghost use Rattle.std.specs.Prelude.{◌≡◌, false, Some, IfOk, IsTrue, OnOk, option_map};
 ghost use Rattle.std.specs.Str.{chars};
 ghost use Rattle.tinyjson.specs.Access.{is_null, is_object};
 ghost use Rattle.tinyjson.specs.Tree.{find};
@@ -11,7 +11,7 @@ ghost use Rattle.tinyjson_diff.specs.Changes.{AreRemovals, Changes, IsBelow, Kee
 ghost use Rattle.tinyjson_diff.specs.Changes.{members_had, object_members, with_change};
 ghost use Rattle.tinyjson_diff.specs.Merging.{GivesMergePatch};
 
-use crate::parts::{copy_of, has_key};
+use crate::parts::{are_found_equal, copy_of, has_key};
 use std::alloc::{AllocError, Global};
 use std::collections::HashMap;
 use tinyjson::{JsonKind, JsonValue};
@@ -62,7 +62,7 @@ pub fn merge_diff<'v, O: AsView<'v>, N: AsView<'v>>(
     if is_null(new) {
         return Ok(JsonValue::Null);
     }
-    match change(alloc, Some(old), new) {
+    match change(alloc, 0, Some(old), new) {
         Ok(Some(patch)) => Ok(patch),
         Ok(None) => Ok(patch_to_itself(alloc, new)?),
         Err(error) => Err(error),
@@ -80,9 +80,10 @@ fn patch_to_itself(alloc: Global, value: ValueView<'_>) -> Result<JsonValue, All
 }
 
 /// The member of a patch that leads from what the old object has at a key to the new member. There is none if they are
-/// equal.
+/// equal. It is below `depth` objects.
 fn change(
     alloc: Global,
+    depth: usize,
     old: Option<ValueView<'_>>,
     new: ValueView<'_>,
 ) -> Result<Option<JsonValue>, NoMergePatch>
@@ -91,11 +92,20 @@ fn change(
     if !is_object(new) {
         return whole_change(alloc, old, new);
     }
+    if is_kept(depth, old, new) {
+        return Ok(None);
+    }
+    let below_new = depth.saturating_add(1);
     let before = object_of(old);
     let mut changes = removals(alloc, before, new)?;
     let after = new.members(alloc)?;
     for member in after.as_slice() {
-        match change(alloc, member_of(before, member.key), member.value) {
+        match change(
+            alloc,
+            below_new,
+            member_of(before, member.key),
+            member.value,
+        ) {
             Ok(patch) => {
                 let Ok(()) = put_change(alloc, &mut changes, member.key, patch) else {
                     return Err(give_up(changes, NoMergePatch::OutOfMemory));
@@ -165,6 +175,16 @@ fn are_equal(old: Option<ValueView<'_>>, new: ValueView<'_>) -> bool
 {
     match old {
         Some(old) => old.equals(&new),
+        None => false,
+    }
+}
+
+/// Whether there is an old value, and it is found to be equal to the new one at this depth.
+fn is_kept(depth: usize, old: Option<ValueView<'_>>, new: ValueView<'_>) -> bool
+    ensures { IsTrue result → option_map tree_of old.entry ≡ Some (tree_of new.entry) }
+{
+    match old {
+        Some(old) => are_found_equal(depth, old, new),
         None => false,
     }
 }

@@ -8,7 +8,7 @@ ghost use Rattle.tinyjson_diff.specs.Patching.{IsPatchBetween};
 ghost use Rattle.tinyjson_diff.specs.Steps.{actions_of, Changes, RemoveMembers, RemoveItems};
 
 use crate::document::document;
-use crate::parts::{copy_of, has_key};
+use crate::parts::{are_found_equal, copy_of, has_key};
 use crate::step::{Change, Step, append_of_item, append_of_member, at_index, at_key};
 use std::alloc::{AllocError, Global};
 use tinyjson::{JsonKind, JsonValue};
@@ -25,7 +25,7 @@ const TOKEN_LIMIT: usize = 1_000;
 /// It adds and removes the members of which one object has the key, and the items by which one array is longer, from
 /// the end. Members with one key, and items with one index, are compared again. Any other two values that differ are
 /// replaced, as are those below 1,000 containers, which [`tinyjson_patch`] bounds paths to. So no place has two
-/// operations. It recurses once for each nested container that both values have.
+/// operations. Equal parts are passed quickly. It recurses once for each nested container that both values have.
 ///
 /// ```
 /// let patch = patch_diff(alloc, old.root(), new.root())?; // from [1,2] to [3] it is [{"op":"remove","path":"/1"},
@@ -57,6 +57,9 @@ fn changes(
 {
     if room == 0 {
         return replacement(alloc, old, new);
+    }
+    if are_found_equal(TOKEN_LIMIT.saturating_sub(room), old, new) {
+        return Ok(Vec::new(alloc));
     }
     match (old.kind(), new.kind()) {
         (JsonKind::Object, JsonKind::Object) => of_members(alloc, room - 1, old, new),

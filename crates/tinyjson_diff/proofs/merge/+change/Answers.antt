@@ -20,6 +20,9 @@ change-requires t c =
     (ap members_of c.as_slice-member-items.ensures.value ∙ c.in_ok-after.ensures.listed) c.loop-member-test.true c.member-item.is in
     search rules
 
+pub returns-then-is_kept : goal.returns-then-is_kept
+returns-then-is_kept t c = c.is_kept.ensures c.if-is_kept.true
+
 pub loop-member-init : goal.loop-member-init
 loop-member-init t c =
     let ns = members_in (tree_of c.args.new) in

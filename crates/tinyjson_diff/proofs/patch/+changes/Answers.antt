@@ -9,6 +9,7 @@ use Rattle.tinyjson_view.specs.Views.{tree_of, trees_of, members_of}
 use Rattle.tinyjson_diff.specs.Steps.{actions_of, Changes}
 use Rattle.tinyjson_diff.specs.declared.step.Change.TheVariants as change
 use Rattle.tinyjson_diff.proofs.Items.{ItemsPassed, passing_adds, passing_begins, passing_changes, passing_ends}
+use Rattle.tinyjson_diff.proofs.Leading.{no_changes}
 use Rattle.tinyjson_diff.proofs.Members.{AddsPassed, adding_adds, adding_begins, adding_changes, adding_ends}
 use Rattle.tinyjson_diff.proofs.Promised.{inside_when, wider_when}
 use Rattle.tinyjson_diff.proofs.Steps.{drop_end, drop_item, listed_first, pushed_at, pushed_item}
@@ -22,6 +23,13 @@ use Rattle.tinyjson_diff.proofs.patch.+changes.Goals as goal
 pub changes-returns-then-room-eq0 : goal.changes-returns-then-room-eq0
 changes-returns-then-room-eq0 t c =
     wider_when c.replacement.result c.args.room (tree_of c.args.old) (tree_of c.args.new) c.replacement.ensures
+
+pub changes-returns-then-are_found_equal : goal.changes-returns-then-are_found_equal
+changes-returns-then-are_found_equal t c =
+    let old = tree_of c.args.old in
+    let new = tree_of c.args.new in
+    subst (λ l. Changes c.args.room old new (actions_of l)) (sym c.new.ensures.items)
+    (no_changes c.args.room old new (c.are_found_equal.ensures c.if-are_found_equal.true))
 
 pub changes-returns-in_default : goal.changes-returns-in_default
 changes-returns-in_default t c =
