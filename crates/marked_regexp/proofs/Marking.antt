@@ -26,10 +26,10 @@ back_empty (x ∷ xs) ys e = cc
 pub skips_sound : (n : Node) → skips n ≡ true → Matches (tree_form n) []
 skips_sound Empty h = refl
 skips_sound (Class cl mark) h = absurd (true≢false (sym h))
-skips_sound (Concat' p l q r le re ends m) h =
+skips_sound (Concat' p l q r le re ends lm rm) h =
     let both = and_parts (skips l) (skips r) h in
     ([], [], refl, skips_sound l both.0, skips_sound r both.1)
-skips_sound (Alternation' p l q r) h =
+skips_sound (Alternation' p l q r lm rm) h =
     elim (or_cases (skips l) (skips r) h) [ inl a ↦ inl (skips_sound l a) | inr b ↦ inr (skips_sound r b) ]
 skips_sound (Star' p b ends) h = (0, omega arith, tt, refl)
 skips_sound (UpTo cl most left) h = (0, omega arith, omega arith, refl)
@@ -37,11 +37,11 @@ skips_sound (UpTo cl most left) h = (0, omega arith, omega arith, refl)
 pub skips_complete : (n : Node) → Matches (tree_form n) [] → skips n ≡ true
 skips_complete Empty h = refl
 skips_complete (Class cl mark) h = let e : [] ≡ h.0 ∷ [] = h.1 in cc
-skips_complete (Concat' p l q r le re ends m) h =
+skips_complete (Concat' p l q r le re ends lm rm) h =
     and_from (skips l) (skips r)
     (skips_complete l (subst (Matches (tree_form l)) (front_empty h.0 h.1 h.2) h.3))
     (skips_complete r (subst (Matches (tree_form r)) (back_empty h.0 h.1 h.2) h.4))
-skips_complete (Alternation' p l q r) h =
+skips_complete (Alternation' p l q r lm rm) h =
     elim h [ inl a ↦ or_left (skips l) (skips r) (skips_complete l a) | inr b ↦ or_right (skips l) (skips r) (skips_complete r b) ]
 skips_complete (Star' p b ends) h = refl
 skips_complete (UpTo cl most left) h = refl
@@ -51,14 +51,14 @@ skips_complete (UpTo cl most left) h = refl
 pub ends_sound : (n : Node) → IsKept n → ends_here n ≡ true → Continues n []
 ends_sound Empty k h = absurd (true≢false (sym h))
 ends_sound (Class cl mark) k h = (h, refl)
-ends_sound (Concat' p l q r le re ends m) k h =
+ends_sound (Concat' p l q r le re ends lm rm) k h =
     elim (or_cases (ends_here r) (ends_here l && re) h) [
       | inl a ↦ inl (ends_sound r k.4 a)
       | inr b ↦
           let both = and_parts (ends_here l) re b in
           inr ([], [], refl, ends_sound l k.3 both.0, skips_sound r (sym k.1 ∙ both.1))
     ]
-ends_sound (Alternation' p l q r) k h =
+ends_sound (Alternation' p l q r lm rm) k h =
     elim (or_cases (ends_here l) (ends_here r) h) [ inl a ↦ inl (ends_sound l k.0 a) | inr b ↦ inr (ends_sound r k.1 b) ]
 ends_sound (Star' p b ends) k h = ([], [], refl, ends_sound b k.1 h, (0, omega arith, tt, refl))
 ends_sound (UpTo cl most None) k h = absurd (true≢false (sym h))
@@ -67,7 +67,7 @@ ends_sound (UpTo cl most (Some n)) k h = (n, refl, (0, omega arith, omega arith,
 pub ends_complete : (n : Node) → IsKept n → Continues n [] → ends_here n ≡ true
 ends_complete Empty k h = absurd h
 ends_complete (Class cl mark) k h = h.0
-ends_complete (Concat' p l q r le re ends m) k h =
+ends_complete (Concat' p l q r le re ends lm rm) k h =
     elim h [
       | inl a ↦ or_left (ends_here r) (ends_here l && re) (ends_complete r k.4 a)
       | inr b ↦
@@ -76,7 +76,7 @@ ends_complete (Concat' p l q r le re ends m) k h =
           (ends_complete l k.3 (subst (Continues l) (front_empty b.0 b.1 b.2) b.3))
           (k.1 ∙ skips_complete r (subst (Matches (tree_form r)) (back_empty b.0 b.1 b.2) b.4)))
     ]
-ends_complete (Alternation' p l q r) k h =
+ends_complete (Alternation' p l q r lm rm) k h =
     elim h [
       | inl a ↦ or_left (ends_here l) (ends_here r) (ends_complete l k.0 a)
       | inr b ↦ or_right (ends_here l) (ends_here r) (ends_complete r k.1 b)
@@ -89,11 +89,11 @@ ends_complete (UpTo cl most left) k h = ap is_some h.1
 pub form_shifted : (n : Node) (start : Bool) (c : ℕ) → tree_form (shifted start c n) ≡ tree_form n
 form_shifted Empty start c = refl
 form_shifted (Class cl mark) start c = refl
-form_shifted (Concat' p l q r le re ends m) start c =
+form_shifted (Concat' p l q r le re ends lm rm) start c =
     let a = form_shifted l start c in
     let b = form_shifted r (ends || (start && le)) c in
     cc
-form_shifted (Alternation' p l q r) start c =
+form_shifted (Alternation' p l q r lm rm) start c =
     let a = form_shifted l start c in
     let b = form_shifted r start c in
     cc
@@ -103,11 +103,11 @@ form_shifted (UpTo cl most left) start c = refl
 pub skips_shifted : (n : Node) (start : Bool) (c : ℕ) → skips (shifted start c n) ≡ skips n
 skips_shifted Empty start c = refl
 skips_shifted (Class cl mark) start c = refl
-skips_shifted (Concat' p l q r le re ends m) start c =
+skips_shifted (Concat' p l q r le re ends lm rm) start c =
     let a = skips_shifted l start c in
     let b = skips_shifted r (ends || (start && le)) c in
     cc
-skips_shifted (Alternation' p l q r) start c =
+skips_shifted (Alternation' p l q r lm rm) start c =
     let a = skips_shifted l start c in
     let b = skips_shifted r start c in
     cc
@@ -128,15 +128,16 @@ kept_fewer cl most (Some n) false c k = fewer_within cl n most c (is_in_class cl
 pub kept_shifted : (n : Node) (start : Bool) (c : ℕ) → IsKept n → IsKept (shifted start c n)
 kept_shifted Empty start c k = tt
 kept_shifted (Class cl mark) start c k = tt
-kept_shifted (Concat' p l q r le re ends m) start c k = (
+kept_shifted (Concat' p l q r le re ends lm rm) start c k = (
   k.0 ∙ sym (skips_shifted l start c),
   k.1 ∙ sym (skips_shifted r (ends || (start && le)) c),
   refl,
   kept_shifted l start c k.3,
   kept_shifted r (ends || (start && le)) c k.4,
   refl,
+  refl,
 )
-kept_shifted (Alternation' p l q r) start c k = (kept_shifted l start c k.0, kept_shifted r start c k.1)
+kept_shifted (Alternation' p l q r lm rm) start c k = (kept_shifted l start c k.0, kept_shifted r start c k.1, refl, refl)
 kept_shifted (Star' p b ends) start c k = (refl, kept_shifted b (start || ends) c k.1)
 kept_shifted (UpTo cl most left) start c k = kept_fewer cl most left start c k
 
@@ -145,32 +146,36 @@ kept_shifted (UpTo cl most left) start c k = kept_fewer cl most left start c k
 pub ends_unmarked : (n : Node) → IsKept n → is_marked n ≡ false → ends_here n ≡ false
 ends_unmarked Empty k h = refl
 ends_unmarked (Class cl mark) k h = h
-ends_unmarked (Concat' p l q r le re ends m) k h =
-    let both = or_parts (is_marked l) (is_marked r) (sym k.5 ∙ h) in
-    or_from (ends_here r) (ends_here l && re) (ends_unmarked r k.4 both.1) (ap (λ b. b && re) (ends_unmarked l k.3 both.0))
-ends_unmarked (Alternation' p l q r) k h =
-    let both = or_parts (is_marked l) (is_marked r) h in
-    or_from (ends_here l) (ends_here r) (ends_unmarked l k.0 both.0) (ends_unmarked r k.1 both.1)
+ends_unmarked (Concat' p l q r le re ends lm rm) k h =
+    let both = or_parts lm rm h in
+    or_from (ends_here r) (ends_here l && re) (ends_unmarked r k.4 (sym k.6 ∙ both.1))
+    (ap (λ b. b && re) (ends_unmarked l k.3 (sym k.5 ∙ both.0)))
+ends_unmarked (Alternation' p l q r lm rm) k h =
+    let both = or_parts lm rm h in
+    or_from (ends_here l) (ends_here r) (ends_unmarked l k.0 (sym k.2 ∙ both.0)) (ends_unmarked r k.1 (sym k.3 ∙ both.1))
 ends_unmarked (Star' p b ends) k h = ends_unmarked b k.1 h
 ends_unmarked (UpTo cl most left) k h = h
 
 pub shifted_unmarked : (n : Node) (c : ℕ) → IsKept n → is_marked n ≡ false → shifted false c n ≡ n
 shifted_unmarked Empty c k h = refl
 shifted_unmarked (Class cl mark) c k h = ap (Class cl) (sym h)
-shifted_unmarked (Concat' p l q r le re ends m) c k h =
-    let both = or_parts (is_marked l) (is_marked r) (sym k.5 ∙ h) in
-    let a = shifted_unmarked l c k.3 both.0 in
-    let none : ends ≡ false = k.2 ∙ ends_unmarked l k.3 both.0 in
-    let b = ap (λ s. shifted (s || (false && le)) c r) none ∙ shifted_unmarked r c k.4 both.1 in
+shifted_unmarked (Concat' p l q r le re ends lm rm) c k h =
+    let both = or_parts lm rm h in
+    let still_l : is_marked l ≡ false = sym k.5 ∙ both.0 in
+    let still_r : is_marked r ≡ false = sym k.6 ∙ both.1 in
+    let a = shifted_unmarked l c k.3 still_l in
+    let none : ends ≡ false = k.2 ∙ ends_unmarked l k.3 still_l in
+    let b = ap (λ s. shifted (s || (false && le)) c r) none ∙ shifted_unmarked r c k.4 still_r in
     let e = ap ends_here a ∙ sym k.2 in
-    let f = ap is_marked a in
-    let g = ap is_marked b in
-    let kept = k.5 in
+    let f = ap is_marked a ∙ sym k.5 in
+    let g = ap is_marked b ∙ sym k.6 in
     cc
-shifted_unmarked (Alternation' p l q r) c k h =
-    let both = or_parts (is_marked l) (is_marked r) h in
-    let a = shifted_unmarked l c k.0 both.0 in
-    let b = shifted_unmarked r c k.1 both.1 in
+shifted_unmarked (Alternation' p l q r lm rm) c k h =
+    let both = or_parts lm rm h in
+    let a = shifted_unmarked l c k.0 (sym k.2 ∙ both.0) in
+    let b = shifted_unmarked r c k.1 (sym k.3 ∙ both.1) in
+    let f = ap is_marked a ∙ sym k.2 in
+    let g = ap is_marked b ∙ sym k.3 in
     cc
 shifted_unmarked (Star' p b ends) c k h =
     let none : ends ≡ false = k.0 ∙ ends_unmarked b k.1 h in
@@ -314,7 +319,7 @@ shift_sound Empty start c ds k h = absurd h
 shift_sound (Class cl mark) start c ds k h =
     let both = and_parts start (is_in_class cl.negated cl.items.items c) h.0 in
     inr (both.0, (c, ap (λ x. c ∷ x) h.1, both.1))
-shift_sound (Concat' p l q r le re ends m) start c ds k h =
+shift_sound (Concat' p l q r le re ends lm rm) start c ds k h =
     elim h [
       | inl a ↦ elim (shift_sound r (ends || (start && le)) c ds k.4 a) [
         | inl x ↦ inl (inl x)
@@ -332,7 +337,7 @@ shift_sound (Concat' p l q r le re ends m) start c ds k h =
             | inr x ↦ inr (x.0, (c ∷ b.0, b.1, ap (λ x. c ∷ x) b.2, x.1, rest))
           ]
     ]
-shift_sound (Alternation' p l q r) start c ds k h =
+shift_sound (Alternation' p l q r lm rm) start c ds k h =
     elim h [
       | inl a ↦ elim (shift_sound l start c ds k.0 a) [ inl x ↦ inl (inl x) | inr x ↦ inr (x.0, inl x.1) ]
       | inr b ↦ elim (shift_sound r start c ds k.1 b) [ inl x ↦ inl (inr x) | inr x ↦ inr (x.0, inr x.1) ]
@@ -374,7 +379,7 @@ shift_complete (Class cl mark) start c ds k h =
             tail,
           )
     ]
-shift_complete (Concat' p l q r le re ends m) start c ds k h =
+shift_complete (Concat' p l q r le re ends lm rm) start c ds k h =
     elim h [
       | inl x ↦ elim x [
         | inl a ↦ inl (shift_complete r (ends || (start && le)) c ds k.4 (inl a))
@@ -408,7 +413,7 @@ shift_complete (Concat' p l q r le re ends m) start c ds k h =
             )
           ]
     ]
-shift_complete (Alternation' p l q r) start c ds k h =
+shift_complete (Alternation' p l q r lm rm) start c ds k h =
     elim h [
       | inl x ↦ elim x [ inl a ↦ inl (shift_complete l start c ds k.0 (inl a)) | inr b ↦ inr (shift_complete r start c ds k.1 (inl b)) ]
       | inr y ↦ elim y.1 [
@@ -463,8 +468,8 @@ each_parts (Class cl mark) h (c ∷ ds) =
     let in_all : is_in_class cl.negated cl.items.items c ≡ true =
     ap (λ b. is_in_class b cl.items.items c) both.0 ∙ ap (λ is. is_in_class true is c) (none_within cl.items.items both.1) in
     (c ∷ [], ds, refl, (c, refl, in_all), each_parts (Class cl mark) h ds)
-each_parts (Concat' p l q r le re ends m) h (c ∷ ds) = absurd (true≢false (sym h))
-each_parts (Alternation' p l q r) h (c ∷ ds) = absurd (true≢false (sym h))
+each_parts (Concat' p l q r le re ends lm rm) h (c ∷ ds) = absurd (true≢false (sym h))
+each_parts (Alternation' p l q r lm rm) h (c ∷ ds) = absurd (true≢false (sym h))
 each_parts (Star' p b ends) h (c ∷ ds) = absurd (true≢false (sym h))
 each_parts (UpTo cl most left) h (c ∷ ds) = absurd (true≢false (sym h))
 
@@ -474,8 +479,8 @@ each_star n h ds = (length ds, omega arith, tt, each_parts n h ds)
 any_matches : (n : Node) → is_any n ≡ true → (ds : List ℕ) → Matches (tree_form n) ds
 any_matches Empty h ds = absurd (true≢false (sym h))
 any_matches (Class cl mark) h ds = absurd (true≢false (sym h))
-any_matches (Concat' p l q r le re ends m) h ds = absurd (true≢false (sym h))
-any_matches (Alternation' p l q r) h ds = absurd (true≢false (sym h))
+any_matches (Concat' p l q r le re ends lm rm) h ds = absurd (true≢false (sym h))
+any_matches (Alternation' p l q r lm rm) h ds = absurd (true≢false (sym h))
 any_matches (Star' p b ends) h ds = each_star b h ds
 any_matches (UpTo cl most left) h ds = absurd (true≢false (sym h))
 
@@ -483,14 +488,14 @@ any_matches (UpTo cl most left) h ds = absurd (true≢false (sym h))
 pub settled_goes : (n : Node) → IsKept n → is_settled n ≡ true → (ds : List ℕ) → Continues n ds
 settled_goes Empty k h ds = absurd (true≢false (sym h))
 settled_goes (Class cl mark) k h ds = absurd (true≢false (sym h))
-settled_goes (Concat' p l q r le re ends m) k h ds =
+settled_goes (Concat' p l q r le re ends lm rm) k h ds =
     elim (or_cases (is_settled r) (ends && is_any r) h) [
       | inl a ↦ inl (settled_goes r k.4 a ds)
       | inr b ↦
           let both = and_parts ends (is_any r) b in
           inr ([], ds, refl, ends_sound l k.3 (sym k.2 ∙ both.0), any_matches r both.1 ds)
     ]
-settled_goes (Alternation' p l q r) k h ds =
+settled_goes (Alternation' p l q r lm rm) k h ds =
     elim (or_cases (is_settled l) (is_settled r) h) [ inl a ↦ inl (settled_goes l k.0 a ds) | inr b ↦ inr (settled_goes r k.1 b ds) ]
 settled_goes (Star' p b ends) k h ds =
     let both = and_parts ends (is_each b) h in

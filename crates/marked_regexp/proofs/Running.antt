@@ -15,56 +15,62 @@ use Rattle.marked_regexp.proofs.Marking.{shift_complete, front_empty, settled_go
 pub form_cleared : (n : Node) → tree_form (cleared n) ≡ tree_form n
 form_cleared Empty = refl
 form_cleared (Class cl mark) = refl
-form_cleared (Concat' p l q r le re ends m) = let a = form_cleared l in let b = form_cleared r in cc
-form_cleared (Alternation' p l q r) = let a = form_cleared l in let b = form_cleared r in cc
+form_cleared (Concat' p l q r le re ends lm rm) = let a = form_cleared l in let b = form_cleared r in cc
+form_cleared (Alternation' p l q r lm rm) = let a = form_cleared l in let b = form_cleared r in cc
 form_cleared (Star' p b ends) = ap (λ f. repetition f 0 None) (form_cleared b)
 form_cleared (UpTo cl most left) = refl
 
 pub skips_cleared : (n : Node) → skips (cleared n) ≡ skips n
 skips_cleared Empty = refl
 skips_cleared (Class cl mark) = refl
-skips_cleared (Concat' p l q r le re ends m) = let a = skips_cleared l in let b = skips_cleared r in cc
-skips_cleared (Alternation' p l q r) = let a = skips_cleared l in let b = skips_cleared r in cc
+skips_cleared (Concat' p l q r le re ends lm rm) = let a = skips_cleared l in let b = skips_cleared r in cc
+skips_cleared (Alternation' p l q r lm rm) = let a = skips_cleared l in let b = skips_cleared r in cc
 skips_cleared (Star' p b ends) = refl
 skips_cleared (UpTo cl most left) = refl
 
 ends_cleared : (n : Node) → ends_here (cleared n) ≡ false
 ends_cleared Empty = refl
 ends_cleared (Class cl mark) = refl
-ends_cleared (Concat' p l q r le re ends m) =
+ends_cleared (Concat' p l q r le re ends lm rm) =
     or_from (ends_here (cleared r)) (ends_here (cleared l) && re) (ends_cleared r) (ap (λ b. b && re) (ends_cleared l))
-ends_cleared (Alternation' p l q r) = or_from (ends_here (cleared l)) (ends_here (cleared r)) (ends_cleared l) (ends_cleared r)
+ends_cleared (Alternation' p l q r lm rm) = or_from (ends_here (cleared l)) (ends_here (cleared r)) (ends_cleared l) (ends_cleared r)
 ends_cleared (Star' p b ends) = ends_cleared b
 ends_cleared (UpTo cl most left) = refl
 
 pub marked_cleared : (n : Node) → is_marked (cleared n) ≡ false
 marked_cleared Empty = refl
 marked_cleared (Class cl mark) = refl
-marked_cleared (Concat' p l q r le re ends m) = refl
-marked_cleared (Alternation' p l q r) = or_from (is_marked (cleared l)) (is_marked (cleared r)) (marked_cleared l) (marked_cleared r)
+marked_cleared (Concat' p l q r le re ends lm rm) = refl
+marked_cleared (Alternation' p l q r lm rm) = refl
 marked_cleared (Star' p b ends) = marked_cleared b
 marked_cleared (UpTo cl most left) = refl
 
 pub kept_cleared : (n : Node) → IsKept n → IsKept (cleared n)
 kept_cleared Empty k = tt
 kept_cleared (Class cl mark) k = tt
-kept_cleared (Concat' p l q r le re ends m) k = (
+kept_cleared (Concat' p l q r le re ends lm rm) k = (
   k.0 ∙ sym (skips_cleared l),
   k.1 ∙ sym (skips_cleared r),
   sym (ends_cleared l),
   kept_cleared l k.3,
   kept_cleared r k.4,
-  sym (or_from (is_marked (cleared l)) (is_marked (cleared r)) (marked_cleared l) (marked_cleared r)),
+  sym (marked_cleared l),
+  sym (marked_cleared r),
 )
-kept_cleared (Alternation' p l q r) k = (kept_cleared l k.0, kept_cleared r k.1)
+kept_cleared (Alternation' p l q r lm rm) k = (
+  kept_cleared l k.0,
+  kept_cleared r k.1,
+  sym (marked_cleared l),
+  sym (marked_cleared r),
+)
 kept_cleared (Star' p b ends) k = (sym (ends_cleared b), kept_cleared b k.1)
 kept_cleared (UpTo cl most left) k = refl
 
 none_cleared : (n : Node) (ds : List ℕ) → Continues (cleared n) ds → ⊥
 none_cleared Empty ds h = h
 none_cleared (Class cl mark) ds h = true≢false (sym h.0)
-none_cleared (Concat' p l q r le re ends m) ds h = elim h [ inl a ↦ none_cleared r ds a | inr b ↦ none_cleared l b.0 b.3 ]
-none_cleared (Alternation' p l q r) ds h = elim h [ inl a ↦ none_cleared l ds a | inr b ↦ none_cleared r ds b ]
+none_cleared (Concat' p l q r le re ends lm rm) ds h = elim h [ inl a ↦ none_cleared r ds a | inr b ↦ none_cleared l b.0 b.3 ]
+none_cleared (Alternation' p l q r lm rm) ds h = elim h [ inl a ↦ none_cleared l ds a | inr b ↦ none_cleared r ds b ]
 none_cleared (Star' p b ends) ds h = none_cleared b h.0 h.3
 none_cleared (UpTo cl most left) ds h = let e : None ≡ Some h.0 = h.1 in cc
 
@@ -72,16 +78,21 @@ none_cleared (UpTo cl most left) ds h = let e : None ≡ Some h.0 = h.1 in cc
 pub cleared_unmarked : (n : Node) → IsKept n → is_marked n ≡ false → n ≡ cleared n
 cleared_unmarked Empty k h = refl
 cleared_unmarked (Class cl mark) k h = ap (Class cl) h
-cleared_unmarked (Concat' p l q r le re ends m) k h =
-    let both = or_parts (is_marked l) (is_marked r) (sym k.5 ∙ h) in
-    let a = cleared_unmarked l k.3 both.0 in
-    let b = cleared_unmarked r k.4 both.1 in
-    let none : ends ≡ false = k.2 ∙ ends_unmarked l k.3 both.0 in
+cleared_unmarked (Concat' p l q r le re ends lm rm) k h =
+    let both = or_parts lm rm h in
+    let none_l : is_marked l ≡ false = sym k.5 ∙ both.0 in
+    let a = cleared_unmarked l k.3 none_l in
+    let b = cleared_unmarked r k.4 (sym k.6 ∙ both.1) in
+    let none : ends ≡ false = k.2 ∙ ends_unmarked l k.3 none_l in
+    let m = both.0 in
+    let n = both.1 in
     cc
-cleared_unmarked (Alternation' p l q r) k h =
-    let both = or_parts (is_marked l) (is_marked r) h in
-    let a = cleared_unmarked l k.0 both.0 in
-    let b = cleared_unmarked r k.1 both.1 in
+cleared_unmarked (Alternation' p l q r lm rm) k h =
+    let both = or_parts lm rm h in
+    let a = cleared_unmarked l k.0 (sym k.2 ∙ both.0) in
+    let b = cleared_unmarked r k.1 (sym k.3 ∙ both.1) in
+    let m = both.0 in
+    let n = both.1 in
     cc
 cleared_unmarked (Star' p b ends) k h =
     let none : ends ≡ false = k.0 ∙ ends_unmarked b k.1 h in

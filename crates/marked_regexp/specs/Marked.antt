@@ -11,8 +11,8 @@ use Rattle.marked_regexp.specs.Forms.{Form, empty, class, concat, alternation, r
 abbrev pub tree_form : Node → Form
 tree_form Empty = empty
 tree_form (Class cl mark) = class cl.negated cl.items.items
-tree_form (Concat' p l q r le re ends m) = concat (tree_form l) (tree_form r)
-tree_form (Alternation' p l q r) = alternation (tree_form l) (tree_form r)
+tree_form (Concat' p l q r le re ends lm rm) = concat (tree_form l) (tree_form r)
+tree_form (Alternation' p l q r lm rm) = alternation (tree_form l) (tree_form r)
 tree_form (Star' p b ends) = repetition (tree_form b) 0 None
 tree_form (UpTo cl most left) = repetition (class cl.negated cl.items.items) 0 (Some most)
 
@@ -20,8 +20,8 @@ tree_form (UpTo cl most left) = repetition (class cl.negated cl.items.items) 0 (
 abbrev pub is_empty : Node → Bool
 is_empty Empty = true
 is_empty (Class cl mark) = false
-is_empty (Concat' p l q r le re ends m) = false
-is_empty (Alternation' p l q r) = false
+is_empty (Concat' p l q r le re ends lm rm) = false
+is_empty (Alternation' p l q r lm rm) = false
 is_empty (Star' p b ends) = false
 is_empty (UpTo cl most left) = false
 
@@ -29,8 +29,8 @@ is_empty (UpTo cl most left) = false
 abbrev pub skips : Node → Bool
 skips Empty = true
 skips (Class cl mark) = false
-skips (Concat' p l q r le re ends m) = skips l && skips r
-skips (Alternation' p l q r) = skips l || skips r
+skips (Concat' p l q r le re ends lm rm) = skips l && skips r
+skips (Alternation' p l q r lm rm) = skips l || skips r
 skips (Star' p b ends) = true
 skips (UpTo cl most left) = true
 
@@ -38,8 +38,8 @@ skips (UpTo cl most left) = true
 abbrev pub ends_here : Node → Bool
 ends_here Empty = false
 ends_here (Class cl mark) = mark
-ends_here (Concat' p l q r le re ends m) = ends_here r || (ends_here l && re)
-ends_here (Alternation' p l q r) = ends_here l || ends_here r
+ends_here (Concat' p l q r le re ends lm rm) = ends_here r || (ends_here l && re)
+ends_here (Alternation' p l q r lm rm) = ends_here l || ends_here r
 ends_here (Star' p b ends) = ends_here b
 ends_here (UpTo cl most left) = is_some left
 
@@ -47,8 +47,8 @@ ends_here (UpTo cl most left) = is_some left
 abbrev pub is_marked : Node → Bool
 is_marked Empty = false
 is_marked (Class cl mark) = mark
-is_marked (Concat' p l q r le re ends m) = m
-is_marked (Alternation' p l q r) = is_marked l || is_marked r
+is_marked (Concat' p l q r le re ends lm rm) = lm || rm
+is_marked (Alternation' p l q r lm rm) = lm || rm
 is_marked (Star' p b ends) = is_marked b
 is_marked (UpTo cl most left) = is_some left
 
@@ -61,9 +61,9 @@ is_within (Some n) most = nat_le n most
 abbrev pub IsKept : Node → Type 0
 IsKept Empty = Unit {0}
 IsKept (Class cl mark) = Unit {0}
-IsKept (Concat' p l q r le re ends m) =
-    (le ≡ skips l) × (re ≡ skips r) × (ends ≡ ends_here l) × IsKept l × IsKept r × (m ≡ (is_marked l || is_marked r))
-IsKept (Alternation' p l q r) = IsKept l × IsKept r
+IsKept (Concat' p l q r le re ends lm rm) =
+    (le ≡ skips l) × (re ≡ skips r) × (ends ≡ ends_here l) × IsKept l × IsKept r × (lm ≡ is_marked l) × (rm ≡ is_marked r)
+IsKept (Alternation' p l q r lm rm) = IsKept l × IsKept r × (lm ≡ is_marked l) × (rm ≡ is_marked r)
 IsKept (Star' p b ends) = (ends ≡ ends_here b) × IsKept b
 IsKept (UpTo cl most left) = is_within left most ≡ true
 
@@ -84,8 +84,8 @@ has_none (i ∷ is) = false
 abbrev pub is_each : Node → Bool
 is_each Empty = false
 is_each (Class cl mark) = cl.negated && has_none cl.items.items
-is_each (Concat' p l q r le re ends m) = false
-is_each (Alternation' p l q r) = false
+is_each (Concat' p l q r le re ends lm rm) = false
+is_each (Alternation' p l q r lm rm) = false
 is_each (Star' p b ends) = false
 is_each (UpTo cl most left) = false
 
@@ -93,8 +93,8 @@ is_each (UpTo cl most left) = false
 abbrev pub is_any : Node → Bool
 is_any Empty = false
 is_any (Class cl mark) = false
-is_any (Concat' p l q r le re ends m) = false
-is_any (Alternation' p l q r) = false
+is_any (Concat' p l q r le re ends lm rm) = false
+is_any (Alternation' p l q r lm rm) = false
 is_any (Star' p b ends) = is_each b
 is_any (UpTo cl most left) = false
 
@@ -102,8 +102,8 @@ is_any (UpTo cl most left) = false
 abbrev pub is_settled : Node → Bool
 is_settled Empty = false
 is_settled (Class cl mark) = false
-is_settled (Concat' p l q r le re ends m) = is_settled r || (ends && is_any r)
-is_settled (Alternation' p l q r) = is_settled l || is_settled r
+is_settled (Concat' p l q r le re ends lm rm) = is_settled r || (ends && is_any r)
+is_settled (Alternation' p l q r lm rm) = is_settled l || is_settled r
 is_settled (Star' p b ends) = ends && is_each b
 is_settled (UpTo cl most left) = false
 
@@ -111,9 +111,9 @@ is_settled (UpTo cl most left) = false
 abbrev pub Continues : Node → List ℕ → Type 0
 Continues Empty ds = ⊥
 Continues (Class cl mark) ds = (mark ≡ true) × (ds ≡ [])
-Continues (Concat' p l q r le re ends m) ds =
+Continues (Concat' p l q r le re ends lm rm) ds =
     Continues r ds ⊎ ((xs : List ℕ) × (ys : List ℕ) × (ds ≡ xs ++ ys) × Continues l xs × Matches (tree_form r) ys)
-Continues (Alternation' p l q r) ds = Continues l ds ⊎ Continues r ds
+Continues (Alternation' p l q r lm rm) ds = Continues l ds ⊎ Continues r ds
 Continues (Star' p b ends) ds =
     (xs : List ℕ) × (ys : List ℕ) × (ds ≡ xs ++ ys) × Continues b xs × Matches (repetition (tree_form b) 0 None) ys
 Continues (UpTo cl most left) ds =
@@ -133,10 +133,11 @@ fewer cl (Some n) c = cond (is_in_class cl.negated cl.items.items c) (less_one n
 abbrev pub shifted : Bool → ℕ → Node → Node
 shifted start c Empty = Empty
 shifted start c (Class cl mark) = Class cl (start && is_in_class cl.negated cl.items.items c)
-shifted start c (Concat' p l q r le re ends m) =
+shifted start c (Concat' p l q r le re ends lm rm) =
     Concat' p (shifted start c l) q (shifted (ends || (start && le)) c r) le re (ends_here (shifted start c l))
-    (is_marked (shifted start c l) || is_marked (shifted (ends || (start && le)) c r))
-shifted start c (Alternation' p l q r) = Alternation' p (shifted start c l) q (shifted start c r)
+    (is_marked (shifted start c l)) (is_marked (shifted (ends || (start && le)) c r))
+shifted start c (Alternation' p l q r lm rm) =
+    Alternation' p (shifted start c l) q (shifted start c r) (is_marked (shifted start c l)) (is_marked (shifted start c r))
 shifted start c (Star' p b ends) = Star' p (shifted (start || ends) c b) (ends_here (shifted (start || ends) c b))
 shifted start c (UpTo cl most left) = UpTo cl most (fewer cl (cond start (Some most) left) c)
 
@@ -144,8 +145,8 @@ shifted start c (UpTo cl most left) = UpTo cl most (fewer cl (cond start (Some m
 abbrev pub cleared : Node → Node
 cleared Empty = Empty
 cleared (Class cl mark) = Class cl false
-cleared (Concat' p l q r le re ends m) = Concat' p (cleared l) q (cleared r) le re false false
-cleared (Alternation' p l q r) = Alternation' p (cleared l) q (cleared r)
+cleared (Concat' p l q r le re ends lm rm) = Concat' p (cleared l) q (cleared r) le re false false false
+cleared (Alternation' p l q r lm rm) = Alternation' p (cleared l) q (cleared r) false false
 cleared (Star' p b ends) = Star' p (cleared b) false
 cleared (UpTo cl most left) = UpTo cl most None
 
@@ -160,9 +161,9 @@ same_bool false b = not b
 abbrev pub is_kept : Node → Bool
 is_kept Empty = true
 is_kept (Class cl mark) = true
-is_kept (Concat' p l q r le re ends m) =
+is_kept (Concat' p l q r le re ends lm rm) =
     same_bool le (skips l) && (same_bool re (skips r) && (same_bool ends (ends_here l)
-    && (is_kept l && (is_kept r && same_bool m (is_marked l || is_marked r)))))
-is_kept (Alternation' p l q r) = is_kept l && is_kept r
+    && (is_kept l && (is_kept r && (same_bool lm (is_marked l) && same_bool rm (is_marked r))))))
+is_kept (Alternation' p l q r lm rm) = is_kept l && (is_kept r && (same_bool lm (is_marked l) && same_bool rm (is_marked r)))
 is_kept (Star' p b ends) = same_bool ends (ends_here b) && is_kept b
 is_kept (UpTo cl most left) = is_within left most

@@ -81,7 +81,8 @@ impl Expression {
                 left_empty,
                 right_empty,
                 left_ends: false,
-                marked: false,
+                left_marked: false,
+                right_marked: false,
             },
         })
     }
@@ -99,6 +100,8 @@ impl Expression {
             root: Node::Alternation {
                 left: Box::new(alloc, left.root)?,
                 right: Box::new(alloc, right.root)?,
+                left_marked: false,
+                right_marked: false,
             },
         })
     }

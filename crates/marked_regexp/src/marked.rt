@@ -22,12 +22,16 @@ pub(crate) enum Node {
         left_empty: bool,
         right_empty: bool,
         left_ends: bool,
-        // whether either part has a mark
-        marked: bool,
+        // whether each part has a mark
+        left_marked: bool,
+        right_marked: bool,
     },
     Alternation {
         left: Box<Node>,
         right: Box<Node>,
+        // whether each branch has a mark
+        left_marked: bool,
+        right_marked: bool,
     },
     Star {
         body: Box<Node>,
@@ -67,18 +71,27 @@ impl Node {
                 left_empty,
                 right_empty,
                 left_ends,
-                marked,
+                left_marked,
+                right_marked,
             } => Ok(Node::Concat {
                 left: Box::new(alloc, left.copy(alloc)?)?,
                 right: Box::new(alloc, right.copy(alloc)?)?,
                 left_empty: *left_empty,
                 right_empty: *right_empty,
                 left_ends: *left_ends,
-                marked: *marked,
+                left_marked: *left_marked,
+                right_marked: *right_marked,
             }),
-            Node::Alternation { left, right } => Ok(Node::Alternation {
+            Node::Alternation {
+                left,
+                right,
+                left_marked,
+                right_marked,
+            } => Ok(Node::Alternation {
                 left: Box::new(alloc, left.copy(alloc)?)?,
                 right: Box::new(alloc, right.copy(alloc)?)?,
+                left_marked: *left_marked,
+                right_marked: *right_marked,
             }),
             Node::Star { body, body_ends } => Ok(Node::Star {
                 body: Box::new(alloc, body.copy(alloc)?)?,
@@ -100,7 +113,7 @@ impl Node {
             Node::Empty => true,
             Node::Class { .. } => false,
             Node::Concat { left, right, .. } => left.skips() && right.skips(),
-            Node::Alternation { left, right } => left.skips() || right.skips(),
+            Node::Alternation { left, right, .. } => left.skips() || right.skips(),
             Node::Star { .. } | Node::UpTo { .. } => true,
         }
     }
@@ -112,8 +125,16 @@ impl Node {
         match self {
             Node::Empty => false,
             Node::Class { mark, .. } => *mark,
-            Node::Concat { marked, .. } => *marked,
-            Node::Alternation { left, right } => left.is_marked() || right.is_marked(),
+            Node::Concat {
+                left_marked,
+                right_marked,
+                ..
+            }
+            | Node::Alternation {
+                left_marked,
+                right_marked,
+                ..
+            } => *left_marked || *right_marked,
             Node::Star { body, .. } => body.is_marked(),
             Node::UpTo { left, .. } => left.is_some(),
         }
@@ -150,13 +171,28 @@ impl Node {
                 left_ends,
                 ..
             } => { right.is_settled() || (*left_ends && right.is_any()) }
-            Node::Alternation { left, right } => left.is_settled() || right.is_settled(),
+            Node::Alternation { left, right, .. } => left.is_settled() || right.is_settled(),
             Node::Star { body, body_ends } => *body_ends && body.is_each(),
         }
     }
 
-    /// Removes all marks.
+    /// Removes all marks, as `clear` does. Where there is none, nothing is done.
+    #[cycle(clear)]
+    fn clear_if(&mut self, marked: bool)
+        requires kept { IsKept self.old }
+        requires marked { marked ≡ is_marked self.old }
+        ensures { self.new ≡ cleared self.old }
+    {
+        if !marked {
+            return;
+        }
+        self.clear();
+    }
+
+    /// Removes all marks. Parts without marks are passed over.
+    #[cycle(clear)]
     pub(crate) fn clear(&mut self)
+        requires { IsKept self.old }
         ensures { self.new ≡ cleared self.old }
     {
         match self {
@@ -166,17 +202,26 @@ impl Node {
                 left,
                 right,
                 left_ends,
-                marked,
+                left_marked,
+                right_marked,
                 ..
             } => {
-                left.clear();
-                right.clear();
+                left.clear_if(*left_marked);
+                right.clear_if(*right_marked);
                 *left_ends = false;
-                *marked = false;
+                *left_marked = false;
+                *right_marked = false;
             }
-            Node::Alternation { left, right } => {
-                left.clear();
-                right.clear();
+            Node::Alternation {
+                left,
+                right,
+                left_marked,
+                right_marked,
+            } => {
+                left.clear_if(*left_marked);
+                right.clear_if(*right_marked);
+                *left_marked = false;
+                *right_marked = false;
             }
             Node::Star { body, body_ends } => {
                 body.clear();
@@ -186,9 +231,26 @@ impl Node {
         }
     }
 
+    /// Moves the marks over a character, as `shift` does. Where the text does not begin here and
+    /// there is no mark, nothing is done.
+    #[cycle(shift)]
+    fn step(&mut self, marked: bool, start: bool, c: char) -> (bool, bool)
+        requires kept { IsKept self.old }
+        requires marked { marked ≡ is_marked self.old }
+        ensures marks { self.new ≡ shifted start c self.old }
+        ensures ends { result.0 ≡ ends_here self.new }
+        ensures marked { result.1 ≡ is_marked self.new }
+    {
+        if !(start | marked) {
+            return (false, false);
+        }
+        self.shift(start, c)
+    }
+
     /// Moves the marks over a character, each to the classes that may follow. With `start`, the
     /// text may also begin with this character. Returns whether the text can end after it, and
     /// whether there is a mark.
+    #[cycle(shift)]
     pub(crate) fn shift(&mut self, start: bool, c: char) -> (bool, bool)
         requires { IsKept self.old }
         ensures marks { self.new ≡ shifted start c self.old }
@@ -207,22 +269,28 @@ impl Node {
                 left_empty,
                 right_empty,
                 left_ends,
-                marked,
+                left_marked,
+                right_marked,
             } => {
-                if !(start | *marked) {
-                    return (false, false);
-                }
                 let enters = *left_ends | (start & *left_empty);
-                let (ends, left_marked) = left.shift(start, c);
+                let (ends, goes_left) = left.step(*left_marked, start, c);
                 *left_ends = ends;
-                let (found, right_marked) = right.shift(enters, c);
-                *marked = left_marked | right_marked;
-                (found | (ends & *right_empty), *marked)
+                *left_marked = goes_left;
+                let (found, goes_right) = right.step(*right_marked, enters, c);
+                *right_marked = goes_right;
+                (found | (ends & *right_empty), goes_left | goes_right)
             }
-            Node::Alternation { left, right } => {
-                let (left_ends, left_marked) = left.shift(start, c);
-                let (right_ends, right_marked) = right.shift(start, c);
-                (left_ends | right_ends, left_marked | right_marked)
+            Node::Alternation {
+                left,
+                right,
+                left_marked,
+                right_marked,
+            } => {
+                let (left_ends, goes_left) = left.step(*left_marked, start, c);
+                *left_marked = goes_left;
+                let (right_ends, goes_right) = right.step(*right_marked, start, c);
+                *right_marked = goes_right;
+                (left_ends | right_ends, goes_left | goes_right)
             }
             Node::Star { body, body_ends } => {
                 let (ends, marked) = body.shift(start | *body_ends, c);
