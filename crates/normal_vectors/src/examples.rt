@@ -4,7 +4,7 @@ use std::test::Fail;
 use tinyjson::JsonParseErrorKind;
 use tinyjson_document::Document;
 use tinyjson_normal::{Compact, NormalReader, NormalText, is_normal};
-use tinyjson_replay::replay;
+use tinyjson_replay::{NodeEvents, replay};
 
 #[test]
 fn a_text(rt: HostRuntime) -> Result<(), Fail> {
@@ -122,5 +122,16 @@ fn a_text_of_events(rt: HostRuntime) -> Result<(), Fail> {
     replay(alloc, document.root(), &mut text)?;
     text.write_line_to(&mut output)?;
     assert_eq!(rt; output.as_slice(), b"{\"a\":[2.5]}\n".as_slice());
+    Ok(())
+}
+
+#[test]
+fn bytes_of_events(rt: HostRuntime) -> Result<(), Fail> {
+    let alloc = rt.alloc();
+    let document = Document::read(alloc, r#"{"a": [2.50]}"#)?;
+    let mut text = Compact::new(alloc);
+    text.replay(alloc, document.root())?;
+    let bytes = text.into_bytes();
+    assert_eq!(rt; bytes.as_slice(), b"{\"a\":[2.5]}".as_slice());
     Ok(())
 }

@@ -1,6 +1,6 @@
 -- What stands in compact text that is being built, when a value comes or a container is closed.
 use Rattle.std.proofs.Common.{◌≡◌, ℕ, ◌+◌, Bool, true, false, ◌==◌, List, [], ◌∷◌, ◌++◌, length, take, drop, refl, sym, ◌∙◌}
-use Rattle.std.proofs.Common.{ap, subst, append_assoc, append-nil, length-append, arith, Option, None, Result, Ok, Err, OnOk}
+use Rattle.std.proofs.Common.{ap, subst, append_assoc, append-nil, length-append, arith, Option, None, Some, Result, Ok, Err, OnOk}
 use Rattle.std.proofs.lemmas.List.{take_at, drop_at, same_from_push}
 use Rattle.std.proofs.lemmas.Str.{encodes-append, chars_from_encodes}
 use Rattle.tinyjson.specs.Events.{Open, in_array, at_key, at_value, Puts, TellsText}
@@ -11,6 +11,7 @@ use Rattle.tinyjson_grammar.specs.Tree.{Tree, null, boolean, number, string, arr
 use Rattle.tinyjson_grammar.specs.Tree.{Items, no_items, item, Members, no_members, member}
 use Rattle.std.specs.Str.{IsUtf8, chars}
 use Rattle.tinyjson_output.proofs.Callers.{enc, enc_cons, quoted_bytes}
+use Rattle.tinyjson_output.specs.Written.{Written}
 use Rattle.tinyjson_grammar.proofs.Callers.{compact_text}
 use Rattle.tinyjson_grammar.proofs.Callers.Laws.{only_tree}
 use Rattle.tinyjson_grammar.specs.Soundness as sound
@@ -282,6 +283,15 @@ pub puts_result : {T E : Type 0} (r : Result T E) (a b : Compact) (os : List Ope
     → b.opened.items ≡ a.opened.items → b.begun.items ≡ a.begun.items → OnOk r (b.text.items ≡ a.text.items ++ value_bytes t)
     → OnOk r (Puts Holds IsOf os t b)
 puts_result r a b os t h s o u e = on_ok r (λ k. puts a b os t h s o u k) e
+
+-- a value that was written, and the comma
+pub puts_written : (a b : Compact) (os : List Open) (t : Tree) (text : List ℕ) → Holds a os → b.store ≡ a.store
+    → b.opened.items ≡ a.opened.items → b.begun.items ≡ a.begun.items → Written (Some a.text.items) (Some text) (enc (compact t)) []
+    → b.text.items ≡ text ++ 44 ∷ [] → Puts Holds IsOf os t b
+puts_written a b os t text h s o u w e =
+    puts a b os t h s o u
+    (e ∙ ap (λ z. z ++ 44 ∷ []) (w.appended ∙ ap (λ z. a.text.items ++ z) (sym (append-nil w.done) ∙ sym w.split))
+    ∙ append_assoc a.text.items (enc (compact t)) (44 ∷ []))
 
 -- a container is opened
 pub opens : (a b : Compact) (os : List Open) (o : Open) (bracket : ℕ) (place : Start) → Holds a os → b.store ≡ a.store

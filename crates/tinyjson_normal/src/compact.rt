@@ -20,12 +20,14 @@ use std::alloc::{AllocError, Global};
 use std::io::{self, Write};
 use tinyjson::{Events, JsonNumber};
 use tinyjson_bytes::plain_end;
+use tinyjson_document::Node;
 use tinyjson_document::append::{ROOM, append, append_number, append_quoted};
 use tinyjson_document::ranking::keep_ordered;
 use tinyjson_document::sorting::rise;
 use tinyjson_document::store::{Cell, Member, Span, Store, part};
 use tinyjson_document::texts::Source;
 use tinyjson_output::{Buffer, flush, quote, write_number};
+use tinyjson_replay::{NodeEvents, replay};
 
 /// Where an open container begins: its contents in the text, and its members in the list of all.
 #[derive(Clone, Copy)]
@@ -103,8 +105,22 @@ impl Compact {
             WritesPrefix (W.contents out.old) (W.contents out.new)
             (encode_utf8_all (compact t) ++ line_feed ∷ []) result }
     {
-        self.text.truncate(self.text.len().saturating_sub(1));
+        cut_comma(&mut self.text);
         write_with_line_feed(out, &mut self.text)
+    }
+
+    /// The compact text of the value that was passed to it.
+    ///
+    /// ```
+    /// let bytes = text.into_bytes();
+    /// assert_eq!(rt; bytes.as_slice(), b"{\"a\":[2.5]}".as_slice());
+    /// ```
+    pub fn into_bytes(self) -> Vec<u8>
+        ensures { (t : Tree) → IsOf self t → result.items ≡ encode_utf8_all (compact t) }
+    {
+        let mut text = self.text;
+        cut_comma(&mut text);
+        text
     }
 
     /// Starts a new text, with room for `room` bytes if there is memory, and `left` bytes that may be
@@ -221,6 +237,30 @@ impl Events for Compact {
     fn literal(&mut self, value: Option<bool>) -> Result<(), AllocError> {
         self.text.extend_from_slice(literal_word(value))?;
         Ok(())
+    }
+}
+
+/// A value that holds others is written as it is in a document, with no look at the order of its members.
+impl NodeEvents for Compact {
+    fn replay(&mut self, alloc: Global, node: Node<'_>) -> Result<(), AllocError> {
+        if node.len() == 0 {
+            return replay(alloc, node, self);
+        }
+        let Ok(()) = node.write_to(alloc, &mut self.text) else {
+            return Err(AllocError);
+        };
+        self.text.push(b',')?;
+        Ok(())
+    }
+}
+
+/// Removes the comma at the end, if there is one.
+fn cut_comma(bytes: &mut Vec<u8>)
+    ensures { (xs : List ℕ) → bytes.old.items ≡ xs ++ value_separator ∷ [] →
+        bytes.new.items ≡ xs }
+{
+    if let Some(b',') = bytes.last() {
+        bytes.pop();
     }
 }
 

@@ -13,10 +13,9 @@ ghost use Rattle.tinyjson_patch.specs.Merging.{Encloses, Leads, Waits, had, left
 
 use std::alloc::{AllocError, Global};
 use std::cmp::Ordering;
-use tinyjson::Events;
 use tinyjson_document::arena::Arena;
 use tinyjson_document::{Document, Members, Node};
-use tinyjson_replay::replay;
+use tinyjson_replay::NodeEvents;
 
 /// What is left of an object of the patch, and of the members of the target beside it, if it is an object there.
 #[derive(Clone, Copy, Drop)]
@@ -54,7 +53,7 @@ pub fn merge_documents(
 /// ```
 /// merge_into(alloc, target.root(), patch.root(), &mut text)?;
 /// ```
-pub fn merge_into<E: Events>(
+pub fn merge_into<E: NodeEvents>(
     alloc: Global,
     target: Node<'_>,
     patch: Node<'_>,
@@ -66,7 +65,7 @@ pub fn merge_into<E: Events>(
         (merge_patch (tree target.entry) (tree patch.entry)) events.new) }
 {
     if !patch.is_object() {
-        return replay(alloc, patch, events);
+        return events.replay(alloc, patch);
     }
     let mut stack = Vec::new(alloc);
     open(Some(target), patch, events, &mut stack)?;
@@ -77,7 +76,7 @@ pub fn merge_into<E: Events>(
 }
 
 /// Opens an object of the patch, beside what the target has there.
-fn open<'t, 'p, E: Events>(
+fn open<'t, 'p, E: NodeEvents>(
     target: Option<Node<'t>>,
     patch: Node<'p>,
     events: &mut E,
@@ -111,7 +110,7 @@ fn members_of<'t>(target: Option<Node<'t>>) -> Option<Members<'t>>
 }
 
 /// Passes what comes next of an object, up to its end or to where another object of the patch is opened.
-fn resume<'t, 'p, E: Events>(
+fn resume<'t, 'p, E: NodeEvents>(
     alloc: Global,
     left: Left<'t, 'p>,
     events: &mut E,
@@ -137,14 +136,14 @@ fn resume<'t, 'p, E: Events>(
             stack.push(left)?;
             return open(old, change, events, stack);
         }
-        replay(alloc, change, events)?;
+        events.replay(alloc, change)?;
     }
     pass_all(alloc, left.target, events)?;
     events.close_object()
 }
 
 /// Passes the members of the target whose keys are below the key, and returns what it has at the key.
-fn pass_below<'t, E: Events>(
+fn pass_below<'t, E: NodeEvents>(
     alloc: Global,
     target: &mut Option<Members<'t>>,
     key: &str,
@@ -165,7 +164,7 @@ fn pass_below<'t, E: Events>(
         match order(other, key) {
             Ordering::Less => {
                 events.key(other)?;
-                replay(alloc, node, events)?;
+                events.replay(alloc, node)?;
                 members = above;
             }
             Ordering::Equal => {
@@ -190,7 +189,7 @@ fn order(key: &str, other: &str) -> Ordering
 }
 
 /// Passes all members of the target that are left.
-fn pass_all<E: Events>(
+fn pass_all<E: NodeEvents>(
     alloc: Global,
     target: Option<Members<'_>>,
     events: &mut E,
@@ -206,7 +205,7 @@ fn pass_all<E: Events>(
     };
     while let Some((key, node)) = members.next() {
         events.key(key)?;
-        replay(alloc, node, events)?;
+        events.replay(alloc, node)?;
     }
     Ok(())
 }

@@ -98,7 +98,7 @@ loop-key-preserved g c =
           let b = c.in_ok-old.ensures start v.0 v.1 v.2 in
           goes_scalar (E.holds start) (E.is start) os t (reverse c.args.stack.now.items) l.left m k (tree c.in-Some.change)
           c.in-Some.ensures.steps l.events v b.0 (option_map tree c.in_ok-old.old) b.2 (sym c.is_null.ensures ∙ c.if-is_null.false)
-          (sym c.is_object.ensures ∙ c.if-is_object.false) c.replay.new.events
+          (sym c.is_object.ensures ∙ c.if-is_object.false) c.replay.new.self
           (c.in_ok-replay.ensures start (at_value b.0 k ∷ v.1) (c.in_ok-key.ensures start b.0 v.1 b.1)),
       l.invariant.1,
       omega (arith, l.invariant.2, ap members_weight c.in-Some.ensures.steps),
