@@ -1,6 +1,7 @@
 -- What a call answers that stops.
-use Rattle.std.proofs.Common.{◌≡◌, ℕ, List, ◌++◌, Option, Some, ◌⊎◌, inl, inr, sym, ap, ◌∙◌, subst, refl}
+use Rattle.std.proofs.Common.{◌≡◌, ℕ, List, ◌++◌, Option, Some, Err, ◌⊎◌, inl, inr, sym, ap, ◌∙◌, subst, refl}
 use Rattle.tinyjson.specs.Error.{error_kind, error_position}
+use Rattle.tinyjson.specs.Events.{TellsText}
 use Rattle.std.specs.Str.{IsUtf8, chars}
 use Rattle.tinyjson.specs.declared.parser.error.JsonParseError.{JsonParseError}
 use Rattle.tinyjson_c.specs.Merge.{IsNoMerge, no_merge_place, no_merge_status, patch_depth}
@@ -21,6 +22,7 @@ use Rattle.tinyjson_c.specs.declared.stop.Stop.TheVariants as stop
 use Rattle.tinyjson_grammar.specs.Grammar.{IsAccepted}
 use Rattle.tinyjson_grammar.specs.Position.{origin, advance}
 use Rattle.tinyjson_grammar.specs.Refusal.{RefusalSays}
+use Rattle.tinyjson_grammar.specs.Tree.{Tree}
 use Rattle.tinyjson_grammar.specs.declared.error.JsonParseErrorKind.TheVariants as kind
 
 -- an error of the parser stops a call
@@ -43,6 +45,12 @@ stopped limit bytes text consumed rest e s same utf8 (inr (m, i)) whole place sa
         refused = λ a. refused m (subst (λ z. IsAccepted limit (chars z)) (sym same) a);
       },
     )
+
+-- an error of what reads a whole text stops a call
+pub stopped_by : {E : Type 0} (is : E → Tree → Type 0) (limit : Option ℕ) (bytes text : List ℕ) (e : JsonParseError) (s : Stop)
+    → text ≡ bytes → IsUtf8 bytes → StopOf e s → TellsText is limit (chars text) (Err e) → IsStopped limit bytes s
+stopped_by is limit bytes text e s same utf8 of t =
+    stopped limit bytes text t.consumed t.rest e s same utf8 of t.whole t.answer.0 t.answer.1 t.refused
 
 -- what stops a call, by its own status and place
 stops_by : (limit : Option ℕ) (bytes : List ℕ) (s : Stop) (text : ℕ) → IsStopped limit bytes s
