@@ -1,4 +1,5 @@
--- Runs of bytes, and copies, seen a vector at a time.
+-- Runs of bytes, copies and comparisons, seen a vector at a time.
+pub mod Comparisons
 pub mod Scans
 pub mod Vectors
 -- For proofs of callers.

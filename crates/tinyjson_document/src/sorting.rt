@@ -7,6 +7,7 @@ ghost use Rattle.tinyjson_document.specs.Order.{member_with};
 use crate::store::{Cell, Member, Span};
 use crate::texts::Texts;
 use std::alloc::AllocError;
+use tinyjson_bytes::is_below;
 
 /// Makes a member of each key and its value.
 pub(crate) fn pair(
@@ -57,7 +58,7 @@ fn is_below_next(texts: &Texts<'_>, member: Member, others: &[Member]) -> bool
     ensures { result ≡ is_below_next texts.now member others.now }
 {
     match others.first() {
-        Some(next) => texts.part(member.key).cmp(texts.part(next.key)).is_lt(),
+        Some(next) => is_below(texts.part(member.key), texts.part(next.key)),
         None => true,
     }
 }

@@ -6,6 +6,7 @@ ghost use Rattle.tinyjson_document.specs.Texts.{IsAt, IsNumberAt, TextsGrow, par
 use crate::append::{ROOM, append};
 use crate::store::{Span, part};
 use std::alloc::{AllocError, Global};
+use tinyjson_bytes::are_equal;
 use tinyjson_number::JsonNumber;
 
 /// How many bytes the text of a short number has at most: a number is then made of it without memory.
@@ -129,7 +130,7 @@ impl<'t> Texts<'t> {
         let Ok(span) = Span::new(from, to) else {
             return None;
         };
-        if part(source, span) != bytes {
+        if !are_equal(part(source, span), bytes) {
             return None;
         }
         Some(span)
