@@ -115,13 +115,18 @@ impl Pattern {
     }
 }
 
+/// How many patterns from values are kept.
+const RECENT: usize = 4;
+
 /// The patterns of a query that were parsed so far, in the order of their bytes.
 #[derive(Drop)]
 pub(crate) struct Patterns {
     alloc: Global,
     kept: Vec<Pattern>,
-    /// The last pattern that came from a value.
-    last: Option<Pattern>,
+    /// The last patterns that came from values, at most `RECENT`.
+    recent: Vec<Pattern>,
+    /// How many patterns were parsed from values. The next one takes the place of the oldest.
+    count: usize,
 }
 
 impl Patterns {
@@ -129,7 +134,8 @@ impl Patterns {
         Patterns {
             alloc,
             kept: Vec::new(alloc),
-            last: None,
+            recent: Vec::new(alloc),
+            count: 0,
         }
     }
 
@@ -205,7 +211,7 @@ impl Patterns {
         Ok(holds)
     }
 
-    /// A pattern from a value is kept for the next node with the same one.
+    /// A few patterns from values are kept for the next nodes with the same ones.
     fn of_value(
         &mut self,
         function: PatternFunction,
@@ -216,15 +222,36 @@ impl Patterns {
             ≡ judged function (chars pattern.now) (chars value.now)) }
         ensures err { IfErr result (IsFrom (chars pattern.now ∷ [])) }
     {
-        if let Some(last) = &mut self.last {
-            if last.pattern.as_str() == pattern {
-                return Ok(last.holds(function, value));
+        let place = self.recent_place(pattern);
+        if let Some(recent) = self.recent.get_mut(place) {
+            if recent.pattern.as_str() == pattern {
+                return Ok(recent.holds(function, value));
             }
         }
         let mut read = Pattern::read(self.alloc, pattern)?;
         let holds = read.holds(function, value);
-        self.last = Some(read);
+        self.keep_recent(read)?;
         Ok(holds)
+    }
+
+    /// The index of the pattern among those from values, or zero.
+    fn recent_place(&self, pattern: &str) -> usize {
+        self.recent
+            .iter()
+            .position(|recent| recent.pattern.as_str() == pattern)
+            .unwrap_or(0)
+    }
+
+    /// Keeps a pattern from a value, in the place of the oldest one if there are `RECENT`.
+    fn keep_recent(&mut self, read: Pattern) -> Result<(), AllocError> {
+        let oldest = self.count % RECENT;
+        self.count = self.count.saturating_add(1);
+        if let Some(place) = self.recent.get_mut(oldest) {
+            *place = read;
+            return Ok(());
+        }
+        self.recent.push(read)?;
+        Ok(())
     }
 
     /// The index of the pattern among those that are kept, or where it is to be inserted.
