@@ -2,7 +2,7 @@
 ghost use Rattle.json_path.specs.Answers.{GivesLine};
 
 use crate::failure::{no_answer, unanswered_failure};
-use crate::selected::{Wanted, write_answer};
+use crate::selected::{Unanswered, Wanted, write_answer, write_owned_answer};
 use std::alloc::Global;
 use std::io::{self, Write};
 use tinyjson_cli::{Answer, Failure, NoAnswer, Status, TextAnswer, writing_error};
@@ -23,11 +23,31 @@ impl Answer for Asked<'_> {
         text: &str,
         output: &mut W,
     ) -> Result<Status, Failure> {
-        match write_answer(alloc, self.query, text, self.wanted, output) {
-            Ok(None) => Ok(Status::Done),
-            Ok(Some(why)) => Err(unanswered_failure(alloc, why)),
-            Err(error) => Err(writing_error(error)),
-        }
+        answered(
+            alloc,
+            write_answer(alloc, self.query, text, self.wanted, output),
+        )
+    }
+
+    fn answer_owned<W: Write>(
+        &self,
+        alloc: Global,
+        text: String,
+        output: &mut W,
+    ) -> Result<Status, Failure> {
+        answered(
+            alloc,
+            write_owned_answer(alloc, self.query, text, self.wanted, output),
+        )
+    }
+}
+
+/// The status after an answer, or why there is none.
+fn answered(alloc: Global, answer: io::Result<Option<Unanswered>>) -> Result<Status, Failure> {
+    match answer {
+        Ok(None) => Ok(Status::Done),
+        Ok(Some(why)) => Err(unanswered_failure(alloc, why)),
+        Err(error) => Err(writing_error(error)),
     }
 }
 

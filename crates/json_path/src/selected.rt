@@ -1,8 +1,9 @@
 //! What a query selects in a text, or what is left without it.
-ghost use Rattle.std.specs.Prelude.{◌≡◌, Some};
+ghost use Rattle.std.specs.Prelude.{◌≡◌, ℕ, List, None, Some, string_bytes};
 ghost use Rattle.std.specs.Str.{chars};
+ghost use Rattle.tinyjson.specs.Events.{TellsText};
 ghost use Rattle.tinyjson.specs.Written.{WritesPrefix};
-ghost use Rattle.tinyjson_document.specs.Document.{tree};
+ghost use Rattle.tinyjson_document.specs.Document.{HasTree, tree};
 ghost use Rattle.tinyjson_path.specs.Nodes.{parts_view};
 ghost use Rattle.tinyjson_path.specs.Patterns.{judged};
 ghost use Rattle.json_path.specs.Selected.{Answers, AnswersWanted, GivesNodes, GivesParts, GivesText};
@@ -105,20 +106,41 @@ pub fn write_answer<W: Write>(
     ensures { AnswersWanted wanted query.now (chars text.now)
         (W.contents output.old) (W.contents output.new) result }
 {
-    write_of_text(alloc, query, text, wanted, output)
+    write_read(alloc, query, Document::read(alloc, text), wanted, output)
 }
 
-fn write_of_text<W: Write>(
+/// Does as [`write_answer`], for a text that is given up: its document keeps it.
+///
+/// ```
+/// let text = String::from_str(alloc, r#"{"a":[1,2,3.0]}"#)?;
+/// write_owned_answer(alloc, &query, text, wanted, &mut output)?; // of $.a[1:]: 2 and 3, on a line each; or {"a":[1]}
+/// ```
+pub fn write_owned_answer<W: Write>(
     alloc: Global,
     query: &Query,
-    text: &str,
+    text: String,
     wanted: Wanted,
     output: &mut W,
 ) -> io::Result<Option<Unanswered>>
-    ensures { Answers (GivesText judged wanted query.now (chars text.now))
+    ensures { AnswersWanted wanted query.now (chars (string_bytes text))
         (W.contents output.old) (W.contents output.new) result }
 {
-    match Document::read(alloc, text) {
+    write_read(alloc, query, Document::of_text(alloc, text), wanted, output)
+}
+
+/// The same for what was read of a text.
+fn write_read<W: Write>(
+    alloc: Global,
+    query: &Query,
+    read: Result<Document, JsonParseError>,
+    wanted: Wanted,
+    output: &mut W,
+) -> io::Result<Option<Unanswered>>
+    ensures { (text : List ℕ) → TellsText HasTree None text read
+        → Answers (GivesText judged wanted query.now text)
+        (W.contents output.old) (W.contents output.new) result }
+{
+    match read {
         Ok(document) => write_found(alloc, query, document.root(), wanted, output),
         Err(error) => {
             if error.is_out_of_memory() {

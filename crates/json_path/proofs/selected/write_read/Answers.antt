@@ -1,25 +1,25 @@
-use Rattle.std.proofs.Common.{◌≡◌, None, sym, ◌∙◌, subst}
+use Rattle.std.proofs.Common.{◌≡◌, None, Ok, Err, sym, ◌∙◌, subst}
 use Rattle.std.proofs.KnownBytes.{Keeps-refl}
 use Rattle.std.proofs.lemmas.Bool.{false≢true}
-use Rattle.std.specs.Str.{chars}
 use Rattle.tinyjson.specs.Error.{error_kind}
+use Rattle.tinyjson.specs.Events.{TellsText}
 use Rattle.tinyjson.specs.Grammar.{IsText}
 use Rattle.tinyjson.specs.JsonParseErrorKind.TheVariants as kind
-use Rattle.tinyjson_document.specs.Document.{tree}
+use Rattle.tinyjson_document.specs.Document.{HasTree, tree}
 use Rattle.json_path.proofs.Writing.{of_tree}
-use Rattle.json_path.proofs.selected.write_of_text.Goals as goal
+use Rattle.json_path.proofs.selected.write_read.Goals as goal
 
 pub returns-in-Ok : goal.returns-in-Ok
-returns-in-Ok g c =
-    let text = chars c.args.text.now in
-    let h = c.in-Ok.ensures.answer in
+returns-in-Ok g c = λ text told.
+    let h = (subst (TellsText HasTree None text) c.in-Ok.is told).answer in
     of_tree c.args.wanted c.args.query.now _ _ (tree c.root.result) text c.write_found.result
     (subst (IsText None text) (sym (c.root.ensures ∙ h.3)) h.2) c.write_found.ensures
 
 pub returns-else-is_out_of_memory : goal.returns-else-is_out_of_memory
-returns-else-is_out_of_memory g c =
-    let h = c.in-Err.ensures in
-    let other : ¬ (error_kind c.in-Err.error ≡ kind.OutOfMemory) = λ k. false≢true (c.if-is_out_of_memory.ensures.1 k) in (
+returns-else-is_out_of_memory g c = λ text told.
+    let error = c.in-Err.error in
+    let h : TellsText HasTree None text (Err error) = subst (TellsText HasTree None text) c.in-Err.is told in
+    let other : ¬ (error_kind error ≡ kind.OutOfMemory) = λ k. false≢true (c.if-is_out_of_memory.ensures.1 k) in (
       (
         record {
           consumed = h.consumed;
