@@ -6,5 +6,6 @@ mod Changing
 mod Opening
 mod Copying
 mod Left
+mod Pieces
 mod Operations
 mod Running

@@ -6,3 +6,4 @@ pub mod Changes
 pub mod Opening
 pub mod Applying
 pub mod Writing
+pub mod Text

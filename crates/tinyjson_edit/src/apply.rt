@@ -2,15 +2,18 @@
 ghost use Rattle.std.specs.Prelude.{◌≡◌, ◌≤◌, length, map};
 ghost use Rattle.tinyjson_document.specs.Document.{tree as node_tree};
 ghost use Rattle.tinyjson_edit.specs.Edited.{tree};
-ghost use Rattle.tinyjson_edit.specs.Patched.{GivesDocument, GivesFirst};
+ghost use Rattle.tinyjson_edit.specs.Patched.{GivesDocument, GivesFirst, WritesFirst, WritesOrLeaves};
+ghost use Rattle.tinyjson_edit.specs.Patched.{WritesPatched};
 ghost use Rattle.tinyjson_patch.specs.Operation.{action_of};
 ghost use Rattle.tinyjson_patch.specs.Patch.{actions_of, all_applied};
 ghost use Rattle.tinyjson_patch.specs.Running.{RunsFirst};
 
 use crate::edited::Edited;
 use crate::operation::{Stop, apply_to};
+use crate::text::write_text;
 use crate::write::document_of;
 use std::alloc::Global;
+use std::io::{self, Write};
 use tinyjson_document::{Document, Node};
 use tinyjson_patch::{ApplyError, Operation, Patch};
 use tinyjson_view::ValueView;
@@ -39,6 +42,91 @@ pub fn patch_document(alloc: Global, patch: &Patch, node: Node<'_>) -> Result<Do
         rest = others;
     }
     Err(ApplyError::OutOfMemory)
+}
+
+/// Writes the compact text of the node's value with all operations applied: that of the document which
+/// [`patch_document`] returns, without making it. Where it returns an error, it is the same, and nothing is written.
+///
+/// The inner error is that of `Node::write_to`. Then a prefix of the text is written.
+///
+/// ```
+/// let written = write_patched(alloc, &patch, document.root(), &mut output)?; // writes [2]
+/// ```
+pub fn write_patched<W: Write>(
+    alloc: Global,
+    patch: &Patch,
+    node: Node<'_>,
+    output: &mut W,
+) -> Result<io::Result<()>, ApplyError>
+    ensures { WritesPatched (all_applied 0 (actions_of patch.now) (node_tree node.entry))
+        (W.contents output.old) (W.contents output.new) result }
+{
+    let total = patch.operations.len();
+    let operations = patch.operations.as_slice();
+    let (mut document, mut rest) = match write_first(alloc, node, operations, total, output)? {
+        First::Written(written) => return Ok(written),
+        First::Left(document, rest) => (document, rest),
+    };
+    for _ in 0..u64::MAX {
+        match write_first(alloc, document.root(), rest, total, output)? {
+            First::Written(written) => return Ok(written),
+            First::Left(next, others) => {
+                document = next;
+                rest = others;
+            }
+        }
+    }
+    Err(ApplyError::OutOfMemory)
+}
+
+/// What became of the first operations.
+#[derive(Drop)]
+enum First<'o> {
+    /// They were all, and the text was written, or a part of it.
+    Written(io::Result<()>),
+    /// The document then, and the operations that are left.
+    Left(Document, &'o [Operation]),
+}
+
+/// Applies the operations up to the first that copies what others took apart. Writes the text if none is left. The whole
+/// patch has `total` operations.
+fn write_first<'o, W: Write>(
+    alloc: Global,
+    node: Node<'_>,
+    operations: &'o [Operation],
+    total: usize,
+    output: &mut W,
+) -> Result<First<'o>, ApplyError>
+    requires { length operations.now ≤ total }
+    ensures { WritesFirst total (map action_of operations.now) (node_tree node.entry)
+        (W.contents output.old) (W.contents output.new) result }
+{
+    let mut value = Edited::Kept(ValueView::InDocument(node));
+    let answer = match apply_all(alloc, &mut value, operations, total) {
+        Ok(rest) => write_or_leave(alloc, &value, rest, output),
+        Err(error) => Err(error),
+    };
+    value.dismantle(alloc);
+    answer
+}
+
+/// Writes the text of the value if no operation is left, or else makes a document of it.
+fn write_or_leave<'o, W: Write>(
+    alloc: Global,
+    value: &Edited<'_>,
+    rest: &'o [Operation],
+    output: &mut W,
+) -> Result<First<'o>, ApplyError>
+    ensures { WritesOrLeaves (tree value.now) rest.now
+        (W.contents output.old) (W.contents output.new) result }
+{
+    if rest.is_empty() {
+        return Ok(First::Written(write_text(alloc, value, output)));
+    }
+    match document_of(alloc, value) {
+        Ok(document) => Ok(First::Left(document, rest)),
+        Err(_) => Err(ApplyError::OutOfMemory),
+    }
 }
 
 /// Applies the operations up to the first that copies what others took apart. Returns the document then, and the

@@ -4,6 +4,7 @@
 //! ```
 //! let document = Document::read(alloc, r#"{"a":[7],"b":{"c":8}}"#)?;
 //! let patched = patch_document(alloc, &patch, document.root())?; // by a removal of /a/0: {"a":[],"b":{"c":8}}
+//! write_patched(alloc, &patch, document.root(), &mut output)??; // writes its text
 //! ```
 #![tactic(auto)]
 
@@ -15,6 +16,7 @@ mod expand;
 mod find;
 mod opened;
 mod operation;
+mod text;
 mod write;
 
-pub use apply::patch_document;
+pub use apply::{patch_document, write_patched};
