@@ -1,7 +1,8 @@
 //! The place at which the key of a member begins.
-ghost use Rattle.std.specs.Prelude.{◌≡◌, ◌∷◌, ◌++◌, ℕ, List, map};
+ghost use Rattle.std.specs.Prelude.{◌≡◌, ◌∷◌, ◌++◌, ℕ, List, None, map};
 ghost use Rattle.std.specs.Str.{chars};
 ghost use Rattle.tinyjson.specs.Characters.{end_object};
+ghost use Rattle.tinyjson.specs.Grammar.{IsAccepted};
 ghost use Rattle.tinyjson.specs.Syntax.{Syntax, Pairs, text as spelled, pairs_text};
 ghost use Rattle.tinyjson.specs.Syntax.{ArePairs, IsSpelled, IsStrict, PairsAreStrict};
 ghost use Rattle.tinyjson.specs.View.{text};
@@ -35,6 +36,22 @@ pub fn key_place_of(
     ensures { LocatesKey (chars text.now) (tokens_of pointer.now) result }
 {
     check(alloc, text)?;
+    key_place_in(alloc, text, pointer)
+}
+
+/// [`key_place_of`] in a text that is known to be accepted: it is not checked again. The only error is out of memory.
+///
+/// ```
+/// let place = key_place_in(alloc, text, &pointer)?; // of a text that was parsed before
+/// ```
+pub fn key_place_in(
+    alloc: Global,
+    text: &str,
+    pointer: &Pointer,
+) -> Result<Option<Place>, JsonParseError>
+    requires { IsAccepted None (chars text.now) }
+    ensures { LocatesKey (chars text.now) (tokens_of pointer.now) result }
+{
     let found = key(alloc, after_white(text), pointer.tokens())?;
     let Some(key) = found else {
         return Ok(None);

@@ -14,5 +14,5 @@ mod place;
 mod scan;
 mod text;
 
-pub use key::key_place_of;
-pub use place::{Place, place_of};
+pub use key::{key_place_in, key_place_of};
+pub use place::{Place, place_in, place_of};

@@ -1,6 +1,7 @@
 //! The place at which a part of a text begins.
-ghost use Rattle.std.specs.Prelude.{◌≡◌, ◌∷◌, ◌++◌, [], ℕ, List};
+ghost use Rattle.std.specs.Prelude.{◌≡◌, ◌∷◌, ◌++◌, [], ℕ, List, None};
 ghost use Rattle.std.specs.Str.{chars};
+ghost use Rattle.tinyjson.specs.Grammar.{IsAccepted};
 ghost use Rattle.tinyjson.specs.Position.{advance, origin, position_at};
 ghost use Rattle.tinyjson_pointer.specs.Tokens.{tokens_of};
 ghost use Rattle.tinyjson_places.specs.Places.{Locates};
@@ -41,6 +42,22 @@ pub fn place_of(
     ensures { Locates (chars text.now) (tokens_of pointer.now) result }
 {
     check(alloc, text)?;
+    place_in(alloc, text, pointer)
+}
+
+/// [`place_of`] in a text that is known to be accepted: it is not checked again. The only error is out of memory.
+///
+/// ```
+/// let place = place_in(alloc, text, &pointer)?; // of a text that was parsed before
+/// ```
+pub fn place_in(
+    alloc: Global,
+    text: &str,
+    pointer: &Pointer,
+) -> Result<Option<Place>, JsonParseError>
+    requires { IsAccepted None (chars text.now) }
+    ensures { Locates (chars text.now) (tokens_of pointer.now) result }
+{
     let found = part(alloc, after_white(text), pointer.tokens())?;
     let Some(part) = found else {
         return Ok(None);
