@@ -976,7 +976,9 @@ WORDS = [
     # The first name that is not there.
     ('{"required":["a","b","c"]}', '{"a":1}', "", "/required", '"b" is required'),
     ('{"required":["a/\\n"]}', "{}", "", "/required", '"a/\\n" is required'),
-    ('{"dependentRequired":{"a":["b"]}}', '{"a":1}', "", "/dependentRequired", "must have the names that its names require"),
+    ('{"dependentRequired":{"a":["b"]}}', '{"a":1}', "", "/dependentRequired", '"b" is required by "a"'),
+    # The first key by its bytes that the value has, and the first name that it requires and that is not there.
+    ('{"dependentRequired":{"c":["d"],"b":["a","x","y"],"a":["e"]}}', '{"b":1,"a":1,"e":1,"c":1}', "", "/dependentRequired", '"x" is required by "b"'),
     ('{"pattern":"^a"}', '"ba"', "", "/pattern", 'must match the pattern "^a", is "ba"'),
     ('{"uniqueItems":true}', "[1,1.0]", "", "/uniqueItems", "must have no two equal items"),
     # What combines schemas.

@@ -9,7 +9,7 @@ use Rattle.tinyjson_schema_words.specs.Brief.{brief, brief_list}
 use Rattle.tinyjson_schema_words.specs.Counts.{count_words, contained_words, length_of, items_count_of, members_count_of}
 use Rattle.tinyjson_schema_words.specs.Ends.{At, ends_from}
 use Rattle.tinyjson_schema_words.specs.Kinds.{type_name, type_words}
-use Rattle.tinyjson_schema_words.specs.Missing.{required_words}
+use Rattle.tinyjson_schema_words.specs.Missing.{required_words, dependent_words}
 
 -- `must be at most 10, is 12`
 abbrev pub compared : List ℕ → Tree → Tree → List ℕ
@@ -32,7 +32,6 @@ format_words w t = codes "must be " ++ (type_name w ++ (codes ", is " ++ brief t
 -- the words of a keyword that compares nothing; a keyword with a schema leads to the schema `false`
 abbrev pub fixed : Keyword → List ℕ
 fixed kw.UniqueItems = codes "must have no two equal items"
-fixed kw.DependentRequired = codes "must have the names that its names require"
 fixed kw.AnyOf = codes "must be accepted by a schema of the list"
 fixed kw.OneOf = codes "must be accepted by exactly one schema of the list"
 fixed kw.Not = codes "must not be accepted by the schema"
@@ -60,6 +59,7 @@ keyword_words kw.MinContains w t = contained_words (codes "must have at least ")
 keyword_words kw.MaxProperties w t = at_most w (codes " member") (members_count_of t)
 keyword_words kw.MinProperties w t = at_least w (codes " member") (members_count_of t)
 keyword_words kw.Required w t = required_words w t
+keyword_words kw.DependentRequired w t = dependent_words w t
 keyword_words kw.Format w t = format_words w t
 keyword_words k w t = fixed k
 

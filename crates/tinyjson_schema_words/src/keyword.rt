@@ -9,7 +9,7 @@ ghost use Rattle.tinyjson_schema_words.specs.Words.{at_most, at_least, format_wo
 use crate::brief::{brief, brief_list, brief_of};
 use crate::count::{Count, contained_words, count_words, item_count, length, member_count};
 use crate::kind::{type_name, type_words};
-use crate::missing::required_words;
+use crate::missing::{dependent_words, required_words};
 use std::alloc::{AllocError, Global};
 use tinyjson::JsonValue;
 use tinyjson_schema_keywords::{Keyword, items_in};
@@ -44,6 +44,7 @@ pub fn keyword_words(
         Keyword::MaxProperties => at_most(operand, " member", member_count(value), alloc),
         Keyword::MinProperties => at_least(operand, " member", member_count(value), alloc),
         Keyword::Required => required_words(operand, value, alloc),
+        Keyword::DependentRequired => dependent_words(operand, value, alloc),
         Keyword::Format => format_words(operand, value, alloc),
         _ => String::from_str(alloc, fixed(keyword)),
     }
@@ -125,7 +126,6 @@ fn fixed(keyword: Keyword) -> &'static str
 {
     match keyword {
         Keyword::UniqueItems => "must have no two equal items",
-        Keyword::DependentRequired => "must have the names that its names require",
         Keyword::AnyOf => "must be accepted by a schema of the list",
         Keyword::OneOf => "must be accepted by exactly one schema of the list",
         Keyword::Not => "must not be accepted by the schema",
