@@ -1,26 +1,27 @@
-use Rattle.std.proofs.Common.{◌≡◌, None, subst, sym}
+use Rattle.std.proofs.Common.{◌≡◌, None, Err, subst, sym}
 use Rattle.std.proofs.KnownBytes.{Keeps-refl}
 use Rattle.std.proofs.lemmas.Bool.{false≢true}
-use Rattle.std.specs.Str.{chars}
 use Rattle.tinyjson.specs.Error.{error_kind}
+use Rattle.tinyjson.specs.Events.{TellsText}
 use Rattle.tinyjson.specs.Grammar.{IsText}
 use Rattle.tinyjson.specs.JsonParseErrorKind.TheVariants as kind
-use Rattle.tinyjson_document.specs.Document.{document_tree}
+use Rattle.tinyjson_document.specs.Document.{document_tree, HasTree}
 use Rattle.tinyjson_patch.specs.Patch.{actions_of}
 use Rattle.json_patch.proofs.Applying.{of_text}
-use Rattle.json_patch.proofs.apply.AskedTextAnswer.answer_text.Goals as goal
+use Rattle.json_patch.proofs.apply.answer_read.Goals as goal
 
 pub returns-in-Ok : goal.returns-in-Ok
-returns-in-Ok g c =
-    let text = chars c.args.text.now in
-    let h = c.in-Ok.ensures.answer in
-    of_text c.args.self.now.is_indented (actions_of c.args.self.now.patch.now) (document_tree c.in-Ok.document) _ _ text
+returns-in-Ok g c = λ text told.
+    let document = c.in-Ok.document in
+    let h = (subst (TellsText HasTree None text) c.in-Ok.is told).answer in
+    of_text c.args.asked.is_indented (actions_of c.args.asked.patch.now) (document_tree document) _ _ text
     c.answer_document.result (subst (IsText None text) (sym h.3) h.2) c.answer_document.ensures
 
 pub returns-else-is_out_of_memory : goal.returns-else-is_out_of_memory
-returns-else-is_out_of_memory g c =
-    let h = c.in-Err.ensures in
-    let other : ¬ (error_kind c.in-Err.error ≡ kind.OutOfMemory) = λ k. false≢true (c.if-is_out_of_memory.ensures.1 k) in (
+returns-else-is_out_of_memory g c = λ text told.
+    let error = c.in-Err.error in
+    let h : TellsText HasTree None text (Err error) = subst (TellsText HasTree None text) c.in-Err.is told in
+    let other : ¬ (error_kind error ≡ kind.OutOfMemory) = λ k. false≢true (c.if-is_out_of_memory.ensures.1 k) in (
       (
         record {
           consumed = h.consumed;
