@@ -24,7 +24,8 @@ GivesDocument outcome (Err (Failed n r)) = outcome ≡ Err (n, r)
 GivesDocument outcome (Err OutOfMemory) = Unit {0}
 
 -- The text of the tree after all operations is written; or nothing is, with the number of the one that fails, and why.
-abbrev pub WritesPatched : Result Tree (ℕ × Reason) → Option (List ℕ) → Option (List ℕ) → Result (Result (Unit {0}) Error) ApplyError → Type 0
+abbrev pub WritesPatched : Result Tree (ℕ × Reason) → Option (List ℕ) → Option (List ℕ)
+    → Result (Result (Unit {0}) Error) ApplyError → Type 0
 WritesPatched outcome held holds (Ok written) = (t : Tree) × (outcome ≡ Ok t) × WritesText held holds (compact t) written
 WritesPatched outcome held holds (Err (Failed n r)) = (outcome ≡ Err (n, r)) × Keeps held holds
 WritesPatched outcome held holds (Err OutOfMemory) = Keeps held holds
