@@ -1,13 +1,11 @@
 -- All that the value of a text violates.
 use Rattle.std.specs.List.{All}
-use Rattle.std.specs.Prelude.{◌≡◌, ℕ, List, [], ◌∷◌, Option, Some, None, map, ◌⊎◌}
+use Rattle.std.specs.Prelude.{◌≡◌, ℕ, List, [], ◌∷◌, Option, Some, None, map}
 use Rattle.tinyjson.specs.Grammar.{IsText}
 use Rattle.tinyjson.specs.Tree.{Tree}
-use Rattle.tinyjson_places.specs.declared.place.Place.{Place}
 use Rattle.tinyjson_schema.specs.Valid.{Root}
 use Rattle.tinyjson_schema_report.specs.Every.{FindsEvery}
-use Rattle.tinyjson_schema_report.specs.Located.{IsPlaceIfThere}
-use Rattle.tinyjson_schema_report.specs.declared.found.Finding.{Finding}
+use Rattle.tinyjson_schema_report.specs.Located.{IsLocated}
 use Rattle.json_schema.specs.Verdicts.{IsNoText, TextGives, depth_limit, step_limit}
 use Rattle.json_schema.specs.declared.every.Every.{Every}
 use Rattle.json_schema.specs.declared.every.Every.TheVariants.{Found, Refused}
@@ -15,14 +13,10 @@ use Rattle.json_schema.specs.declared.verdict.Cause.TheVariants as cause
 use Rattle.json_schema.specs.declared.verdict.Verdict.{Verdict}
 use Rattle.json_schema.specs.declared.verdict.Verdict.TheVariants.{Valid, Invalid, Refused as Rejected}
 
--- the place is that of the violation in the text xs, if there is such a part
-abbrev pub IsLocatedIn : List ℕ → Finding → Place → Type 0
-IsLocatedIn xs f p = IsPlaceIfThere xs f.violation (Some p) ⊎ IsPlaceIfThere xs f.violation None
-
 -- the first violations of the root schema by the tree t of the text xs, up to the limit, each with its place; or none were looked for
 abbrev pub ValueGivesEvery : ℕ → List ℕ → Root → Tree → Every → Type 0
 ValueGivesEvery most xs s t (Found ls) =
-    FindsEvery most step_limit s t (map (λ l. l.finding) ls.items) × All (λ l. IsLocatedIn xs l.finding l.place) ls.items
+    FindsEvery most step_limit s t (map (λ l. l.finding) ls.items) × All (IsLocated xs) ls.items
 ValueGivesEvery most xs s t (Refused cause.TooDeep) = Unit {0}
 ValueGivesEvery most xs s t (Refused cause.TooMuch) = Unit {0}
 ValueGivesEvery most xs s t (Refused _) = ⊥

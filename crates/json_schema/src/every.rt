@@ -1,20 +1,16 @@
 //! All that the value of a text violates.
-ghost use Rattle.std.specs.List.{All};
-ghost use Rattle.std.specs.Prelude.{◌≡◌, IfOk, Ok, map};
+ghost use Rattle.std.specs.Prelude.{IfOk};
 ghost use Rattle.std.specs.Str.{chars};
 ghost use Rattle.tinyjson.specs.Grammar.{IsText};
 ghost use Rattle.tinyjson_document.specs.Document.{tree};
-ghost use Rattle.json_schema.specs.Every.{IsLocatedIn, ValueGivesEvery};
-ghost use Rattle.json_schema.specs.Every.{TextGivesEvery, TextGivesAs, IsAs};
+ghost use Rattle.json_schema.specs.Every.{ValueGivesEvery, TextGivesEvery, TextGivesAs, IsAs};
 ghost use Rattle.json_schema.specs.Verdicts.{judged, depth_limit};
 
 use crate::verdict::{Cause, DEPTH_LIMIT, Judge, Verdict, check_text};
 use std::alloc::{AllocError, Global};
-use std::collections::VecDeque;
 use tinyjson_document::{Document, Node};
-use tinyjson_places::Place;
 use tinyjson_schema::{CheckError, Checks};
-use tinyjson_schema_report::{Finding, Located, find_every, find_place, limits_of};
+use tinyjson_schema_report::{Located, find_every, limits_of, locate_every};
 
 /// All that the value of a text violates.
 #[derive(Drop)]
@@ -97,42 +93,11 @@ fn check_value(
     };
     match find_every(judge.schema, value, checks, most, alloc) {
         Ok(found) => {
-            let located = located(alloc, text, found)?;
+            let located = locate_every(alloc, text, found)?;
             Ok(Every::Found(located))
         }
         Err(CheckError::TooDeep) => Ok(Every::Refused(Cause::TooDeep)),
         Err(CheckError::TooMuch) => Ok(Every::Refused(Cause::TooMuch)),
         Err(CheckError::OutOfMemory) => Err(AllocError),
-    }
-}
-
-/// Each with the place where the part begins in the text. Not inlined, so that the check before it has all of the stack.
-#[inline(never)]
-fn located(alloc: Global, text: &str, found: Vec<Finding>) -> Result<Vec<Located>, AllocError>
-    ensures same { IfOk result (λ located.
-        map (λ l. l.finding) located.items ≡ found.items) }
-    ensures placed { IfOk result (λ located.
-        All (λ l. IsLocatedIn (chars text.now) l.finding l.place) located.items) }
-{
-    let mut rest = VecDeque::from_vec(found);
-    let mut located = Vec::new(alloc);
-    while let Some(finding) = rest.pop_front() {
-        let place = begin_of(alloc, text, &finding)?;
-        located.push(Located { finding, place })?;
-    }
-    Ok(located)
-}
-
-/// Where the part begins that is not valid, or its key; the text itself if it has no such part.
-fn begin_of(alloc: Global, text: &str, finding: &Finding) -> Result<Place, AllocError>
-    ensures { IfOk result (IsLocatedIn (chars text.now) finding.now) }
-{
-    match find_place(alloc, text, &finding.violation)? {
-        Some(place) => Ok(place),
-        None => Ok(Place {
-            offset: 0,
-            line: 1,
-            column: 1,
-        }),
     }
 }

@@ -4,3 +4,7 @@ pub mod Placing
 -- Whether a keyword forbids a member.
 pub mod Forbidden
 pub mod Callers
+-- The tokens of indices.
+pub mod Naming
+-- Where violations stand in the value.
+pub mod Leading

@@ -2,7 +2,7 @@
 use Rattle.std.proofs.Common.{ℕ, List, Option, None, Ok, subst, ap, ◌∙◌}
 use Rattle.std.proofs.lemmas.Bool.{false≢true}
 use Rattle.std.specs.Prelude.{IsSome}
-use Rattle.tinyjson.specs.Grammar.{IsLoose, IsText}
+use Rattle.tinyjson.specs.Grammar.{IsLoose, IsText, IsAccepted}
 use Rattle.tinyjson.specs.Tree.{Tree}
 use Rattle.tinyjson_places.specs.Places.{Locates}
 use Rattle.tinyjson_pointer.specs.Walk.{part_at}
@@ -18,6 +18,11 @@ unlimited limit xs l = record {
   shallow = tt;
   whole = l.whole;
 }
+
+-- a text is accepted without a limit too
+pub accepted : (limit : Option ℕ) (xs : List ℕ) (t : Tree) → IsText limit xs t → IsAccepted None xs
+unfolding unlimited
+accepted limit xs t h = (t, record { loose = unlimited limit xs h.loose; strict = h.strict; tree = h.tree })
 
 pub never_missed : (limit : Option ℕ) (xs : List ℕ) (t : Tree) (ks : List (List ℕ)) → IsText limit xs t → IsSome (part_at t ks)
     → Locates xs ks (Ok None) → ⊥

@@ -30,11 +30,6 @@ IsPlaceBy false xs ks place = Locates xs ks (Ok (Some place))
 abbrev pub IsPlace : List ℕ → Violation → Place → Type 0
 IsPlace xs v place = IsPlaceBy (forbids_member (tokens_of v.keyword_location)) xs (tokens_of v.instance_location) place
 
--- the same, or the text has no such part
-abbrev pub IsPlaceIfThere : List ℕ → Violation → Option Place → Type 0
-IsPlaceIfThere xs v (Some place) = IsPlace xs v place
-IsPlaceIfThere xs v None = Locates xs (tokens_of v.instance_location) (Ok None)
-
 abbrev pub IsLocated : List ℕ → Located → Type 0
 IsLocated xs l = IsPlace xs l.finding.violation l.place
 

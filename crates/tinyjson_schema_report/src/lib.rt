@@ -14,5 +14,5 @@ mod report;
 
 pub use every::find_every;
 pub use found::{Finding, find, find_by, limits_of};
-pub use located::{Located, find_place, locate, located_unit};
+pub use located::{Located, locate, locate_every, located_unit};
 pub use report::output_unit;

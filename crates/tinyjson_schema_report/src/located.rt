@@ -1,5 +1,6 @@
 //! What a value violates of a schema, with its place in the value's text.
-ghost use Rattle.std.specs.Prelude.{◌≡◌, ℕ, IfOk, IsSome, Ok, Option, Some};
+ghost use Rattle.std.specs.List.{All};
+ghost use Rattle.std.specs.Prelude.{◌≡◌, ℕ, IfOk, IsSome, Ok, Option, Some, map};
 ghost use Rattle.std.specs.Str.{chars};
 ghost use Rattle.tinyjson.specs.View.{view};
 ghost use Rattle.tinyjson_grammar.specs.Grammar.{IsText};
@@ -8,13 +9,15 @@ ghost use Rattle.tinyjson_pointer.specs.Tokens.{tokens_of};
 ghost use Rattle.tinyjson_pointer.specs.Walk.{part_at};
 ghost use Rattle.tinyjson_places.specs.Places.{Locates};
 ghost use Rattle.tinyjson_schema_report.specs.Located.{IsLocated, IsPlace, located_tree, with_column};
-ghost use Rattle.tinyjson_schema_report.specs.Located.{forbids_member, IsPlaceIfThere};
+ghost use Rattle.tinyjson_schema_report.specs.Located.{forbids_member};
+ghost use Rattle.tinyjson_schema_report.specs.Every.{IsAtPart};
 
 use crate::found::Finding;
 use crate::report::output_unit;
 use std::alloc::{AllocError, Global};
+use std::collections::VecDeque;
 use tinyjson::{JsonNumber, JsonValue};
-use tinyjson_places::{Place, key_place_of, place_of};
+use tinyjson_places::{Place, key_place_in, place_in};
 use tinyjson_pointer::{Pointer, put_member};
 use tinyjson_schema::Violation;
 
@@ -27,7 +30,7 @@ pub struct Located {
     pub place: Place,
 }
 
-/// The finding with its place in the text that was checked. The only error is out of memory.
+/// The finding with its place in the text that was checked, which is not parsed again. The only error is out of memory.
 ///
 /// Not inlined, so that the check before it has all of the stack.
 ///
@@ -41,12 +44,38 @@ pub fn locate(alloc: Global, text: &str, finding: Finding) -> Result<Located, Al
     ensures finding { IfOk result (λ located. located.finding ≡ finding) }
     ensures place { IfOk result (IsLocated (chars text.now)) }
 {
-    let place = place_in(alloc, text, &finding.violation)?;
+    let place = place_of_violation(alloc, text, &finding.violation)?;
     Ok(Located { finding, place })
 }
 
+/// [`locate`] for each of the findings, in their order.
+///
+/// ```
+/// let located = locate_every(alloc, text, found)?;
+/// ```
+#[inline(never)]
+pub fn locate_every(
+    alloc: Global,
+    text: &str,
+    found: Vec<Finding>,
+) -> Result<Vec<Located>, AllocError>
+    requires { (limit : Option ℕ) × (t : Tree) × IsText limit (chars text.now) t
+        × All (IsAtPart t) found.items }
+    ensures findings { IfOk result (λ located.
+        map (λ l. l.finding) located.items ≡ found.items) }
+    ensures places { IfOk result (λ located. All (IsLocated (chars text.now)) located.items) }
+{
+    let mut rest = VecDeque::from_vec(found);
+    let mut located = Vec::new(alloc);
+    while let Some(finding) = rest.pop_front() {
+        let placed = locate(alloc, text, finding)?;
+        located.push(placed)?;
+    }
+    Ok(located)
+}
+
 /// The place in the text of what violates a schema.
-fn place_in(alloc: Global, text: &str, violation: &Violation) -> Result<Place, AllocError>
+fn place_of_violation(alloc: Global, text: &str, violation: &Violation) -> Result<Place, AllocError>
     requires { (limit : Option ℕ) × (t : Tree) × IsText limit (chars text.now) t
         × IsSome (part_at t (tokens_of violation.now.instance_location)) }
     ensures { IfOk result (IsPlace (chars text.now) violation.now) }
@@ -55,8 +84,8 @@ fn place_in(alloc: Global, text: &str, violation: &Violation) -> Result<Place, A
     if !forbids_member(&violation.keyword_location) {
         return place_of_part(alloc, text, instance);
     }
-    match key_place_of(alloc, text, instance) {
-        Ok(Some(place)) => Ok(place),
+    match key_place_in(alloc, text, instance) {
+        Ok(Some(key)) => Ok(key),
         Ok(None) => place_of_part(alloc, text, instance),
         Err(_) => Err(AllocError),
     }
@@ -69,43 +98,9 @@ fn place_of_part(alloc: Global, text: &str, part: &Pointer) -> Result<Place, All
     ensures { IfOk result (λ place. Locates (chars text.now) (tokens_of part.now)
         (Ok (Some place))) }
 {
-    match place_of(alloc, text, part) {
+    match place_in(alloc, text, part) {
         Ok(Some(place)) => Ok(place),
         Ok(None) => unreachable!(),
-        Err(_) => Err(AllocError),
-    }
-}
-
-/// The place in the text of what violates a schema, as [`locate`] finds it; `None` if the text has no such part. The only
-/// error is out of memory.
-///
-/// Not inlined, so that the check before it has all of the stack.
-///
-/// ```
-/// let place = find_place(alloc, text, &finding.violation)?;
-/// ```
-#[inline(never)]
-pub fn find_place(
-    alloc: Global,
-    text: &str,
-    violation: &Violation,
-) -> Result<Option<Place>, AllocError>
-    ensures { IfOk result (IsPlaceIfThere (chars text.now) violation.now) }
-{
-    let part = &violation.instance_location;
-    match place_of(alloc, text, part) {
-        Ok(Some(place)) => {
-            let is_forbidden = forbids_member(&violation.keyword_location);
-            if !is_forbidden {
-                return Ok(Some(place));
-            }
-            match key_place_of(alloc, text, part) {
-                Ok(Some(key)) => Ok(Some(key)),
-                Ok(None) => Ok(Some(place)),
-                Err(_) => Err(AllocError),
-            }
-        }
-        Ok(None) => Ok(None),
         Err(_) => Err(AllocError),
     }
 }

@@ -1,8 +1,13 @@
-use Rattle.std.proofs.Common.{subst, sym}
+use Rattle.std.proofs.Common.{IsSome, subst, sym}
 use Rattle.std.specs.List.{All}
+use Rattle.tinyjson_pointer.specs.Tokens.{tokens_of}
+use Rattle.tinyjson_pointer.specs.Walk.{part_at}
 use Rattle.tinyjson_schema.specs.Every.{AreFirst, AreNoneIfValid}
 use Rattle.tinyjson_schema.specs.Reading.{root_in}
+use Rattle.tinyjson_schema.specs.declared.violation.Violation.{Violation}
 use Rattle.tinyjson_schema_report.specs.Finds.{HasWords}
+use Rattle.tinyjson_schema_report.specs.declared.found.Finding.{Finding}
+use Rattle.tinyjson_schema_report.proofs.Leading.{first_at_parts, all_made}
 use Rattle.tinyjson_schema_report.proofs.every.find_every.Goals as goal
 
 pub returns : goal.returns
@@ -10,8 +15,12 @@ returns g c =
     let root = root_in c.args.schema.now c.args.checks.formats in
     let t = g.V.AsView.tree c.args.value in
     let places = c.in_ok-violations.ensures in
-    let same = sym c.in_ok-found.ensures.same in (
+    let same = sym c.in_ok-found.ensures.same in
+    let there : Violation → Type 0 = λ v. IsSome (part_at t (tokens_of v.instance_location)) in (
       subst (AreFirst c.args.most root c.args.checks.limits.nested t) same places.first,
       subst (AreNoneIfValid c.args.most root t) same places.none,
       subst (λ u. All (HasWords root.tree u) c.in_ok-found.found.items) c.as_view-view.ensures c.in_ok-found.ensures.words,
+      all_made there (λ (f : Finding). f.violation) c.in_ok-found.found.items
+          (subst (All there) same (first_at_parts c.args.most root c.args.checks.limits.nested t c.as_view-view.result
+          c.in_ok-violations.violations.items c.as_view-view.ensures places.first)),
     )
