@@ -10,6 +10,7 @@ use options::{NULL, RAW, Request, requested};
 use part::Asked;
 use pointer::read_pointer;
 use std::process::ExitCode;
+use tinyjson_buffers::Buffers;
 use tinyjson_cli::{
     HELP, INDENT, LINES, MAX_LINE, Misuse, Program, Status, VERSION, answer_texts, argument_words,
     arguments_of, misused, report,
@@ -77,9 +78,11 @@ fn run(rt: &HostRuntime) -> Result<Status, Status> {
     };
     match read_pointer(rt.alloc(), pointer) {
         Ok(pointer) => {
+            let buffers = Buffers::new(rt.alloc());
             let asked = Asked {
                 pointer: &pointer,
                 form,
+                buffers: &buffers,
             };
             Ok(answer_texts(rt, PROGRAM, texts, files, asked))
         }

@@ -13,6 +13,7 @@ ghost use Rattle.json_part.specs.Part.{GivesMissing, GivesPart, GivesPartOf, pri
 use std::alloc::Global;
 use std::io::{self, Write};
 use tinyjson::JsonParseError;
+use tinyjson_buffers::Buffers;
 use tinyjson_cli::{NoAnswer, TextAnswer};
 use tinyjson_document::{Document, Node};
 use tinyjson_lines::{Cause, write_all};
@@ -34,6 +35,8 @@ pub struct Form {
 pub struct Asked<'a> {
     pub pointer: &'a Pointer,
     pub form: Form,
+    /// The memory that the lines are read into, one after another.
+    pub buffers: &'a Buffers,
 }
 
 /// ```
@@ -48,7 +51,12 @@ impl TextAnswer for Asked<'_> {
         text: &str,
         output: &mut W,
     ) -> io::Result<Option<NoAnswer>> {
-        answer_read(alloc, *self, Document::read(alloc, text), output)
+        let read = self.buffers.read(text);
+        let answered = answer_read(alloc, *self, &read, output);
+        if let Ok(document) = read {
+            self.buffers.recycle(document);
+        }
+        answered
     }
 
     fn answer_owned<W: Write>(
@@ -57,7 +65,7 @@ impl TextAnswer for Asked<'_> {
         text: String,
         output: &mut W,
     ) -> io::Result<Option<NoAnswer>> {
-        answer_read(alloc, *self, Document::of_text(alloc, text), output)
+        answer_read(alloc, *self, &Document::of_text(alloc, text), output)
     }
 }
 
@@ -65,20 +73,20 @@ impl TextAnswer for Asked<'_> {
 fn answer_read<W: Write>(
     alloc: Global,
     asked: Asked<'_>,
-    read: Result<Document, JsonParseError>,
+    read: &Result<Document, JsonParseError>,
     output: &mut W,
 ) -> io::Result<Option<NoAnswer>>
-    ensures { (text : List ℕ) → TellsText HasTree None text read
+    ensures { (text : List ℕ) → TellsText HasTree None text read.now
         → Answers (GivesPart asked.entry.form (tokens_of asked.entry.pointer.now) text)
         (W.contents output.old) (W.contents output.new) result }
 {
     match read {
-        Ok(document) => answer_document(alloc, asked, &document, output),
+        Ok(document) => answer_document(alloc, asked, document, output),
         Err(error) => {
             if error.is_out_of_memory() {
-                return Err(error.into());
+                return Err((*error).into());
             }
-            Ok(Some(NoAnswer::Refused(Cause::NotJson(error))))
+            Ok(Some(NoAnswer::Refused(Cause::NotJson(*error))))
         }
     }
 }

@@ -2,9 +2,10 @@
 ghost use Rattle.json_path.specs.Answers.{GivesLine};
 
 use crate::failure::{no_answer, unanswered_failure};
-use crate::selected::{Unanswered, Wanted, write_answer, write_owned_answer};
+use crate::selected::{Unanswered, Wanted, write_answer, write_answer_in, write_owned_answer};
 use std::alloc::Global;
 use std::io::{self, Write};
+use tinyjson_buffers::Buffers;
 use tinyjson_cli::{Answer, Failure, NoAnswer, Status, TextAnswer, writing_error};
 use tinyjson_path::Query;
 
@@ -13,6 +14,8 @@ use tinyjson_path::Query;
 pub struct Asked<'a> {
     pub query: &'a Query,
     pub wanted: Wanted,
+    /// The memory that the lines are read into, one after another.
+    pub buffers: &'a Buffers,
 }
 
 /// The answer for an input as one text.
@@ -62,7 +65,12 @@ impl TextAnswer for Asked<'_> {
         text: &str,
         output: &mut W,
     ) -> io::Result<Option<NoAnswer>> {
-        match write_answer(alloc, self.query, text, self.wanted, output)? {
+        let Asked {
+            query,
+            wanted,
+            buffers,
+        } = *self;
+        match write_answer_in(alloc, buffers, query, text, wanted, output)? {
             None => Ok(None),
             Some(why) => Ok(Some(no_answer(alloc, why)?)),
         }

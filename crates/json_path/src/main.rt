@@ -16,6 +16,7 @@ use answers::Asked;
 use options::{EMPTY, FLAT, PATHS, QUERY_FILE, RAW, REST, Request, requested, without_end};
 use query::read_query;
 use std::process::ExitCode;
+use tinyjson_buffers::Buffers;
 use tinyjson_cli::{
     Failure, HELP, INDENT, LINES, MAX_LINE, Misuse, Program, Status, VERSION, answer_files,
     answer_texts, argument_words, arguments_of, misused, read_named, report,
@@ -104,7 +105,12 @@ fn query_of(rt: &HostRuntime, request: &Request<'_, '_>) -> Result<Query, Failur
 /// Answers each input.
 fn answer(rt: &HostRuntime, request: &Request<'_, '_>, query: &Query) -> Status {
     let wanted = request.wanted;
-    let asked = Asked { query, wanted };
+    let buffers = Buffers::new(rt.alloc());
+    let asked = Asked {
+        query,
+        wanted,
+        buffers: &buffers,
+    };
     if request.texts.by_lines {
         return answer_texts(rt, PROGRAM, request.texts, request.files, asked);
     }

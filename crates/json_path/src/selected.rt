@@ -17,6 +17,7 @@ use std::alloc::Global;
 use std::fmt;
 use std::io::{self, ErrorKind, Write};
 use tinyjson::JsonParseError;
+use tinyjson_buffers::Buffers;
 use tinyjson_document::Document;
 use tinyjson_lines::write_all;
 use tinyjson_path::{FindError, Node, PatternLimit, Query, find_in};
@@ -106,7 +107,33 @@ pub fn write_answer<W: Write>(
     ensures { AnswersWanted wanted query.now (chars text.now)
         (W.contents output.old) (W.contents output.new) result }
 {
-    write_read(alloc, query, Document::read(alloc, text), wanted, output)
+    write_read(alloc, query, &Document::read(alloc, text), wanted, output)
+}
+
+/// Does as [`write_answer`], in the memory of the buffers: for texts that are answered one after another.
+///
+/// ```
+/// let buffers = Buffers::new(alloc);
+/// write_answer_in(alloc, &buffers, &query, "[1]", wanted, &mut output)?;
+/// write_answer_in(alloc, &buffers, &query, "[2]", wanted, &mut output)?; // takes no new memory for the document
+/// ```
+pub fn write_answer_in<W: Write>(
+    alloc: Global,
+    buffers: &Buffers,
+    query: &Query,
+    text: &str,
+    wanted: Wanted,
+    output: &mut W,
+) -> io::Result<Option<Unanswered>>
+    ensures { AnswersWanted wanted query.now (chars text.now)
+        (W.contents output.old) (W.contents output.new) result }
+{
+    let read = buffers.read(text);
+    let answered = write_read(alloc, query, &read, wanted, output);
+    if let Ok(document) = read {
+        buffers.recycle(document);
+    }
+    answered
 }
 
 /// Does as [`write_answer`], for a text that is given up: its document keeps it.
@@ -125,18 +152,24 @@ pub fn write_owned_answer<W: Write>(
     ensures { AnswersWanted wanted query.now (chars (string_bytes text))
         (W.contents output.old) (W.contents output.new) result }
 {
-    write_read(alloc, query, Document::of_text(alloc, text), wanted, output)
+    write_read(
+        alloc,
+        query,
+        &Document::of_text(alloc, text),
+        wanted,
+        output,
+    )
 }
 
 /// The same for what was read of a text.
 fn write_read<W: Write>(
     alloc: Global,
     query: &Query,
-    read: Result<Document, JsonParseError>,
+    read: &Result<Document, JsonParseError>,
     wanted: Wanted,
     output: &mut W,
 ) -> io::Result<Option<Unanswered>>
-    ensures { (text : List ℕ) → TellsText HasTree None text read
+    ensures { (text : List ℕ) → TellsText HasTree None text read.now
         → Answers (GivesText judged wanted query.now text)
         (W.contents output.old) (W.contents output.new) result }
 {
@@ -144,9 +177,9 @@ fn write_read<W: Write>(
         Ok(document) => write_found(alloc, query, document.root(), wanted, output),
         Err(error) => {
             if error.is_out_of_memory() {
-                return Err(error.into());
+                return Err((*error).into());
             }
-            Ok(Some(Unanswered::Refused(error)))
+            Ok(Some(Unanswered::Refused(*error)))
         }
     }
 }

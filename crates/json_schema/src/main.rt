@@ -28,6 +28,7 @@ use std::cell::Cell;
 use std::io::{self, BufRead, Write};
 use std::process::ExitCode;
 use tinyjson::JsonValue;
+use tinyjson_buffers::Buffers;
 use tinyjson_cli::{
     Answer, AnswerLines, Arguments, Failure, HELP, Known, MAX_LINE, Misuse, Program, Status, Taken,
     Text, VERSION, answer_files, answer_lines, argument_words, arguments_of, misused, read_named,
@@ -399,9 +400,11 @@ fn check_by(
     if request.formats {
         tell_unknown_formats(rt, tree)?;
     }
+    let buffers = Buffers::new(alloc);
     let judge = Judge {
         schema: &schema,
         formats: request.formats,
+        buffers: &buffers,
     };
     let mut asked = Asked {
         alloc,

@@ -7,6 +7,7 @@ use crate::verdict::{Cause, DEPTH_LIMIT, Judge};
 use std::alloc::{AllocError, Global};
 use std::collections::HashMap;
 use tinyjson::JsonValue;
+use tinyjson_buffers::Buffers;
 use tinyjson_cli::{Failure, Shown, Text};
 use tinyjson_pointer::put_member;
 use tinyjson_schema::{Schema, SchemaError};
@@ -199,9 +200,11 @@ impl MetaSchemas {
     }
 
     fn verdict_by(&self, alloc: Global, schema: &Schema<'_>, text: &str) -> Result<Every, Failure> {
+        let buffers = Buffers::new(alloc);
         let judge = Judge {
             schema,
             formats: self.formats,
+            buffers: &buffers,
         };
         Ok(check_as(alloc, judge, text, self.most)?)
     }

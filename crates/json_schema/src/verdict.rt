@@ -8,6 +8,7 @@ ghost use Rattle.json_schema.specs.Verdicts.{judged, ValueGives, TextGives, Line
 use std::alloc::{AllocError, Global};
 use std::str;
 use tinyjson::JsonParseError;
+use tinyjson_buffers::Buffers;
 use tinyjson_document::{Document, Node};
 use tinyjson_lines::content;
 use tinyjson_schema::{CheckError, Checks, Schema};
@@ -22,6 +23,8 @@ pub struct Judge<'a, 's> {
     pub schema: &'a Schema<'s>,
     /// Whether `format` is an assertion.
     pub formats: bool,
+    /// The memory that texts are read into, one after another.
+    pub buffers: &'a Buffers,
 }
 
 /// The verdict on a text.
@@ -54,8 +57,12 @@ pub enum Cause {
 pub fn check_text(alloc: Global, judge: Judge<'_, '_>, text: &str) -> Result<Verdict, AllocError>
     ensures { IfOk result (TextGives (judged judge.entry) (chars text.now)) }
 {
-    match Document::read_with_depth_limit(alloc, text, DEPTH_LIMIT) {
-        Ok(document) => check_value(alloc, judge, document.root(), text),
+    match judge.buffers.read_with_depth_limit(text, DEPTH_LIMIT) {
+        Ok(document) => {
+            let verdict = check_value(alloc, judge, document.root(), text);
+            judge.buffers.recycle(document);
+            verdict
+        }
         Err(error) => {
             if error.is_out_of_memory() {
                 return Err(AllocError);

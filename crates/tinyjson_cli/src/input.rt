@@ -31,16 +31,12 @@ fn text_of(bytes: Vec<u8>) -> Result<String, Failure>
     ensures { MatchResult result (λ text. string_bytes text ≡ bytes.items)
         (λ failure. ¬ IsUtf8 bytes.items × IsOfInput failure) }
 {
-    let bad = match str::from_utf8(bytes.as_slice()) {
-        Ok(_) => None,
-        Err(error) => Some(error.valid_up_to()),
-    };
-    if let Some(len) = bad {
-        return Err(Failure::NotUtf8(place_of_fault(bytes.as_slice(), len)));
-    }
     match String::from_utf8(bytes) {
         Ok(text) => Ok(text),
-        Err(_) => Err(Failure::NotUtf8(Place { line: 1, column: 0 })),
+        Err(error) => {
+            let place = place_of_fault(error.as_bytes(), error.utf8_error().valid_up_to());
+            Err(Failure::NotUtf8(place))
+        }
     }
 }
 

@@ -20,33 +20,44 @@ use tinyjson::{Events, JsonNumber};
 
 /// Where the pending keys and values of an open container begin.
 #[derive(Clone, Copy)]
-pub(crate) struct Place {
-    pub(crate) keys: usize,
-    pub(crate) values: usize,
+pub struct Place {
+    pub keys: usize,
+    pub values: usize,
 }
 
 /// A tree that is built from a text's events. Keys and values are pending until their container is closed.
 #[derive(Drop)]
 pub struct Arena<'t> {
-    pub(crate) store: Store<'t>,
-    pub(crate) open: Vec<Place>,
-    pub(crate) keys: Vec<Span>,
-    pub(crate) values: Vec<Cell>,
+    pub store: Store<'t>,
+    pub open: Vec<Place>,
+    pub keys: Vec<Span>,
+    pub values: Vec<Cell>,
     /// The members of the object that is being closed.
-    gathered: Vec<Member>,
+    pub gathered: Vec<Member>,
     /// The order of the members of the last object, and those members.
-    ranks: Vec<u64>,
-    sorted: Vec<Member>,
+    pub ranks: Vec<u64>,
+    pub sorted: Vec<Member>,
     /// The greatest number of containers that were open at once.
-    pub(crate) deepest: usize,
+    pub deepest: usize,
 }
 
 /// What an arena has built, without the text that it was over.
 #[derive(Drop)]
-pub(crate) struct Built {
-    pub(crate) store: Store<'static>,
-    pub(crate) root: Cell,
-    pub(crate) deepest: usize,
+pub struct Built {
+    pub store: Store<'static>,
+    pub root: Cell,
+    pub deepest: usize,
+}
+
+/// The vectors of an arena in which something waited.
+#[derive(Drop)]
+pub struct Pending {
+    pub open: Vec<Place>,
+    pub keys: Vec<Span>,
+    pub values: Vec<Cell>,
+    pub gathered: Vec<Member>,
+    pub ranks: Vec<u64>,
+    pub sorted: Vec<Member>,
 }
 
 impl<'t> Arena<'t> {
@@ -76,11 +87,11 @@ impl<'t> Arena<'t> {
         }
     }
 
-    /// What it has built, without the text that was lent.
-    pub(crate) fn built(self) -> Built
+    /// What it has built, without the text that was lent, and its other vectors.
+    pub fn built(self) -> (Built, Pending)
         requires { (t : Tree) × IsTree self t }
         ensures { (t : Tree) → IsTree self.entry t →
-            IsBuilt (source_bytes self.entry.store.texts.source) result t }
+            IsBuilt (source_bytes self.entry.store.texts.source) result.0 t }
     {
         let root = self.values[0];
         let Store {
@@ -94,7 +105,7 @@ impl<'t> Arena<'t> {
             source: Source::Lent(b""),
             added: texts.added,
         };
-        Built {
+        let built = Built {
             store: Store {
                 texts,
                 kept,
@@ -104,7 +115,16 @@ impl<'t> Arena<'t> {
             },
             root,
             deepest: self.deepest,
-        }
+        };
+        let pending = Pending {
+            open: self.open,
+            keys: self.keys,
+            values: self.values,
+            gathered: self.gathered,
+            ranks: self.ranks,
+            sorted: self.sorted,
+        };
+        (built, pending)
     }
 
     /// Writes the tree's text in UTF-8, compact or with this indent, and the given bytes after it.

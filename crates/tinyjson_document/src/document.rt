@@ -84,7 +84,7 @@ impl Document {
         ensures { TellsText HasTree None (chars (string_bytes text)) result }
     {
         let arena = Arena::over(alloc, text.as_bytes());
-        let built = match read_events(alloc, text.as_str(), arena) {
+        let (built, _) = match read_events(alloc, text.as_str(), arena) {
             Ok(arena) => arena.built(),
             Err((error, _)) => return Err(error),
         };
@@ -92,7 +92,8 @@ impl Document {
     }
 
     /// The document of what was built over this text.
-    fn over(built: Built, text: Vec<u8>) -> Document
+    #[doc(hidden)]
+    pub fn over(built: Built, text: Vec<u8>) -> Document
         requires { (t : Tree) × IsBuilt text.items built t × ∥ sound.IsTree t ∥₁ }
         ensures { (t : Tree) → IsBuilt text.items built t → HasTree result t }
     {
@@ -118,6 +119,12 @@ impl Document {
             root: built.root,
             deepest: built.deepest,
         }
+    }
+
+    /// The vectors of a document that is given up.
+    #[doc(hidden)]
+    pub fn into_store(self) -> Store<'static> {
+        self.store
     }
 
     /// The root: the value of the whole text.

@@ -13,7 +13,7 @@ over-requires c =
     let same : source_bytes c.in-Ok.arena.store.texts.source ≡ c.into_bytes.result.items
     = sym h.answer.3.1 ∙ (c.over-arena.ensures.text ∙ (c.as_bytes.ensures.value ∙ ap (λ v. v.items) (sym c.into_bytes.ensures.value))) in (
       h.answer.1,
-      subst (λ z. IsBuilt z c.built-built.result h.answer.1) same (c.built-built.ensures h.answer.1 h.answer.3.0),
+      subst (λ z. IsBuilt z c.built.result.0 h.answer.1) same (c.built.ensures h.answer.1 h.answer.3.0),
       ∣ text_sound _ _ _ h.answer.2 ∣₁,
     )
 
@@ -22,7 +22,7 @@ returns c =
     let h = c.in-Ok.ensures.tells in
     let same : source_bytes c.in-Ok.arena.store.texts.source ≡ c.into_bytes.result.items
     = sym h.answer.3.1 ∙ (c.over-arena.ensures.text ∙ (c.as_bytes.ensures.value ∙ ap (λ v. v.items) (sym c.into_bytes.ensures.value))) in
-    let built = subst (λ z. IsBuilt z c.built-built.result h.answer.1) same (c.built-built.ensures h.answer.1 h.answer.3.0) in
+    let built = subst (λ z. IsBuilt z c.built.result.0 h.answer.1) same (c.built.ensures h.answer.1 h.answer.3.0) in
     subst (λ bs. TellsText HasTree None (chars bs) (Ok c.over.result)) c.as_str.ensures.value (record {
       consumed = h.consumed;
       rest = h.rest;

@@ -1,0 +1,21 @@
+use Rattle.std.proofs.Common.{◌∙◌, sym, subst}
+use Rattle.tinyjson_document.specs.Holding.{IsBuilt}
+use Rattle.tinyjson_buffers.proofs.memory.Memory.build.Goals as goal
+
+pub returns-in-Ok : goal.returns-in-Ok
+returns-in-Ok c =
+    let h = c.in-Ok.ensures in
+    let same = sym h.answer.3.1 ∙ c.arena-arena.ensures.text in
+    record {
+      consumed = h.consumed;
+      rest = h.rest;
+      whole = h.whole;
+      answer = (
+        h.answer.0,
+        h.answer.1,
+        h.answer.2,
+        subst (λ z. IsBuilt z c.built.result.0 h.answer.1) same (c.built.ensures h.answer.1 h.answer.3.0),
+      );
+      refused = tt;
+      broken_off = tt;
+    }

@@ -1,0 +1,101 @@
+//! Documents that are read in memory which others leave.
+ghost use Rattle.std.specs.Prelude.{None, Some};
+ghost use Rattle.std.specs.Str.{chars};
+ghost use Rattle.tinyjson.specs.Events.{TellsText};
+ghost use Rattle.tinyjson_document.specs.Document.{HasTree};
+
+use crate::memory::Memory;
+use std::alloc::Global;
+use std::cell::RefCell;
+use std::mem;
+use tinyjson::JsonParseError;
+use tinyjson_document::Document;
+
+/// Memory for documents of texts that are read one after another. A document takes the memory of the one that was
+/// recycled last, so most take no new memory. What a document took is freed with the buffers, or with the document if
+/// it is not recycled.
+#[derive(Drop)]
+pub struct Buffers {
+    memory: RefCell<Memory>,
+    alloc: Global,
+}
+
+impl Buffers {
+    /// Without memory yet.
+    pub fn new(alloc: Global) -> Buffers {
+        Buffers {
+            memory: RefCell::new(Memory::new(alloc)),
+            alloc,
+        }
+    }
+
+    /// Parses a text as `Document::read` does. The document keeps a copy of the text.
+    ///
+    /// ```
+    /// let buffers = Buffers::new(alloc);
+    /// let document = buffers.read(r#"{"name": "n"}"#)?;
+    /// ```
+    pub fn read(&self, text: &str) -> Result<Document, JsonParseError>
+        ensures { TellsText HasTree None (chars text.now) result }
+    {
+        self.read_limited(None, text)
+    }
+
+    /// Parses a text with at most `limit` nested containers, as `Document::read_with_depth_limit` does.
+    ///
+    /// ```
+    /// let buffers = Buffers::new(alloc);
+    /// let result = buffers.read_with_depth_limit("[[1]]", 1);
+    /// assert!(rt; result.is_err_and(|error| error.kind() == JsonParseErrorKind::TooDeep('[')));
+    /// ```
+    pub fn read_with_depth_limit(
+        &self,
+        text: &str,
+        limit: usize,
+    ) -> Result<Document, JsonParseError>
+        ensures { TellsText HasTree (Some limit) (chars text.now) result }
+    {
+        self.read_limited(Some(limit), text)
+    }
+
+    /// Gives the memory of a document to the one that is read next.
+    pub fn recycle(&self, document: Document) {
+        let mut memory = self.take();
+        memory.take_store(document.into_store());
+        self.put(memory);
+    }
+
+    /// Parses a text. There may be a limit on nested containers.
+    fn read_limited(&self, limit: Option<usize>, text: &str) -> Result<Document, JsonParseError>
+        ensures { TellsText HasTree limit (chars text.now) result }
+    {
+        let mut memory = self.take();
+        let source = memory.copy_of(text.as_bytes());
+        match memory.build(limit, text, source.as_slice()) {
+            Ok(built) => {
+                self.put(memory);
+                Ok(Document::over(built, source))
+            }
+            Err(error) => {
+                memory.source = source;
+                self.put(memory);
+                Err(error)
+            }
+        }
+    }
+
+    /// Takes the memory out.
+    fn take(&self) -> Memory {
+        match self.memory.try_borrow_mut() {
+            Ok(mut memory) => mem::replace(&mut *memory, Memory::new(self.alloc)),
+            Err(_) => Memory::new(self.alloc),
+        }
+    }
+
+    /// Puts memory back.
+    fn put(&self, memory: Memory) {
+        if let Ok(mut kept) = self.memory.try_borrow_mut() {
+            *kept = memory;
+        }
+    }
+}

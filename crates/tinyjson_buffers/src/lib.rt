@@ -1,0 +1,14 @@
+//! Documents of texts that are read one after another, as lines are, each in the memory of the one before.
+//!
+//! ```
+//! let buffers = Buffers::new(alloc);
+//! let document = buffers.read("[1]")?;
+//! buffers.recycle(document);
+//! let document = buffers.read("[2]")?; // in the same memory
+//! ```
+#![tactic(auto)]
+
+mod buffers;
+mod memory;
+
+pub use buffers::Buffers;
