@@ -2,6 +2,8 @@
 
 use std::alloc::Global;
 use std::test::Fail;
+use tinyjson::JsonParseErrorKind;
+use tinyjson_buffers::Buffers;
 use tinyjson_document::{Document, JsonView};
 
 const TEXT: &str =
@@ -50,5 +52,29 @@ fn values_are_made_of_nodes(rt: HostRuntime) -> Result<(), Fail> {
     document.root().format_line_to(rt.alloc(), &mut bytes)?;
     let formatted = document.root().format(rt.alloc())?;
     assert_eq!(rt; bytes.len(), formatted.len() + 1);
+    Ok(())
+}
+
+#[test]
+fn documents_are_read_in_the_memory_of_others(rt: HostRuntime) -> Result<(), Fail> {
+    let buffers = Buffers::new(rt.alloc());
+    for text in [
+        TEXT,
+        "[[",
+        r#"["\u00e9", 12345678901234567890123]"#,
+        "7",
+        TEXT,
+    ] {
+        match buffers.read(text) {
+            Ok(document) => {
+                let alone = Document::read(rt.alloc(), text)?;
+                assert!(rt; document.root() == alone.root());
+                buffers.recycle(document);
+            }
+            Err(error) => assert_eq!(rt; error.column(), text.len()),
+        }
+    }
+    let limited = buffers.read_with_depth_limit("[[1]]", 1);
+    assert!(rt; limited.is_err_and(|error| error.kind() == JsonParseErrorKind::TooDeep('[')));
     Ok(())
 }

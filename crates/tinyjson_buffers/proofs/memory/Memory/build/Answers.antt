@@ -14,7 +14,7 @@ returns-in-Ok c =
         h.answer.0,
         h.answer.1,
         h.answer.2,
-        subst (λ z. IsBuilt z c.built.result.0 h.answer.1) same (c.built.ensures h.answer.1 h.answer.3.0),
+        subst (λ z. IsBuilt z c.built-built.result.0 h.answer.1) same (c.built-built.ensures h.answer.1 h.answer.3.0),
       );
       refused = tt;
       broken_off = tt;
