@@ -72,6 +72,18 @@ KEYWORDS = [
     ('{"multipleOf":9999999999999999999}', ["9999999999999999999", "99999999999999999990", "-99999999999999999980000000000000000001"],
      [("9999999999999999998", "", "/multipleOf"), ("99999999999999999980", "", "/multipleOf")]),
     ('{"multipleOf":1234567890123456789000}', ["1234567890123456789e3", "0.2469135780246913578e22"], [("1234567890123456789", "", "/multipleOf")]),
+    # More digits than a word holds: 20, 21 and 39, from both sides of the limits of 64 and 128 bits.
+    ('{"multipleOf":12345678901234567891}', ["0", "-0", "12345678901234567891", "-86419752308641975237", "12345678901234567891e400", "null"],
+     [("12345678901234567890", "", "/multipleOf"), ("1234567890123456789.1", "", "/multipleOf"), ("1e9223372036854775807", "", "/multipleOf"), ("3", "", "/multipleOf")]),
+    ('{"multipleOf":0.10000000000000000001}', ["0.20000000000000000002", "1.0000000000000000001", "10000000000000000001", "-1.10000000000000000011"],
+     [("0.1", "", "/multipleOf"), ("0.3", "", "/multipleOf"), ("0.10000000000000000002", "", "/multipleOf"), ("0.100000000000000000015", "", "/multipleOf")]),
+    ('{"multipleOf":12345678901234567891e-400}', ["12345678901234567891e-400", "12345678901234567891"], [("12345678901234567891e-401", "", "/multipleOf"), ("1", "", "/multipleOf")]),
+    *((f'{{"multipleOf":{n}}}', [f"{n}", f"{n * n}", f"{n * (n - 1)}", f"{n * 999999}e3"], [(f"{n - 1}", "", "/multipleOf"), (f"{n + 1}", "", "/multipleOf"), (f"{n * n + 1}", "", "/multipleOf")])
+      for n in (2**64 - 1, 2**64, 2**64 + 1, 2**127, 2**128 - 1, 2**128, 2**128 + 1)),
+    # 2 to the power n divides 10 to the power n, and none below; the second of these has 1,000 digits.
+    *((f'{{"multipleOf":{p**n}}}', [f"1e{n}", f"1e{n + 1}", f"7e{n}", "1e400000", "1e9223372036854775807"], [(f"1e{n - 1}", "", "/multipleOf"), ("1", "", "/multipleOf")])
+      for p, n in ((2, 67), (2, 3321), (5, 29), (5, 1430))),
+    (f'{{"multipleOf":{"1" * 1000}}}', ["1" * 1000, "1" * 2000, "-" + "2" * 3000, "1" * 1000 + "e-0"], [("1" * 999, "", "/multipleOf"), ("1" * 1001, "", "/multipleOf"), ("1e1000", "", "/multipleOf")]),
     # 6.2.2 to 6.2.5: exact, and of numbers alone.
     ('{"maximum":3.0}', ["2.6", "3", "3.0", '"x"', "-1e400"], [("3.5", "", "/maximum"), ("3.0000000000000000001", "", "/maximum")]),
     ('{"maximum":2e399}', ["2e399", "0"], [("1e400", "", "/maximum")]),
@@ -411,7 +423,7 @@ REFUSED = [
     ('{"additionalProperties":0}', "/additionalProperties"), ('{"additionalProperties":{"items":{"enum":{}}}}', "/additionalProperties/items/enum"),
     ('{"type":5}', "/type"), ('{"type":[]}', "/type"), ('{"type":["null","null"]}', "/type"), ('{"type":"any"}', "/type"), ('{"type":["null","Null"]}', "/type"),
     ('{"enum":1}', "/enum"), ('{"maximum":"1"}', "/maximum"), ('{"multipleOf":0}', "/multipleOf"), ('{"multipleOf":-0.0}', "/multipleOf"), ('{"multipleOf":-2}', "/multipleOf"),
-    ('{"multipleOf":"2"}', "/multipleOf"), ('{"multipleOf":12345678901234567891}', "/multipleOf"), ('{"items":{"multipleOf":0.10000000000000000001}}', "/items/multipleOf"), ('{"minimum":null}', "/minimum"),
+    ('{"multipleOf":"2"}', "/multipleOf"), (f'{{"multipleOf":{"1" * 1001}}}', "/multipleOf"), (f'{{"items":{{"multipleOf":0.{"1" * 1001}}}}}', "/items/multipleOf"), ('{"minimum":null}', "/minimum"),
     ('{"maxLength":-1}', "/maxLength"), ('{"maxLength":1.5}', "/maxLength"), ('{"minLength":"1"}', "/minLength"), ('{"minItems":-1e400}', "/minItems"),
     ('{"uniqueItems":1}', "/uniqueItems"), ('{"uniqueItems":null}', "/uniqueItems"),
     ('{"maxProperties":1e-1}', "/maxProperties"), ('{"required":"a"}', "/required"), ('{"required":["a","a"]}', "/required"), ('{"required":[1]}', "/required"),
@@ -1019,7 +1031,7 @@ REASONS = [
     ([], '{"type":"strin"}', "/type", 'must be a type or an array of different types, is "strin"'),
     ([], '{"type":["null","null"]}', "/type", 'must be a type or an array of different types, is ["null","null"]'),
     ([], '{"maximum":"10"}', "/maximum", 'must be a number, is "10"'),
-    ([], '{"multipleOf":0}', "/multipleOf", "must be a number above 0 with at most 19 digits, is 0"),
+    ([], '{"multipleOf":0}', "/multipleOf", "must be a number above 0 with at most 1,000 digits, is 0"),
     ([], '{"properties":{"a":{"minLength":-1.0}}}', "/properties/a/minLength", "must be a non-negative integer, is -1"),
     ([], '{"maxItems":1.5}', "/maxItems", "must be a non-negative integer, is 1.5"),
     ([], '{"required":["a","b","a"]}', "/required", 'must be an array of different strings, is ["a","b","a"]'),

@@ -23,7 +23,7 @@ abbrev pub AreDigits : List ℕ → Type 0
 AreDigits [] = ⊤
 AreDigits (d ∷ ds) = IsTrue (is_ascii_digit d) × AreDigits ds
 
-digits_from : (ds : List ℕ) → IsTrue (all_ascii_digits ds) → AreDigits ds
+pub digits_from : (ds : List ℕ) → IsTrue (all_ascii_digits ds) → AreDigits ds
 digits_from [] h = tt
 digits_from (c ∷ cs) h = let k = and_parts (is_ascii_digit c) (all_ascii_digits cs) h in (k.0, digits_from cs k.1)
 

@@ -7,6 +7,8 @@
 #![tactic(auto)]
 
 mod distinct;
+mod limbs;
+mod long_division;
 mod multiple;
 mod order;
 

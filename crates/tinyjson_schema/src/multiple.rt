@@ -6,7 +6,7 @@ ghost use Rattle.tinyjson_schema.specs.Operands.{is_divisor_number};
 use tinyjson::JsonValue;
 use tinyjson_compare::is_divisor;
 
-/// Whether the value is a number above zero with at most 19 digits.
+/// Whether the value is a number above zero with at most 1,000 digits.
 pub fn is_divisor_number(value: &JsonValue) -> bool
     ensures { result ≡ is_divisor_number (view value.now) }
 {

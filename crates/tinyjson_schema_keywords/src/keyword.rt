@@ -226,7 +226,7 @@ pub enum Form {
     /// The name of a type, or an array of different ones.
     Types,
     Number,
-    /// A number above zero, with at most 19 digits.
+    /// A number above zero, with at most 1,000 digits.
     Divisor,
     /// A whole number, not negative.
     Count,

@@ -240,7 +240,7 @@ fn wanted(form: Form) -> &'static str
         Form::List => "must be an array",
         Form::Types => "must be a type or an array of different types",
         Form::Number => "must be a number",
-        Form::Divisor => "must be a number above 0 with at most 19 digits",
+        Form::Divisor => "must be a number above 0 with at most 1,000 digits",
         Form::Count => "must be a non-negative integer",
         Form::Keys => "must be an array of different strings",
         Form::KeyLists => "must be an object of arrays of different strings",
