@@ -26,8 +26,8 @@ use tinyjson_document::JsonView;
 use tinyjson_schema_keywords::{Keyword, Walk};
 use tinyjson_view::ValueView;
 
-/// Whether the value meets the keyword with this value of its own; true for a keyword that is no assertion. Patterns and
-/// the values of `enum` take steps of the walk's budget. The only error is out of memory.
+/// Whether the value meets the keyword with this value of its own; true for a keyword that is no assertion. Patterns,
+/// the values of `enum` and long divisors take steps of the walk's budget. The only error is out of memory.
 ///
 /// ```
 /// let is_met = accepts(Keyword::Maximum, &limit, &value, walk)?;
@@ -46,7 +46,7 @@ pub fn accepts(
         Keyword::Type => Ok(has_type(operand, value)),
         Keyword::Enum => Ok(is_in(operand, value, walk)),
         Keyword::Const => Ok(value.equals_value(operand)),
-        Keyword::MultipleOf => Ok(are_multiple(value, operand)),
+        Keyword::MultipleOf => Ok(are_multiple(value, operand, walk)),
         Keyword::Maximum => Ok(are_ordered(value, &limit)),
         Keyword::ExclusiveMaximum => Ok(are_apart(value, &limit)),
         Keyword::Minimum => Ok(are_ordered(&limit, value)),
