@@ -417,8 +417,60 @@ MANY_OPERATIONS = [
         '{"a":{"x":[1,0]},"b":{"x":[1,0]},"c":%s}' % ITEMS),
 ]
 
-# Forty copies of the whole to its end: more than fits.
-DOUBLED = patch(*[("copy", "/-", "")] * 40)
+def too_much(given):
+    """The words where the copies of a patch copy more values than they may: a million, and four for each byte of the text."""
+    return f"the patch copies more than {1_000_000 + 4 * len(given)} values"
+
+
+# Copies of the whole to its end, or to a new member: after n copies [1] and {"a":1} have 2 ** (n + 1) values.
+DOUBLED = [("copy", "/-", "")] * 40
+DOUBLED_MEMBERS = [("copy", f"/{i}", "") for i in range(40)]
+
+
+def doubled(value, times):
+    for _ in range(times):
+        value = value + [value]
+    return value
+
+
+# A part of 10,000 values in a text of 20,001 bytes: 108 copies of it and 4 of a scalar are as many as are copied at most. A
+# value of the patch that has 41,667: 24 copies of it are.
+PART = array([0] * 9_999)
+PARTS_COPIED = [("copy", "/-", "/0")] * 108 + [("copy", "/-", "/0/0")] * 4
+HELD = '{"p":%s,"q":{}}' % array([0] * 41_664)
+HELD_COPIED = [("add", "/v", HELD)] + [("copy", f"/{i:02}", "/v") for i in range(24)]
+HELD_MEMBERS = ",".join(f'"{i:02}":{HELD}' for i in range(24))
+
+# The value, the patch, and the result.
+ENOUGH = [
+    ("[7]", [("copy", "/-", "/0")] * 1_000, array([7] * 1_001)),
+    ("[1]", DOUBLED[:18], json.dumps(doubled([1], 18), separators=(",", ":"))),
+    ("[%s]" % PART, PARTS_COPIED, array([PART] * 109, [0] * 4)),
+    ("{}", HELD_COPIED, '{%s,"v":%s}' % (HELD_MEMBERS, HELD)),
+]
+
+# The value and the patch.
+EXCEEDED = [
+    ("[1]", DOUBLED),
+    ("[1]", DOUBLED[:19]),
+    ('{"a":1}', DOUBLED_MEMBERS),
+    ("[%s]" % PART, PARTS_COPIED + [("copy", "/-", "/0/0")]),
+    ("{}", HELD_COPIED + [("copy", "/w", "/v/p/0")]),
+    ("[1]", DOUBLED + [("remove", "")]),
+]
+
+# The value, the patch, and the number and the reason of an operation before it copies too much.
+FAILED_BEFORE = [
+    ("[1]", DOUBLED[:18] + [("remove", "")] + DOUBLED, 18, WHOLE_REMOVED),
+    ("[%s]" % PART, PARTS_COPIED + [("copy", "/-", "/-")], len(PARTS_COPIED), NO_SOURCE),
+]
+
+# Of lines, that which has a large part that is copied is reported.
+COPIED = patch(*[("copy", "/b/-", "/a")] * 100)
+LARGE = '{"a":%s,"b":[]}' % array([0] * 20_000)
+COPIED_LINES = "\n".join(['{"a":7,"b":[]}', LARGE, '{"a":8,"b":[]}', ""])
+COPIED_ANSWER = 1, b'{"a":7,"b":%s}\n{"a":8,"b":%s}\n' % tuple(array([n] * 100).encode() for n in (7, 8)), \
+    f"json_patch: line 2: {too_much(LARGE)}\n".encode()
 
 def told(words):
     """The answer of `json_patch` to a file that is no patch."""
@@ -603,9 +655,22 @@ def check_many(checks):
             checks.check(name, answer, printed(result.encode()), at=row)
             checks.check(f"{name}, {seconds:.1f} s", seconds < SECONDS, True, at=row)
     limited = lambda: resource.setrlimit(resource.RLIMIT_AS, (MEMORY, MEMORY))
-    name, no_memory = "json_patch: doubled in little memory", reported(4, "json_patch", "out of memory")
+    name, answer = "json_patch: doubled in little memory", reported(4, "json_patch", too_much("[1]"))
     if checks.needs_memory(name):
-        checks.check(name, patched(checks.folder, b"[1]", DOUBLED.encode(), preexec_fn=limited), no_memory)
+        checks.check(name, patched(checks.folder, b"[1]", patch(*DOUBLED).encode(), preexec_fn=limited), answer)
+
+
+def check_copies(checks):
+    """How many values the copies of a patch may copy."""
+    rows = [(row, printed(row[2].encode())) for row in ENOUGH]
+    rows += [(row, reported(4, "json_patch", too_much(row[0]))) for row in EXCEEDED]
+    rows += [(row, reported(1, "json_patch", f"operation {row[2]}: {row[3]}")) for row in FAILED_BEFORE]
+    for row, expected in rows:
+        name = f"json_patch: copies, {row[0][:20]}, {len(row[1])} operations"
+        checks.row(name, expected, patched, checks.folder, row[0].encode(), patch(*row[1]).encode(), at=row)
+    words = reported(4, "json_patch", too_much("[1]"))
+    checks.row("json_patch: copies, -i", words, patched_by, checks.folder, ["-i"], patch(*DOUBLED), b"[1]")
+    checks.row("json_patch: copies, -l", COPIED_ANSWER, patched_by, checks.folder, ["-l"], COPIED, COPIED_LINES.encode())
 
 
 def check_padded(checks):
@@ -656,10 +721,10 @@ def check_faults(checks):
 PAGE = Page("json_patch", [OPERATIONS], PATCHED)
 
 
-def not_applied(path):
+def not_applied(path, given, beside):
     """The answer where an operation can't be applied, whether the file is as it was, and that beside it."""
     with tempfile.TemporaryDirectory() as at:
-        folder = Folder("json_patch", at, a_json=b"[]", b_json=b"{}")
+        folder = Folder("json_patch", at, a_json=given, b_json=beside)
         before = folder.state("a.json")
         return folder.run("-I", path, "a.json", "b.json"), folder.state("a.json") == before, folder.read("b.json")
 
@@ -670,8 +735,12 @@ def check_in_place(checks):
         file.write(patch(("add", "/a", "[1.0]")).encode())
     InPlace("json_patch", [path], b'{"b":2.0}', b'{"a":[1],"b":2}\n').check(checks)
     answer = (1, b"", b"a.json: operation 0: %s\n" % NO_PLACE.encode()), True, b'{"a":[1]}\n'
-    checks.row("json_patch -I: an operation can't be applied", answer, not_applied, path)
+    checks.row("json_patch -I: an operation can't be applied", answer, not_applied, path, b"[]", b"{}")
+    with open(path, "wb") as file:
+        file.write(COPIED.encode())
+    answer = (1, b"", b"a.json: %s\n" % too_much(LARGE).encode()), True, b'{"a":7,"b":%s}\n' % array([7] * 100).encode()
+    checks.row("json_patch -I: too many copies", answer, not_applied, path, LARGE.encode(), b'{"a":7,"b":[]}')
 
 
-PARTS = (PAGE.check, *shared(check_rows), check_lines, check_long_lines, check_in_place, check_padded, check_many, check_deep,
+PARTS = (PAGE.check, *shared(check_rows), check_lines, check_long_lines, check_in_place, check_padded, check_many, check_copies, check_deep,
     check_faults)

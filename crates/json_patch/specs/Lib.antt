@@ -1,3 +1,4 @@
+pub mod Answers
 pub mod Apply
 pub mod Options
 pub mod Reading

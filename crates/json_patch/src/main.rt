@@ -2,6 +2,7 @@
 //! arguments and the statuses.
 #![tactic(auto)]
 
+mod answers;
 mod apply;
 mod options;
 mod reading;
@@ -11,8 +12,8 @@ use options::{Request, requested};
 use reading::read_patch;
 use std::process::ExitCode;
 use tinyjson_cli::{
-    HELP, INDENT, LINES, MAX_LINE, Misuse, Program, Status, VERSION, answer_texts, argument_words,
-    arguments_of, misused, report,
+    HELP, INDENT, LINES, MAX_LINE, Misuse, Program, Status, VERSION, answer_files, answer_texts,
+    argument_words, arguments_of, misused, report,
 };
 use tinyjson_in_place::{IN_PLACE, answer_in_place};
 
@@ -42,12 +43,13 @@ Options:
 Exit status:
   0  each result was printed, or is in its file
   1  an operation can't be applied to a text's value, or a test fails;
-     with -l: a line is refused
+     with -l: a line is refused; with -l or -I: the patch copies too much
   2  the arguments are not understood, or PATCH can't be read,
      is no JSON text or no patch document, or has more than 1,000 nested
      containers
   3  an input is no JSON text, or not UTF-8
-  4  memory ran out, or a read or a write failed
+  4  memory ran out, a read or a write failed, or the patch copies more than
+     1,000,000 values and four for each byte of the text
 
 Examples:
   $ echo '[{\"op\": \"replace\", \"path\": \"/a\", \"value\": [1.0]}]' > patch.json
@@ -87,7 +89,10 @@ fn run(rt: &HostRuntime) -> Result<Status, Status> {
             if arguments.has(b'I') {
                 return Ok(answer_in_place(rt, PROGRAM, texts, files, &asked));
             }
-            Ok(answer_texts(rt, PROGRAM, texts, files, asked))
+            if texts.by_lines {
+                return Ok(answer_texts(rt, PROGRAM, texts, files, asked));
+            }
+            Ok(answer_files(rt, PROGRAM, files, &asked))
         }
         Err(failure) => Err(report(rt, PROGRAM, None, &failure)),
     }

@@ -9,3 +9,5 @@ mod Left
 mod Pieces
 mod Operations
 mod Running
+mod Counting
+mod Taken

@@ -12,12 +12,12 @@ use Rattle.tinyjson_grammar.specs.Tree.{Tree}
 use Rattle.tinyjson_patch.proofs.Callers.{as_many, one_applied, one_failed}
 use Rattle.tinyjson_patch.specs.Operation.{Action, action_of, applied}
 use Rattle.tinyjson_patch.specs.Patch.{all_applied}
-use Rattle.tinyjson_patch.specs.Running.{last_applied, RunsFirst}
+use Rattle.tinyjson_patch.specs.Running.{last_applied}
 use Rattle.tinyjson_patch.specs.declared.operation.Operation.{Operation}
 use Rattle.tinyjson_patch.specs.declared.operation.Reason.{Reason}
-use Rattle.tinyjson_patch.specs.declared.patch.ApplyError.{ApplyError}
-use Rattle.tinyjson_patch.specs.declared.patch.ApplyError.TheVariants.{Failed, OutOfMemory}
-use Rattle.tinyjson_edit.specs.Patched.{GivesDocument, GivesFirst, WritesFirst, WritesOrLeaves, WritesPatched}
+use Rattle.tinyjson_edit.specs.Patched.{GivesDocument, GivesFirst, RunsFirst, WritesFirst, WritesOrLeaves, WritesPatched}
+use Rattle.tinyjson_edit.specs.declared.error.EditError.{EditError}
+use Rattle.tinyjson_edit.specs.declared.error.EditError.TheVariants.{Failed, TooMuch, OutOfMemory}
 use Rattle.tinyjson_edit.specs.declared.apply.First.{First}
 use Rattle.tinyjson_edit.specs.declared.apply.First.TheVariants.{Written, Left}
 
@@ -52,9 +52,10 @@ pub first_given : (total : ℕ) (actions : List Action) (t u : Tree) (rest : Bor
     → RunsFirst total actions t (Ok rest) u → document_tree d ≡ u → GivesFirst total actions t (Ok (d, rest))
 first_given total actions t u rest d h e = (h.0, h.1 ∙ ap (last_applied total (map action_of rest.now)) (sym e))
 
-pub first_failed : (total : ℕ) (actions : List Action) (t u : Tree) (e : ApplyError) → RunsFirst total actions t (Err e) u
+pub first_failed : (total : ℕ) (actions : List Action) (t u : Tree) (e : EditError) → RunsFirst total actions t (Err e) u
     → GivesFirst total actions t (Err e)
 first_failed total actions t u (Failed n r) h = h
+first_failed total actions t u TooMuch h = tt
 first_failed total actions t u OutOfMemory h = tt
 
 -- ---- the whole patch, of which the rest is left for the document
@@ -74,17 +75,18 @@ next_behind total all rest t s e others h f =
     let less : length others.now ≤ length (map action_of rest) = f.0 in
     (omega (arith, less, as_many rest, h.0), sym f.1 ∙ h.1)
 
-pub stopped_behind : (total : ℕ) (all rest : List Operation) (t s : Tree) (e : ApplyError)
+pub stopped_behind : (total : ℕ) (all rest : List Operation) (t s : Tree) (e : EditError)
     → IsBehind total all t rest s → GivesFirst total (map action_of rest) s (Err e)
     → GivesDocument (all_applied 0 (map action_of all) t) (Err e)
 stopped_behind total all rest t s (Failed n r) h f = sym h.1 ∙ f
+stopped_behind total all rest t s TooMuch h f = tt
 stopped_behind total all rest t s OutOfMemory h f = tt
 
 -- ---- the same where the text is written in place of the last document
 
 -- a run, and what is done with what it made
 pub first_written : (total : ℕ) (actions : List Action) (t u : Tree) (rest : Bor (List Operation)) (held holds : Option (List ℕ))
-    (r : Result First ApplyError) → RunsFirst total actions t (Ok rest) u → WritesOrLeaves u rest.now held holds r
+    (r : Result First EditError) → RunsFirst total actions t (Ok rest) u → WritesOrLeaves u rest.now held holds r
     → WritesFirst total actions t held holds r
 first_written total actions t u rest held holds (Ok (Written w)) h k =
     (u, h.1 ∙ ap (λ os. last_applied total (map action_of os) u) k.0, k.1)
@@ -95,11 +97,13 @@ first_written total actions t u rest held holds (Ok (Left d others)) h k = (
   k.2,
 )
 first_written total actions t u rest held holds (Err (Failed n r)) h k = absurd k
+first_written total actions t u rest held holds (Err TooMuch) h k = absurd k
 first_written total actions t u rest held holds (Err OutOfMemory) h k = k
 
-pub nothing_written : (total : ℕ) (actions : List Action) (t u : Tree) (held : Option (List ℕ)) (e : ApplyError)
+pub nothing_written : (total : ℕ) (actions : List Action) (t u : Tree) (held : Option (List ℕ)) (e : EditError)
     → RunsFirst total actions t (Err e) u → WritesFirst total actions t held held (Err e)
 nothing_written total actions t u held (Failed n r) h = (h, Keeps-refl held)
+nothing_written total actions t u held TooMuch h = Keeps-refl held
 nothing_written total actions t u held OutOfMemory h = Keeps-refl held
 
 -- the whole patch, of which the rest is left for the document; nothing is written
@@ -122,8 +126,9 @@ module _ (total : ℕ) (all rest : List Operation) (t s : Tree) (held mid holds 
       → IsUnwritten total all t others.now (document_tree d) held holds
   next_unwritten d others h k = (next_behind total all rest t s d others h.0 (k.0, k.1), Keeps-trans held mid holds h.1 k.2)
 
-  pub stopped_unwritten : (e : ApplyError) → IsUnwritten total all t rest s held mid
+  pub stopped_unwritten : (e : EditError) → IsUnwritten total all t rest s held mid
       → WritesFirst total (map action_of rest) s mid holds (Err e)
       → WritesPatched (all_applied 0 (map action_of all) t) held holds (Err e)
   stopped_unwritten (Failed n r) h k = (sym h.0.1 ∙ k.0, Keeps-trans held mid holds h.1 k.1)
+  stopped_unwritten TooMuch h k = Keeps-trans held mid holds h.1 k
   stopped_unwritten OutOfMemory h k = Keeps-trans held mid holds h.1 k

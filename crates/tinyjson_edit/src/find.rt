@@ -33,7 +33,7 @@ pub(crate) fn find<'e, 'd>(whole: &'e Edited<'d>, pointer: &Pointer) -> Option<P
 }
 
 /// The value as a part.
-fn part_of<'e, 'd>(value: &'e Edited<'d>) -> Part<'e, 'd>
+pub(crate) fn part_of<'e, 'd>(value: &'e Edited<'d>) -> Part<'e, 'd>
     ensures { part_tree result ≡ tree value.now }
 {
     match value {

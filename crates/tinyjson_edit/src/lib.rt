@@ -3,15 +3,17 @@
 //!
 //! ```
 //! let document = Document::read(alloc, r#"{"a":[7],"b":{"c":8}}"#)?;
-//! let patched = patch_document(alloc, &patch, document.root())?; // by a removal of /a/0: {"a":[],"b":{"c":8}}
-//! write_patched(alloc, &patch, document.root(), &mut output)??; // writes its text
+//! let patched = patch_document(alloc, &patch, document.root(), 1_000)?; // by a removal of /a/0: {"a":[],"b":{"c":8}}
+//! write_patched(alloc, &patch, document.root(), 1_000, &mut output)??; // writes its text
 //! ```
 #![tactic(auto)]
 
 mod apply;
 mod change;
 mod copy;
+mod count;
 mod edited;
+mod error;
 mod expand;
 mod find;
 mod opened;
@@ -20,3 +22,4 @@ mod text;
 mod write;
 
 pub use apply::{patch_document, write_patched};
+pub use error::EditError;

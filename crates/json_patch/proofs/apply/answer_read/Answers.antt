@@ -14,7 +14,7 @@ pub returns-in-Ok : goal.returns-in-Ok
 returns-in-Ok g c = λ text told.
     let document = c.in-Ok.document in
     let h = (subst (TellsText HasTree None text) c.in-Ok.is told).answer in
-    of_text c.args.asked.is_indented (actions_of c.args.asked.patch.now) (document_tree document) _ _ text
+    of_text c.args.most c.args.asked.is_indented (actions_of c.args.asked.patch.now) (document_tree document) _ _ text
     c.answer_document.result (subst (IsText None text) (sym h.3) h.2) c.answer_document.ensures
 
 pub returns-else-is_out_of_memory : goal.returns-else-is_out_of_memory
