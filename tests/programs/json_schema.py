@@ -950,6 +950,9 @@ ERROR = re.compile(rb'"error":"(?:[^"\\]|\\.)*"')
 NOT_APPLIED = 'the schema: at "%s"'
 REASON = re.compile(rb'(json_schema: the schema: at "(?:[^"\n]|"(?!: ))*"): [^\n]*\n')
 
+ANY = "must be accepted by a schema of the list"
+ONE = "must be accepted by exactly one schema of the list"
+
 # The schema, a value that is not valid, the places in it and of the keyword, and the words.
 WORDS = [
     # The names of types, each with its article; an integer is a number.
@@ -994,8 +997,27 @@ WORDS = [
     ('{"pattern":"^a"}', '"ba"', "", "/pattern", 'must match the pattern "^a", is "ba"'),
     ('{"uniqueItems":true}', "[1,1.0]", "", "/uniqueItems", "must have no two equal items"),
     # What combines schemas.
-    ('{"anyOf":[{"type":"null"},false]}', "1", "", "/anyOf", "must be accepted by a schema of the list"),
-    ('{"oneOf":[true,true]}', "1", "", "/oneOf", "must be accepted by exactly one schema of the list"),
+    ('{"anyOf":[{"type":"null"},false]}', "1", "", "/anyOf", ANY),
+    ('{"oneOf":[true,true]}', "1", "", "/oneOf", ONE),
+    # Of the schemas of a list the one in which the value comes furthest, or else the first: by its kind, by the kind that a member shows, by its other assertions, by its members.
+    ('{"anyOf":[{"type":"string"},{"type":"null"}]}', "1", "", "/anyOf", ANY + "; nearest: must be a string, is a number"),
+    ('{"anyOf":[{"type":"array"},{"properties":{"a":{"const":1}}},{"const":{}}]}', '{"a":2}', "", "/anyOf", ANY + '; nearest: "/a" must be 1, is 2'),
+    ('{"anyOf":[{"properties":{"a":{"enum":[1]}},"required":["b"]},{"properties":{"a":{"enum":[2]}},"required":["c"]}]}', '{"a":2}', "", "/anyOf", ANY + '; nearest: "c" is required'),
+    ('{"oneOf":[%s]}' % ",".join('{"properties":{"k":{"const":"%s"},"a":{"type":"%s"}},"required":["k"]}' % of for of in (("x", "null"), ("y", "string"), ("z", "string"))),
+     '{"k":"y","a":1}', "", "/oneOf", ONE + '; nearest: "/a" must be a string, is a number'),
+    ('{"anyOf":[{"required":["b"]},{"properties":{"a":{"maximum":1}}},{"properties":{"a":{"maximum":0}}}]}', '{"a":2}', "", "/anyOf", ANY + '; nearest: "/a" must be at most 1, is 2'),
+    # By `$ref`, and down to the eighth member.
+    ('{"items":{"anyOf":[{"$ref":"#/$defs/b"},{"type":"null"}]},"$defs":{"b":{"properties":{"a/":{"$ref":"#/$defs/c"}}},"c":{"minLength":2}}}', '[{"a/":"x"}]', "/0", "/items/anyOf",
+     ANY + '; nearest: "/a~1" must have at least 2 characters, has 1'),
+    *(('{"anyOf":[%s{"type":"null"}%s]}' % ('{"properties":{"a":' * depth, "}}" * depth), '{"a":' * depth + "1" + "}" * depth, "", "/anyOf", words)
+      for depth, words in ((7, ANY + '; nearest: "%s" must be null, is a number' % ("/a" * 7)), (8, ANY))),
+    # Up to 60 characters of its place, as one line.
+    ('{"anyOf":[{"properties":{"a\\n%s":{"const":1}}}]}' % ("b" * 60), '{"a\\n%s":2}' % ("b" * 60), "", "/anyOf", ANY + '; nearest: "/a\\n%s... must be 1, is 2' % ("b" * 55)),
+    # None where that takes more steps than the check has left.
+    *((json.dumps({"anyOf": [{"$ref": "#/$defs/a"}] * count, "$defs": {"a": {"allOf": [False], "properties": {"z": {"const": 1}}}}}, separators=(",", ":")), "{%s}" % ",".join([*(f'"k{i:03}":0' for i in range(999)), '"z":2']), "", "/anyOf", words)
+      for count, words in ((10, ANY + '; nearest: "/z" must be 1, is 2'), (6_000, ANY))),
+    # None where it is not seen to lack something of each, or where the keyword chooses nothing.
+    ('{"anyOf":[{"type":"null"},{"not":{}}]}', "1", "", "/anyOf", ANY), ('{"oneOf":[{"type":"null"},{"minimum":0},{}]}', "1", "", "/oneOf", ONE),
     ('{"not":{}}', "1", "", "/not", "must not be accepted by the schema"),
     ('{"propertyNames":{"maxLength":1}}', '{"ab":1}', "", "/propertyNames", "must have names that the schema accepts"),
     ('{"contains":{"maximum":1}}', "[2]", "", "/contains", "must have an item that the schema accepts"),
@@ -1768,6 +1790,7 @@ REFUSED_META_SCHEMAS = [
 
 # By `--meta`: the files, the arguments, and the answer. Places in the schema have `/$ref` before them.
 META_TEXT = b'{"$schema":"%s#",\n "properties": {"a": {"type": "any"}}}' % DRAFT_07.encode()
+META_WORDS = (ANY + '; nearest: must be one of "array", "boolean", "integer", "null", "number", "object", "...').encode()
 META_ANY = unit_of("/properties/a/type", "/$ref/properties/properties/additionalProperties/$ref/properties/type/anyOf", line=2, column=31)
 OWN_META = '{"$dynamicAnchor":"meta","$ref":"%s","required":["title"]}' % DRAFT_2020_12
 
@@ -1804,7 +1827,7 @@ META = [
 META_FILES = [
     # Each of some files, also by a draft of its own, in their order.
     ({"a": META_TEXT, "b": '{"exclusiveMaximum":true}', "c": "{}"}, ["a", "b", "c"], "", (1, META_ANY + unit_of("/exclusiveMaximum", "/$ref/allOf/3/$ref/properties/exclusiveMaximum/type", line=1, column=21), b"")),
-    ({"a": META_TEXT}, ["-t", "a", "-"], META_TEXT, (1, b"".join(b"%s2%s31: /properties/a/type must be accepted by a schema of the list\n" % at for at in ((b"a:", b":"), (b"line ", b", col "))), b"")),
+    ({"a": META_TEXT}, ["-t", "a", "-"], META_TEXT, (1, b"".join(b"%s2%s31: /properties/a/type %s\n" % (*at, META_WORDS) for at in ((b"a:", b":"), (b"line ", b", col "))), b"")),
     ({}, [], META_TEXT, (1, META_ANY, b"")),
     ({"a": "{", "b": '{"$schema":"b"}', "c": "5"}, ["a", "b", "c"], "", (3, unit_of("", "/$ref/type", line=1, column=1), b'a:1:1: Unexpected EOF\nb: "b" is an unknown $schema\n')),
     ({"a": "{}"}, ["none", "a"], "", (4, b"", b"none: No such file or directory (os error 2)\n")),

@@ -7,7 +7,7 @@ ghost use Rattle.tinyjson_pointer.specs.Tokens.{tokens_of};
 ghost use Rattle.tinyjson_schema.specs.Reading.{tree_of, root_in};
 ghost use Rattle.tinyjson_schema_report.specs.Every.{FindsEvery};
 ghost use Rattle.tinyjson_schema_report.specs.Finds.{HasWords};
-ghost use Rattle.tinyjson_schema_words.specs.Words.{words};
+ghost use Rattle.tinyjson_schema_words.specs.Nearest.{IsWords};
 
 use crate::found::Finding;
 use std::alloc::{AllocError, Global};
@@ -67,8 +67,9 @@ fn words_of(
     violation: &Violation,
     alloc: Global,
 ) -> Result<String, AllocError>
-    ensures { IfOk result (λ s. string_bytes s ≡ words (tree_of schema.now) (value_tree value.now)
-        (tokens_of violation.now.keyword_location) (tokens_of violation.now.instance_location)) }
+    ensures { IfOk result (λ s. IsWords (tree_of schema.now) (value_tree value.now)
+        (tokens_of violation.now.keyword_location) (tokens_of violation.now.instance_location)
+        (string_bytes s)) }
 {
     let places = Places {
         keyword: &violation.keyword_location,

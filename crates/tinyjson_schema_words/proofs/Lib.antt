@@ -2,6 +2,7 @@ mod Cutting
 mod Faulting
 mod Joining
 mod Leading
+mod Nearing
 mod Needing
 mod Refusing
 mod Telling

@@ -4,5 +4,6 @@ pub mod Ends
 pub mod Faults
 pub mod Kinds
 pub mod Missing
+pub mod Nearest
 pub mod Refused
 pub mod Words

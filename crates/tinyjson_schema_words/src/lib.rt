@@ -12,6 +12,7 @@ mod fault;
 mod keyword;
 mod kind;
 mod missing;
+mod nearest;
 mod refused;
 mod violated;
 

@@ -1,13 +1,14 @@
 //! What a value lacks that violates a schema, in words.
-ghost use Rattle.std.specs.Prelude.{◌≡◌, IfOk};
+ghost use Rattle.std.specs.Prelude.{IfOk};
 ghost use Rattle.std.specs.String.{string_bytes};
 ghost use Rattle.tinyjson.specs.View.{view};
 ghost use Rattle.tinyjson_view.specs.Views.{tree_of};
 ghost use Rattle.tinyjson_pointer.specs.Tokens.{tokens_of};
-ghost use Rattle.tinyjson_schema_words.specs.Words.{words};
+ghost use Rattle.tinyjson_schema_words.specs.Nearest.{IsWords};
 
 use crate::ending::ending;
 use crate::keyword::keyword_words;
+use crate::nearest::with_nearest;
 use std::alloc::AllocError;
 use tinyjson_pointer::Pointer;
 use tinyjson_schema_keywords::Walk;
@@ -22,7 +23,8 @@ pub struct Places<'p> {
     pub instance: &'p Pointer,
 }
 
-/// What the part of the value lacks that violates the keyword, as `must be at most 10, is 12`.
+/// What the part of the value lacks that violates the keyword, as `must be at most 10, is 12`. Of `anyOf` and `oneOf`
+/// also what it lacks of the nearest schema, if that is seen and the walk's budget has enough steps.
 ///
 /// ```
 /// let words = words(places, &value.as_view(), walk)?;
@@ -32,9 +34,9 @@ pub fn words(
     value: &ValueView<'_>,
     walk: Walk<'_, '_>,
 ) -> Result<String, AllocError>
-    ensures { IfOk result (λ s. string_bytes s ≡ words (view walk.entry.whole.now.root.now)
-        (tree_of value.now) (tokens_of places.entry.keyword.now)
-        (tokens_of places.entry.instance.now)) }
+    ensures { IfOk result (λ s. IsWords (view walk.entry.whole.now.root.now) (tree_of value.now)
+        (tokens_of places.entry.keyword.now) (tokens_of places.entry.instance.now)
+        (string_bytes s)) }
 {
     let Some(end) = ending(places.keyword.tokens(), walk)? else {
         return String::from_str(walk.alloc, UNMET);
@@ -43,7 +45,10 @@ pub fn words(
         return String::from_str(walk.alloc, UNMET);
     };
     match end.keyword {
-        Some(keyword) => keyword_words(keyword, end.value, &part, walk.alloc),
+        Some(keyword) => {
+            let words = keyword_words(keyword, end.value, &part, walk.alloc)?;
+            with_nearest(words, keyword, end.value, &part, walk)
+        }
         None => String::from_str(walk.alloc, "is not allowed"),
     }
 }
