@@ -12,7 +12,7 @@ use Rattle.tinyjson.specs.declared.value.JsonValue.{JsonValue}
 use Rattle.tinyjson.specs.declared.value.JsonValue.TheVariants as is
 use Rattle.tinyjson_schema_keywords.specs.References.{target}
 use Rattle.tinyjson_schema.specs.Leads.{is_at, is_led, are_led, led}
-use Rattle.tinyjson_schema.specs.declared.leads.Lead.{Lead}
+use Rattle.tinyjson_schema.specs.declared.lead.Lead.{Lead}
 
 at_some : (o : Option Tree) (t : Tree) → Some t ≡ o → is_at o t ≡ true
 at_some None t h = cc

@@ -4,7 +4,6 @@ pub mod Forms
 pub mod Leading
 pub mod Leaves
 pub mod Loops
-pub mod Marks
 pub mod Operands
 pub mod Parts
 pub mod Places

@@ -1,7 +1,7 @@
 -- Values that are valid, and places that are not.
 use Rattle.std.proofs.Common.{◌≡◌, ◌∷◌, [], ℕ, zero, suc, ◌+◌, Bool, true, false, true≢false}
 use Rattle.std.proofs.Common.{not, ◌&&◌, ◌||◌, List, Option, Some, None}
-use Rattle.std.proofs.Common.{IsSome, is_some, cond, bytes_eq, Result, Ok, Err, refl, sym, ap, ◌∙◌, subst, arith}
+use Rattle.std.proofs.Common.{IsSome, IsSomeAnd, is_some, cond, bytes_eq, Result, Ok, Err, refl, sym, ap, ◌∙◌, subst, arith}
 use Rattle.std.proofs.lemmas.Bool.{and_parts}
 use Rattle.std.proofs.lemmas.Slice.Eq.{bytes_eq-Decides}
 use Rattle.std.specs.Option.{option_map_or}
@@ -388,6 +388,13 @@ at_tokens root n s t v ks js at h = subst (λ x. IsInvalidAt root n s t (tokens_
 pub reported : (root : Root) (n : ℕ) (s t : Tree) (v : Violation) (ks js : List (List ℕ)) → IsAt ks js v → IsInvalidAt root n s t ks js
     → Decides root n s t (Ok (Some v))
 reported root n s t v ks js at h = at_tokens root n s t v ks js at h
+
+-- a violation that is there, with its reasons
+pub reported_there : (root : Root) (n : ℕ) (s t : Tree) (x : Result (Option Violation) CheckError) (ks js : List (List ℕ))
+    → IfOk x (λ o. IsSomeAnd o (IsAt ks js)) → IsInvalidAt root n s t ks js → Decides root n s t x
+reported_there root n s t (Ok None) ks js at h = elim at [ ]
+reported_there root n s t (Ok (Some v)) ks js at h = reported root n s t v ks js at h
+reported_there root n s t (Err e) ks js at h = tt
 
 -- the same at its tokens
 pub placed : (w : Walk) (q : Judge → Bool) (s t : Tree) (v : Violation) (ks js : List (List ℕ)) → IsAt ks js v

@@ -5,7 +5,7 @@ use Rattle.tinyjson.specs.Equality.{tree_eq}
 use Rattle.tinyjson.specs.Tree.{Tree, string}
 use Rattle.tinyjson.specs.View.{view, text}
 use Rattle.tinyjson_schema_keywords.specs.References.{target}
-use Rattle.tinyjson_schema.specs.declared.leads.Lead.{Lead}
+use Rattle.tinyjson_schema.specs.declared.lead.Lead.{Lead}
 
 -- there is a tree, and it is this one
 abbrev pub is_at : Option Tree → Tree → Bool

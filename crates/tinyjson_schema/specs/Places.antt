@@ -18,13 +18,13 @@ place a k = name a ∷ cond (is_by_part a) (k ∷ []) []
 -- The schema for the member at the key, and its place; or there is none.
 abbrev pub IsMemberPart : Tree → List ℕ → Option Part → Type 0
 IsMemberPart s k None = member_schema s k ≡ None
-IsMemberPart s k (Some p) = (member_schema s k ≡ Some (view p.schema.now)) × (part_at s (place p.applicator k) ≡ Some (view p.schema.now))
+IsMemberPart s k (Some p) = (member_schema s k ≡ Some (view p.to.schema.now)) × (part_at s (place p.applicator k) ≡ Some (view p.to.schema.now))
 
 -- The schema for the item at the index, and its place; any token may name the item.
 abbrev pub IsItemPart : Tree → ℕ → Option Part → Type 0
 IsItemPart s i None = item_schema s i ≡ None
-IsItemPart s i (Some p) = (item_schema s i ≡ Some (view p.schema.now))
-    × ((k : List ℕ) → index_of k ≡ Some i → part_at s (place p.applicator k) ≡ Some (view p.schema.now))
+IsItemPart s i (Some p) = (item_schema s i ≡ Some (view p.to.schema.now))
+    × ((k : List ℕ) → index_of k ≡ Some i → part_at s (place p.applicator k) ≡ Some (view p.to.schema.now))
 
 -- The place in the schema and the place in the value have these tokens.
 abbrev pub IsAt : List (List ℕ) → List (List ℕ) → Violation → Type 0

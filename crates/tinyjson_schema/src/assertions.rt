@@ -3,7 +3,7 @@ ghost use Rattle.std.specs.Prelude.{◌≡◌, IfOk};
 ghost use Rattle.std.specs.Option.{option_map_or};
 ghost use Rattle.tinyjson.specs.View.{view};
 ghost use Rattle.tinyjson_view.specs.Views.{tree_of};
-ghost use Rattle.tinyjson_schema_assertions.specs.Assertions.{meets, IsUnmetAmong, assertions};
+ghost use Rattle.tinyjson_schema_assertions.specs.Assertions.{meets, IsUnmet, IsUnmetAmong};
 
 use crate::applied::Applied;
 use crate::walk::Walk;
@@ -12,74 +12,62 @@ use tinyjson::JsonValue;
 use tinyjson_document::{JsonView, NumberView};
 use tinyjson_schema_assertions::accepts;
 use tinyjson_schema_keywords::Keyword;
+use tinyjson_schema_table::{assertions, unmet_given};
 use tinyjson_view::ValueView;
-
-/// The assertions, in the order in which they are checked. `format` is one only if the caller asks for it.
-const ASSERTIONS: [Keyword; 19] = [
-    Keyword::Format,
-    Keyword::Type,
-    Keyword::Enum,
-    Keyword::Const,
-    Keyword::MultipleOf,
-    Keyword::Maximum,
-    Keyword::ExclusiveMaximum,
-    Keyword::Minimum,
-    Keyword::ExclusiveMinimum,
-    Keyword::MaxLength,
-    Keyword::MinLength,
-    Keyword::Pattern,
-    Keyword::MaxItems,
-    Keyword::MinItems,
-    Keyword::UniqueItems,
-    Keyword::MaxProperties,
-    Keyword::MinProperties,
-    Keyword::Required,
-    Keyword::DependentRequired,
-];
-
-/// The assertions, `format` among them if it is asked for.
-pub fn assertions(formats: bool) -> &'static [Keyword]
-    ensures { result.now ≡ assertions formats }
-{
-    if formats {
-        &ASSERTIONS
-    } else {
-        &ASSERTIONS[1..]
-    }
-}
 
 /// One of the keywords that the schema has and the value violates, if there is one. A number in a document is read once
 /// for all keywords. Not inlined, since its frame takes 9 KB, and the recursion over schemas calls it at each level.
 #[inline(never)]
 pub fn unmet(
-    keywords: &[Keyword],
-    here: Applied<'_>,
+    here: &Applied<'_>,
     value: &ValueView<'_>,
     walk: Walk<'_, '_>,
 ) -> Result<Option<Keyword>, AllocError>
-    ensures { IfOk result
-        (λ found. IsUnmetAmong keywords.now (view here.entry.schema.now) (tree_of value.now) found) }
+    ensures { IfOk result (λ found. IsUnmet walk.entry.ground.now.formats
+        (view here.now.schema.now) (tree_of value.now) found) }
 {
     let Some(number) = value.number() else {
-        return first_unmet(keywords, here, value, walk);
+        return unmet_of(here, value, walk);
     };
     match number {
         NumberView::Made(made) => {
             let read = JsonValue::Number(made);
-            first_unmet(keywords, here, &ValueView::InValue(&read), walk)
+            unmet_of(here, &ValueView::InValue(&read), walk)
         }
-        NumberView::Kept(_) => first_unmet(keywords, here, value, walk),
+        NumberView::Kept(_) => unmet_of(here, value, walk),
+    }
+}
+
+/// `unmet` for a value that is no number, or one that is read already. The assertions of a schema in a table are listed
+/// there.
+fn unmet_of(
+    here: &Applied<'_>,
+    value: &ValueView<'_>,
+    walk: Walk<'_, '_>,
+) -> Result<Option<Keyword>, AllocError>
+    ensures { IfOk result (λ found. IsUnmet walk.entry.ground.now.formats
+        (view here.now.schema.now) (tree_of value.now) found) }
+{
+    if walk.ground.formats {
+        return first_unmet(assertions(true), here, value, walk);
+    }
+    match here.known {
+        Some(known) => {
+            let found = unmet_given(known.shape.given.as_slice(), value, walk.following())?;
+            Ok(found)
+        }
+        None => first_unmet(assertions(false), here, value, walk),
     }
 }
 
 fn first_unmet(
     keywords: &[Keyword],
-    here: Applied<'_>,
+    here: &Applied<'_>,
     value: &ValueView<'_>,
     walk: Walk<'_, '_>,
 ) -> Result<Option<Keyword>, AllocError>
     ensures { IfOk result
-        (λ found. IsUnmetAmong keywords.now (view here.entry.schema.now) (tree_of value.now) found) }
+        (λ found. IsUnmetAmong keywords.now (view here.now.schema.now) (tree_of value.now) found) }
 {
     for keyword in keywords {
         let is_met = meets(*keyword, here, value, walk)?;
@@ -92,11 +80,11 @@ fn first_unmet(
 
 pub fn meets(
     keyword: Keyword,
-    here: Applied<'_>,
+    here: &Applied<'_>,
     value: &ValueView<'_>,
     walk: Walk<'_, '_>,
 ) -> Result<bool, AllocError>
-    ensures { IfOk result (λ is. is ≡ meets keyword (view here.entry.schema.now) (tree_of value.now)) }
+    ensures { IfOk result (λ is. is ≡ meets keyword (view here.now.schema.now) (tree_of value.now)) }
 {
     match here.schema_at(keyword) {
         Some(operand) => accepts(keyword, operand, value, walk.following()),

@@ -14,8 +14,8 @@ use tinyjson_schema_assertions::{is_count_at_least, is_count_at_most};
 use tinyjson_schema_keywords::Keyword;
 
 /// Whether the count is at least 1, unless `minContains` is 0; true for `None`.
-pub fn contains_some(count: Option<usize>, here: Applied<'_>) -> bool
-    ensures { result ≡ contains_some count (view here.entry.schema.now) }
+pub fn contains_some(count: Option<usize>, here: &Applied<'_>) -> bool
+    ensures { result ≡ contains_some count (view here.now.schema.now) }
 {
     if needs_none(here) {
         return true;
@@ -26,9 +26,9 @@ pub fn contains_some(count: Option<usize>, here: Applied<'_>) -> bool
     }
 }
 
-fn needs_none(here: Applied<'_>) -> bool
+fn needs_none(here: &Applied<'_>) -> bool
     ensures { result
-        ≡ option_map_or is_zero (schema_at (view here.entry.schema.now) kw.MinContains) false }
+        ≡ option_map_or is_zero (schema_at (view here.now.schema.now) kw.MinContains) false }
 {
     match here.schema_at(Keyword::MinContains) {
         Some(least) => is_zero(least),
@@ -48,10 +48,10 @@ fn is_zero(value: &JsonValue) -> bool
 /// Whether the count is at most `maxContains`; true for `None`.
 pub fn contains_at_most(
     count: Option<usize>,
-    here: Applied<'_>,
+    here: &Applied<'_>,
     alloc: Global,
 ) -> Result<bool, AllocError>
-    ensures { IfOk result (λ is. is ≡ contains_at_most count (view here.entry.schema.now)) }
+    ensures { IfOk result (λ is. is ≡ contains_at_most count (view here.now.schema.now)) }
 {
     match here.schema_at(Keyword::MaxContains) {
         Some(limit) => is_count_at_most(count, limit, alloc),
@@ -62,10 +62,10 @@ pub fn contains_at_most(
 /// Whether the count is at least `minContains`; true for `None`.
 pub fn contains_at_least(
     count: Option<usize>,
-    here: Applied<'_>,
+    here: &Applied<'_>,
     alloc: Global,
 ) -> Result<bool, AllocError>
-    ensures { IfOk result (λ is. is ≡ contains_at_least count (view here.entry.schema.now)) }
+    ensures { IfOk result (λ is. is ≡ contains_at_least count (view here.now.schema.now)) }
 {
     match here.schema_at(Keyword::MinContains) {
         Some(limit) => is_count_at_least(count, limit, alloc),

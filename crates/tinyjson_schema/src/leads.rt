@@ -3,19 +3,14 @@ ghost use Rattle.std.specs.Prelude.{◌≡◌, option_map, IfOk, OnOk, true};
 ghost use Rattle.tinyjson.specs.View.{view};
 ghost use Rattle.tinyjson_schema.specs.Leads.{are_led, led};
 
+use crate::lead::Lead;
 use std::alloc::{AllocError, Global};
 use tinyjson::JsonValue;
 use tinyjson_schema_keywords::{Keyword, SchemaMember, Walk, Whole, schema_members, target};
+use tinyjson_schema_table::Table;
 
 /// How many references are kept. They are compared one by one.
 const KEPT: usize = 16;
-
-/// A reference by `$ref`, and the schema to which it leads.
-#[derive(Clone, Copy)]
-pub struct Lead<'s> {
-    pub reference: &'s String,
-    pub schema: &'s JsonValue,
-}
 
 /// The first references of the whole schema, up to 16 of them. The only error is out of memory.
 pub fn leads_of<'s>(whole: &Whole<'s>, alloc: Global) -> Result<Vec<Lead<'s>>, AllocError>
@@ -55,17 +50,23 @@ fn add_lead<'s>(
     let Some(schema) = target(member.value, walk)? else {
         return Ok(());
     };
-    leads.push(Lead { reference, schema })?;
+    let table = Table::of(schema, walk.alloc)?;
+    let lead = Lead {
+        reference,
+        schema,
+        table,
+    };
+    leads.push(lead)?;
     Ok(())
 }
 
-/// The schema of the first of the references with this text.
-pub fn led<'s>(leads: &[Lead<'s>], reference: &str) -> Option<&'s JsonValue>
-    ensures { option_map (λ x. view x.now) result ≡ led leads.now reference.now }
+/// The first of the references with this text.
+pub fn led<'d, 's>(leads: &'d [Lead<'s>], reference: &str) -> Option<&'d Lead<'s>>
+    ensures { option_map (λ x. view x.now.schema.now) result ≡ led leads.now reference.now }
 {
     for lead in leads {
         if lead.reference.as_str() == reference {
-            return Some(lead.schema);
+            return Some(lead);
         }
     }
     None

@@ -9,6 +9,7 @@ mod applied;
 mod assertions;
 mod circles;
 mod contains;
+mod lead;
 mod leads;
 mod multiple;
 mod operand;

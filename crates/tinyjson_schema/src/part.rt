@@ -13,77 +13,92 @@ use crate::applied::Applied;
 use crate::walk::Walk;
 use tinyjson::JsonValue;
 use tinyjson_schema_keywords::{CheckError, Keyword, operand};
+use tinyjson_schema_table::{known_item, known_property};
 
 /// The schema for a part of the value, and the keyword that applies it.
 #[derive(Clone, Copy)]
 pub struct Part<'s> {
     pub applicator: Keyword,
-    pub schema: &'s JsonValue,
+    pub to: Applied<'s>,
 }
 
 /// The schema for the member at the key: that of `properties`, or else `additionalProperties`, unless a pattern of
 /// `patternProperties` matches the key. It takes a step.
 pub fn member_part<'s>(
-    here: Applied<'s>,
+    here: &Applied<'s>,
     key: &str,
     walk: Walk<'_, '_>,
 ) -> Result<Option<Part<'s>>, CheckError>
-    ensures { IfOk result (λ part. IsMemberPart (view here.entry.schema.now) (chars key.now) part) }
+    ensures { IfOk result (λ part. IsMemberPart (view here.now.schema.now) (chars key.now) part) }
 {
-    member_part_of(here, here.schema_at(Keyword::Properties), key, walk)
+    member_part_of(here, here.schema_at(Keyword::Properties), key, 0, walk)
 }
 
-/// `member_part`, where the schema's `properties` is looked up already.
+/// `member_part`, where the schema's `properties` is looked up already, and a property with this key is likely to be
+/// the one at the place `near`.
 pub fn member_part_of<'s>(
-    here: Applied<'s>,
+    here: &Applied<'s>,
     properties: Option<&'s JsonValue>,
     key: &str,
+    near: usize,
     walk: Walk<'_, '_>,
 ) -> Result<Option<Part<'s>>, CheckError>
     ensures { IfOk result (λ part.
         option_map (λ x. view x.now) properties.entry
-        ≡ schema_at (view here.entry.schema.now) kw.Properties
-        → IsMemberPart (view here.entry.schema.now) (chars key.now) part) }
+        ≡ schema_at (view here.now.schema.now) kw.Properties
+        → IsMemberPart (view here.now.schema.now) (chars key.now) part) }
 {
     walk.ground.whole.budget.spend(1)?;
+    if let Some(known) = known_property(here.known, key, near) {
+        return Ok(Some(Part {
+            applicator: Keyword::Properties,
+            to: Applied::known(known),
+        }));
+    }
     if let Some(part) = property_of(properties, key) {
         return Ok(Some(Part {
             applicator: Keyword::Properties,
-            schema: part,
+            to: Applied::of(part),
         }));
     }
     match additional(here, key, walk)? {
         Some(part) => Ok(Some(Part {
             applicator: Keyword::AdditionalProperties,
-            schema: part,
+            to: Applied::of(part),
         })),
         None => Ok(None),
     }
 }
 
 /// The schema for the item at the index: that of `prefixItems`, or else `items`.
-pub fn item_part(here: Applied<'_>, index: usize) -> Option<Part<'_>>
-    ensures { IsItemPart (view here.entry.schema.now) index result }
+pub fn item_part<'s>(here: &Applied<'s>, index: usize) -> Option<Part<'s>>
+    ensures { IsItemPart (view here.now.schema.now) index result }
 {
     if let Some(part) = prefix_item(here, index) {
         return Some(Part {
             applicator: Keyword::PrefixItems,
-            schema: part,
+            to: Applied::of(part),
+        });
+    }
+    if let Some(known) = known_item(here.known) {
+        return Some(Part {
+            applicator: Keyword::Items,
+            to: Applied::known(known),
         });
     }
     match here.schema_at(Keyword::Items) {
         Some(part) => Some(Part {
             applicator: Keyword::Items,
-            schema: part,
+            to: Applied::of(part),
         }),
         None => None,
     }
 }
 
 /// The schema that `properties` has at a key.
-pub fn property<'s>(here: Applied<'s>, key: &str) -> Option<&'s JsonValue>
+pub fn property<'s>(here: &Applied<'s>, key: &str) -> Option<&'s JsonValue>
     ensures { option_map (λ x. view x.now) result
-        ≡ property (view here.entry.schema.now) (chars key.now) }
+        ≡ property (view here.now.schema.now) (chars key.now) }
 {
     property_of(here.schema_at(Keyword::Properties), key)
 }
@@ -102,13 +117,13 @@ fn property_of<'s>(properties: Option<&'s JsonValue>, key: &str) -> Option<&'s J
 
 /// The schema of `additionalProperties` for a key that no pattern matches.
 pub fn additional<'s>(
-    here: Applied<'s>,
+    here: &Applied<'s>,
     key: &str,
     walk: Walk<'_, '_>,
 ) -> Result<Option<&'s JsonValue>, CheckError>
     ensures { IfOk result (λ part.
         option_map (λ x. view x.now) part
-        ≡ additional (view here.entry.schema.now) (chars key.now)) }
+        ≡ additional (view here.now.schema.now) (chars key.now)) }
 {
     let Some(part) = here.schema_at(Keyword::AdditionalProperties) else {
         return Ok(None);
@@ -123,8 +138,8 @@ pub fn additional<'s>(
 /// Whether a pattern of `patternProperties` matches the key. Not inlined, since the recursion over schemas calls it
 /// at each level.
 #[inline(never)]
-pub fn is_patterned(here: Applied<'_>, key: &str, walk: Walk<'_, '_>) -> Result<bool, CheckError>
-    ensures { IfOk result (λ is. is ≡ is_patterned (view here.entry.schema.now) (chars key.now)) }
+pub fn is_patterned(here: &Applied<'_>, key: &str, walk: Walk<'_, '_>) -> Result<bool, CheckError>
+    ensures { IfOk result (λ is. is ≡ is_patterned (view here.now.schema.now) (chars key.now)) }
 {
     let patterns = here.schema_map_at(Keyword::PatternProperties, walk.alloc)?;
     some_found(patterns.as_slice(), key, walk)
@@ -148,8 +163,8 @@ fn some_found(
 }
 
 /// The schema that `prefixItems` has at an index.
-pub fn prefix_item(here: Applied<'_>, index: usize) -> Option<&JsonValue>
-    ensures { option_map (λ x. view x.now) result ≡ prefix_item (view here.entry.schema.now) index }
+pub fn prefix_item<'s>(here: &Applied<'s>, index: usize) -> Option<&'s JsonValue>
+    ensures { option_map (λ x. view x.now) result ≡ prefix_item (view here.now.schema.now) index }
 {
     match here.schema_at(Keyword::PrefixItems)? {
         JsonValue::Array(schemas) => schemas.get(index),

@@ -1,11 +1,13 @@
 //! Schemas, which are checked before values are.
 ghost use Rattle.std.specs.Prelude.{◌≡◌, true, IfOk};
+ghost use Rattle.tinyjson.specs.Equality.{tree_eq};
 ghost use Rattle.tinyjson.specs.View.{view};
 ghost use Rattle.tinyjson_schema.specs.Leads.{are_led};
 ghost use Rattle.tinyjson_schema.specs.Schemas.{is_schema};
 ghost use Rattle.tinyjson_schema.specs.declared.schema.SchemaError.{SchemaError};
 
-use crate::leads::{Lead, leads_of};
+use crate::lead::Lead;
+use crate::leads::leads_of;
 use crate::refused::{Reason, refused_place};
 use crate::validate::{find_violation, find_violations};
 use crate::violation::Violation;
@@ -16,6 +18,7 @@ use tinyjson_pointer::Pointer;
 use tinyjson_schema_keywords::{
     Budget, CheckError, Document, KeptPatterns, Whole, anchors_of, repeated,
 };
+use tinyjson_schema_table::Table;
 use tinyjson_view::AsView;
 
 /// A schema that can be applied. Each keyword in it is applied or is an annotation, and its value has the
@@ -24,8 +27,10 @@ use tinyjson_view::AsView;
 pub struct Schema<'s> {
     whole: Whole<'s>,
     leads: Vec<Lead<'s>>,
+    table: Table<'s>,
     ghost checked: { is_schema (view whole.root.now) true (view whole.root.now) ≡ true },
     ghost led: { are_led (view whole.root.now) leads.items ≡ true },
+    ghost same: { tree_eq (view table.schema.now) (view whole.root.now) ≡ true },
 }
 
 /// How much a check may do.
@@ -100,7 +105,12 @@ impl<'s> Schema<'s> {
         match refused_place(document, alloc)? {
             None => {
                 let leads = leads_of(&whole, alloc)?;
-                Ok(Schema { whole, leads })
+                let table = Table::of(tree, alloc)?;
+                Ok(Schema {
+                    whole,
+                    leads,
+                    table,
+                })
             }
             Some(place) => match place.reason {
                 Reason::Misfit => Err(SchemaError::Refused(place.pointer)),
@@ -185,6 +195,7 @@ impl<'s> Schema<'s> {
         let ground = Ground {
             whole: &self.whole,
             leads: self.leads.as_slice(),
+            known: self.table.first(),
             formats: checks.formats,
         };
         let walk = Walk {
@@ -219,6 +230,7 @@ impl<'s> Schema<'s> {
         let ground = Ground {
             whole: &self.whole,
             leads: self.leads.as_slice(),
+            known: self.table.first(),
             formats,
         };
         let walk = Walk {

@@ -1,5 +1,5 @@
 //! What a value violates of a schema.
-ghost use Rattle.std.specs.Prelude.{◌≡◌, IfOk, is_some, true};
+ghost use Rattle.std.specs.Prelude.{◌≡◌, ◌∷◌, [], IfOk, IsSomeAnd, is_some, true};
 ghost use Rattle.tinyjson.specs.Index.{tree_at_key};
 ghost use Rattle.tinyjson.specs.Tree.{array, object};
 ghost use Rattle.tinyjson.specs.View.{view, items_view, members_listed};
@@ -7,10 +7,12 @@ ghost use Rattle.tinyjson_view.specs.Views.{tree_of, trees_of, members_of};
 ghost use Rattle.tinyjson.specs.Soundness.{IsSorted};
 ghost use Rattle.std.specs.Str.{chars};
 ghost use Rattle.tinyjson_schema_keywords.specs.Applied.{members_in, schemas_at};
+ghost use Rattle.tinyjson_schema_keywords.specs.Names.{name};
 ghost use Rattle.tinyjson_schema_keywords.specs.declared.keyword.Keyword.TheVariants as kw;
 ghost use Rattle.tinyjson_schema.specs.Applicators.{all_accept, applies, dependents_accept};
 ghost use Rattle.tinyjson_schema.specs.Applicators.{members_accepted, items_accepted};
 ghost use Rattle.tinyjson_schema.specs.Applicators.{parts_accepted};
+ghost use Rattle.tinyjson_schema.specs.Places.{IsAt};
 ghost use Rattle.tinyjson_schema.specs.Valid.{refuses_all, reference_accepts, ValidatesIn, AgreesIn};
 ghost use Rattle.tinyjson_schema.specs.Valid.{Judges, Follows, Finds, FindsFound, is_reference};
 ghost use Rattle.tinyjson_schema.specs.Valid.{target_accepts, root_of};
@@ -20,8 +22,8 @@ mod tested;
 mod unevaluated;
 mod uses;
 
-use crate::applied::{Applied, marks_of};
-use crate::assertions::{assertions, unmet};
+use crate::applied::Applied;
+use crate::assertions::unmet;
 use crate::part::{item_part, member_part_of};
 use crate::validate::tested::unmet_test;
 use crate::validate::unevaluated::in_rest;
@@ -31,6 +33,7 @@ pub use every::find_violations;
 use tinyjson::{JsonKind, JsonValue};
 use tinyjson_document::JsonView;
 use tinyjson_schema_keywords::{CheckError, Keyword, branch};
+use tinyjson_schema_table::marks_of;
 use tinyjson_view::{MemberView, ValueView};
 
 /// What the value violates of the whole schema, if it violates it; `None` means that the value is valid. Nested
@@ -49,7 +52,8 @@ pub fn find_violation(
     ensures judged { ValidatesIn walk.entry.steps (root_of walk.entry) (tree_of value.now) result }
     ensures only { IfOk result (λ found. AgreesIn (root_of walk.entry) (tree_of value.now) found) }
 {
-    violation_in(value, walk.ground.whole.root, walk)
+    let here = Applied::by(walk.ground.whole.root, walk.ground.known);
+    violation_of(value, &here, walk)
 }
 
 /// `find_violation` for a subschema of the whole schema.
@@ -61,22 +65,35 @@ fn violation_in(
 ) -> Result<Option<Violation>, CheckError>
     ensures { Judges walk.entry (view schema.now) (tree_of value.now) result }
 {
-    let inner = walk.entered()?;
-    if refuses_all(schema) {
-        return Ok(Some(Violation::of_schema(walk.alloc)));
-    }
     let here = Applied {
         schema,
         marks: marks_of(schema),
+        known: None,
     };
-    if let Some(keyword) = unmet(assertions(walk.ground.formats), here, value, walk)? {
-        return Ok(Some(Violation::of_keyword(walk.alloc, keyword)?));
+    violation_of(value, &here, walk)
+}
+
+/// `violation_in` for a schema whose marks are there already.
+#[cycle(validate)]
+fn violation_of(
+    value: &ValueView<'_>,
+    here: &Applied<'_>,
+    walk: Walk<'_, '_>,
+) -> Result<Option<Violation>, CheckError>
+    ensures { Judges walk.entry (view here.now.schema.now) (tree_of value.now) result }
+{
+    let inner = walk.entered()?;
+    if refuses_all(here.schema) {
+        return Ok(Some(Violation::of_schema(walk.alloc)));
+    }
+    if let Some(keyword) = unmet(here, value, walk)? {
+        return at_keyword(keyword, walk);
     }
     if !here.may_apply() {
         return Ok(None);
     }
     if let Some(keyword) = unmet_test(value, here, inner)? {
-        return Ok(Some(Violation::of_keyword(walk.alloc, keyword)?));
+        return at_keyword(keyword, walk);
     }
     if let Some(found) = in_all_of(value, here, inner)? {
         return Ok(Some(found));
@@ -97,6 +114,16 @@ fn violation_in(
         return Ok(Some(found));
     }
     in_rest(value, here, inner)
+}
+
+/// The value violates the schema's keyword. Not inlined, for the stack that nested schemas take.
+#[inline(never)]
+fn at_keyword(keyword: Keyword, walk: Walk<'_, '_>) -> Result<Option<Violation>, CheckError>
+    ensures { IfOk result (λ found. IsSomeAnd found (IsAt (name keyword ∷ []) [])) }
+{
+    let mut violation = Violation::of_schema(walk.alloc);
+    violation.enter_keyword(walk.alloc, keyword)?;
+    Ok(Some(violation))
 }
 
 /// Whether it is the schema `false`.
@@ -134,12 +161,12 @@ fn is_accepted(
 #[cycle(validate)]
 fn in_all_of(
     value: &ValueView<'_>,
-    here: Applied<'_>,
+    here: &Applied<'_>,
     walk: Walk<'_, '_>,
 ) -> Result<Option<Violation>, CheckError>
     ensures { Finds walk.entry
-        (λ f. applies f kw.AllOf (view here.entry.schema.now) (tree_of value.now))
-        (view here.entry.schema.now) (tree_of value.now) result }
+        (λ f. applies f kw.AllOf (view here.now.schema.now) (tree_of value.now))
+        (view here.now.schema.now) (tree_of value.now) result }
 {
     let parts = here.schemas_at(Keyword::AllOf);
     for (index, part) in parts.iter().enumerate() {
@@ -155,11 +182,11 @@ fn in_all_of(
 #[cycle(validate)]
 fn in_branch(
     value: &ValueView<'_>,
-    here: Applied<'_>,
+    here: &Applied<'_>,
     walk: Walk<'_, '_>,
 ) -> Result<Option<Violation>, CheckError>
-    ensures { Finds walk.entry (λ f. applies f kw.If (view here.entry.schema.now) (tree_of value.now))
-        (view here.entry.schema.now) (tree_of value.now) result }
+    ensures { Finds walk.entry (λ f. applies f kw.If (view here.now.schema.now) (tree_of value.now))
+        (view here.now.schema.now) (tree_of value.now) result }
 {
     let Some(test) = here.schema_at(Keyword::If) else {
         return Ok(None);
@@ -180,12 +207,12 @@ fn in_branch(
 #[cycle(validate)]
 fn in_dependents(
     value: &ValueView<'_>,
-    here: Applied<'_>,
+    here: &Applied<'_>,
     walk: Walk<'_, '_>,
 ) -> Result<Option<Violation>, CheckError>
     ensures { Finds walk.entry
-        (λ f. applies f kw.DependentSchemas (view here.entry.schema.now) (tree_of value.now))
-        (view here.entry.schema.now) (tree_of value.now) result }
+        (λ f. applies f kw.DependentSchemas (view here.now.schema.now) (tree_of value.now))
+        (view here.now.schema.now) (tree_of value.now) result }
 {
     let listed = here.schema_map_at(Keyword::DependentSchemas, walk.alloc)?;
     let dependents = listed.as_slice();
@@ -206,12 +233,12 @@ fn in_dependents(
 #[inline(never)]
 fn in_patterned(
     value: &ValueView<'_>,
-    here: Applied<'_>,
+    here: &Applied<'_>,
     walk: Walk<'_, '_>,
 ) -> Result<Option<Violation>, CheckError>
     ensures { Finds walk.entry
-        (λ f. applies f kw.PatternProperties (view here.entry.schema.now) (tree_of value.now))
-        (view here.entry.schema.now) (tree_of value.now) result }
+        (λ f. applies f kw.PatternProperties (view here.now.schema.now) (tree_of value.now))
+        (view here.now.schema.now) (tree_of value.now) result }
 {
     let listed = here.schema_map_at(Keyword::PatternProperties, walk.alloc)?;
     let patterns = listed.as_slice();
@@ -255,13 +282,13 @@ fn in_found(
 #[cycle(validate)]
 fn in_reference(
     value: &ValueView<'_>,
-    here: Applied<'_>,
+    here: &Applied<'_>,
     walk: Walk<'_, '_>,
 ) -> Result<Option<Violation>, CheckError>
     ensures { Finds walk.entry
-        (λ f. reference_accepts (view walk.entry.ground.now.whole.now.root.now) f (view here.entry.schema.now)
+        (λ f. reference_accepts (view walk.entry.ground.now.whole.now.root.now) f (view here.now.schema.now)
         (tree_of value.now))
-        (view here.entry.schema.now) (tree_of value.now) result }
+        (view here.now.schema.now) (tree_of value.now) result }
 {
     if let Some(found) = in_target(value, here, Keyword::Ref, walk)? {
         return Ok(Some(found));
@@ -274,19 +301,19 @@ fn in_reference(
 #[inline(never)]
 fn in_target(
     value: &ValueView<'_>,
-    here: Applied<'_>,
+    here: &Applied<'_>,
     keyword: Keyword,
     walk: Walk<'_, '_>,
 ) -> Result<Option<Violation>, CheckError>
     requires { is_reference keyword ≡ true }
     ensures { Finds walk.entry (λ f. target_accepts (view walk.entry.ground.now.whole.now.root.now) keyword f
-        (view here.entry.schema.now) (tree_of value.now))
-        (view here.entry.schema.now) (tree_of value.now) result }
+        (view here.now.schema.now) (tree_of value.now))
+        (view here.now.schema.now) (tree_of value.now) result }
 {
     let Some(part) = here.referenced(keyword, walk)? else {
         return Ok(None);
     };
-    let Some(mut found) = violation_in(value, part, walk)? else {
+    let Some(mut found) = violation_of(value, &part, walk)? else {
         return Ok(None);
     };
     found.enter_keyword(walk.alloc, keyword)?;
@@ -297,11 +324,11 @@ fn in_target(
 #[cycle(validate)]
 fn in_parts(
     value: &ValueView<'_>,
-    here: Applied<'_>,
+    here: &Applied<'_>,
     walk: Walk<'_, '_>,
 ) -> Result<Option<Violation>, CheckError>
-    ensures { Finds walk.entry (λ f. parts_accepted f (view here.entry.schema.now) (tree_of value.now))
-        (view here.entry.schema.now) (tree_of value.now) result }
+    ensures { Finds walk.entry (λ f. parts_accepted f (view here.now.schema.now) (tree_of value.now))
+        (view here.now.schema.now) (tree_of value.now) result }
 {
     match value.kind() {
         JsonKind::Object => {
@@ -319,18 +346,18 @@ fn in_parts(
 #[cycle(validate)]
 fn in_members(
     members: &[MemberView<'_>],
-    here: Applied<'_>,
+    here: &Applied<'_>,
     walk: Walk<'_, '_>,
 ) -> Result<Option<Violation>, CheckError>
     requires { IsSorted (members_of members.now) }
     ensures { Finds walk.entry
-        (λ f. members_accepted f (view here.entry.schema.now) (members_of members.now))
-        (view here.entry.schema.now) (object (members_of members.now)) result }
+        (λ f. members_accepted f (view here.now.schema.now) (members_of members.now))
+        (view here.now.schema.now) (object (members_of members.now)) result }
 {
     let properties = here.schema_at(Keyword::Properties);
-    for member in members {
-        if let Some(part) = member_part_of(here, properties, member.key, walk)? {
-            if let Some(mut found) = violation_in(&member.value, part.schema, walk)? {
+    for (near, member) in members.iter().enumerate() {
+        if let Some(part) = member_part_of(here, properties, member.key, near, walk)? {
+            if let Some(mut found) = violation_of(&member.value, &part.to, walk)? {
                 found.enter_member(walk.alloc, part.applicator, member.key)?;
                 return Ok(Some(found));
             }
@@ -342,16 +369,16 @@ fn in_members(
 #[cycle(validate)]
 fn in_items(
     items: &[ValueView<'_>],
-    here: Applied<'_>,
+    here: &Applied<'_>,
     walk: Walk<'_, '_>,
 ) -> Result<Option<Violation>, CheckError>
     ensures { Finds walk.entry
-        (λ f. items_accepted f (view here.entry.schema.now) 0 (trees_of items.now))
-        (view here.entry.schema.now) (array (trees_of items.now)) result }
+        (λ f. items_accepted f (view here.now.schema.now) 0 (trees_of items.now))
+        (view here.now.schema.now) (array (trees_of items.now)) result }
 {
     for (index, item) in items.iter().enumerate() {
         if let Some(part) = item_part(here, index) {
-            if let Some(mut found) = violation_in(item, part.schema, walk)? {
+            if let Some(mut found) = violation_of(item, &part.to, walk)? {
                 found.enter_item(walk.alloc, part.applicator, index)?;
                 return Ok(Some(found));
             }

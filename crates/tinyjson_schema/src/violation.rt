@@ -1,5 +1,5 @@
 //! What a value violates of a schema, and where.
-ghost use Rattle.std.specs.Prelude.{◌≡◌, ◌∷◌, [], IfOk, OnOk};
+ghost use Rattle.std.specs.Prelude.{◌≡◌, [], OnOk};
 ghost use Rattle.std.specs.Str.{chars};
 ghost use Rattle.tinyjson_pointer.specs.Tokens.{tokens_of};
 ghost use Rattle.tinyjson_schema_keywords.specs.Names.{name};
@@ -20,6 +20,7 @@ pub struct Violation {
     pub instance_location: Pointer,
 }
 
+// What changes a violation is not inlined, for the stack that nested schemas take.
 impl Violation {
     /// The value violates the schema `false`.
     pub fn of_schema(alloc: Global) -> Violation
@@ -31,16 +32,8 @@ impl Violation {
         }
     }
 
-    /// The value violates the schema's keyword.
-    pub fn of_keyword(alloc: Global, keyword: Keyword) -> Result<Violation, AllocError>
-        ensures { IfOk result (λ v. IsAt (name keyword ∷ []) [] v) }
-    {
-        let mut violation = Violation::of_schema(alloc);
-        violation.put_under(alloc, keyword.name())?;
-        Ok(violation)
-    }
-
     /// Turns a violation of a schema into one of the schema around it, which has it at the keyword.
+    #[inline(never)]
     pub fn enter_keyword(&mut self, alloc: Global, keyword: Keyword) -> Result<(), AllocError>
         ensures { OnOk result (IsUnder (name keyword) self.old self.new) }
     {
@@ -49,6 +42,7 @@ impl Violation {
     }
 
     /// Turns a violation of a schema into one of the schema around it, which has it in the keyword's list.
+    #[inline(never)]
     pub fn enter_listed(
         &mut self,
         alloc: Global,
@@ -64,6 +58,7 @@ impl Violation {
 
     /// Turns a violation of a schema into one of the schema around it, which has it in the keyword's object at a
     /// key.
+    #[inline(never)]
     pub fn enter_keyed(
         &mut self,
         alloc: Global,
@@ -88,6 +83,7 @@ impl Violation {
 
     /// Turns a violation by a member into one by the object. The object's schema applies the member's by the
     /// applicator.
+    #[inline(never)]
     pub fn enter_member(
         &mut self,
         alloc: Global,
@@ -109,6 +105,7 @@ impl Violation {
     }
 
     /// Turns a violation by a member into one by the object, of the same schema.
+    #[inline(never)]
     pub fn enter_value(&mut self, alloc: Global, key: &str) -> Result<(), AllocError>
         ensures { OnOk result (IsWithin (chars key.now) self.old self.new) }
     {
@@ -118,6 +115,7 @@ impl Violation {
     }
 
     /// Turns a violation by an item into one by the array. The array's schema applies the item's by the applicator.
+    #[inline(never)]
     pub fn enter_item(
         &mut self,
         alloc: Global,

@@ -4,20 +4,24 @@ ghost use Rattle.std.specs.Prelude.{◌≡◌, IfOk, true};
 ghost use Rattle.std.specs.Str.{chars};
 ghost use Rattle.tinyjson.specs.View.{view};
 ghost use Rattle.tinyjson_schema.specs.Leads.{are_led};
+ghost use Rattle.tinyjson_schema_table.specs.Places.{is_of};
 
-use crate::leads::Lead;
+use crate::lead::Lead;
 use std::alloc::Global;
 use tinyjson_schema_keywords as keywords;
 use tinyjson_schema_keywords::{CheckError, Whole};
+use tinyjson_schema_table::Known;
 
 /// What is the same at each schema of a check: the whole schema, in which references lead, those that are followed
-/// already, and whether `format` is an assertion.
+/// already, and whether `format` is an assertion. The whole schema may be in a table.
 #[derive(Clone, Copy)]
 pub struct Ground<'d, 's> {
     pub whole: &'d Whole<'s>,
-    pub leads: &'d [Lead<'s>],
+    pub leads: &'s [Lead<'s>],
+    pub known: Option<Known<'s>>,
     pub formats: bool,
     pub ghost led: { are_led (view whole.now.root.now) leads.now ≡ true },
+    pub ghost same: { is_of known (view whole.now.root.now) ≡ true },
 }
 
 /// The ground of a check; how many more nested schemas may be applied; and the allocator. It is as small as may be, for

@@ -11,8 +11,8 @@ ghost use Rattle.tinyjson_schema.specs.Steps.{AddsFirst, AddsEvery, placed, step
 ghost use Rattle.tinyjson_schema.specs.Steps.{use_of};
 ghost use Rattle.tinyjson_schema.specs.Valid.{root_of, says};
 
-use crate::applied::{Applied, marks_of};
-use crate::assertions::{assertions, meets};
+use crate::applied::Applied;
+use crate::assertions::meets;
 use crate::contains::{contains_at_least, contains_at_most, contains_some};
 use crate::validate::refuses_all;
 use crate::validate::tested::{are_names_met, contained, is_any_met, is_not_met, is_one_met};
@@ -22,6 +22,7 @@ use crate::walk::Walk;
 use std::alloc::{AllocError, Global};
 use tinyjson::JsonValue;
 use tinyjson_schema_keywords::{CheckError, Keyword};
+use tinyjson_schema_table::{assertions, marks_of};
 use tinyjson_view::ValueView;
 
 /// The first violations of the whole schema by the value, up to the limit, in order. It applies more schemas and takes
@@ -70,18 +71,19 @@ fn add_violations<'v, 's>(
     let here = Applied {
         schema,
         marks: marks_of(schema),
+        known: None,
     };
     let mut keywords = Vec::new(walk.alloc);
     add_unmet(
         assertions(walk.ground.formats),
-        here,
+        &here,
         value,
         walk,
         &mut keywords,
     )?;
-    add_tests(value, here, inner, &mut keywords)?;
+    add_tests(value, &here, inner, &mut keywords)?;
     add_places(path, keywords.as_slice(), walk.alloc, limit, found)?;
-    let uses = uses_in(value, here, inner)?;
+    let uses = uses_in(value, &here, inner)?;
     add_further(uses.as_slice(), inner, path, limit, found)?;
     Ok(())
 }
@@ -163,7 +165,8 @@ fn violation_at(keyword: Option<Keyword>, alloc: Global) -> Result<Violation, Al
 {
     match keyword {
         Some(keyword) => {
-            let violation = Violation::of_keyword(alloc, keyword)?;
+            let mut violation = Violation::of_schema(alloc);
+            violation.enter_keyword(alloc, keyword)?;
             Ok(violation)
         }
         None => Ok(Violation::of_schema(alloc)),
@@ -221,13 +224,13 @@ fn enter(step: Step<'_, '_>, alloc: Global, violation: &mut Violation) -> Result
 #[inline(never)]
 fn add_unmet(
     keywords: &[Keyword],
-    here: Applied<'_>,
+    here: &Applied<'_>,
     value: &ValueView<'_>,
     walk: Walk<'_, '_>,
     unmet: &mut Vec<Keyword>,
 ) -> Result<(), AllocError>
     ensures { OnOk result (unmet.new.items ≡ unmet.old.items
-        ++ failing (λ k. meets k (view here.entry.schema.now) (tree_of value.now)) keywords.now) }
+        ++ failing (λ k. meets k (view here.now.schema.now) (tree_of value.now)) keywords.now) }
 {
     for &keyword in keywords {
         let is_met = meets(keyword, here, value, walk)?;
@@ -240,12 +243,12 @@ fn add_unmet(
 #[inline(never)]
 fn add_tests(
     value: &ValueView<'_>,
-    here: Applied<'_>,
+    here: &Applied<'_>,
     walk: Walk<'_, '_>,
     unmet: &mut Vec<Keyword>,
 ) -> Result<(), CheckError>
     ensures { OnOk result ((g : Answers) → unmet.new.items ≡ unmet.old.items
-        ++ failing (λ k. applies (says walk.entry g) k (view here.entry.schema.now) (tree_of value.now))
+        ++ failing (λ k. applies (says walk.entry g) k (view here.now.schema.now) (tree_of value.now))
         tests) }
 {
     let any = is_any_met(value, here.schemas_at(Keyword::AnyOf), walk)?;

@@ -26,11 +26,11 @@ use tinyjson_view::{MemberView, ValueView};
 #[inline(never)]
 pub fn unmet_test(
     value: &ValueView<'_>,
-    here: Applied<'_>,
+    here: &Applied<'_>,
     walk: Walk<'_, '_>,
 ) -> Result<Option<Keyword>, CheckError>
     ensures { IfOk result
-        (λ found. IsUnapplied walk.entry tests (view here.entry.schema.now) (tree_of value.now)
+        (λ found. IsUnapplied walk.entry tests (view here.now.schema.now) (tree_of value.now)
         found) }
 {
     if !here.may_test() {
@@ -60,11 +60,11 @@ pub fn unmet_test(
 #[inline(never)]
 fn unmet_count(
     value: &ValueView<'_>,
-    here: Applied<'_>,
+    here: &Applied<'_>,
     walk: Walk<'_, '_>,
 ) -> Result<Option<Keyword>, CheckError>
     ensures { IfOk result
-        (λ found. IsUnapplied walk.entry counts (view here.entry.schema.now) (tree_of value.now)
+        (λ found. IsUnapplied walk.entry counts (view here.now.schema.now) (tree_of value.now)
         found) }
 {
     let count = contained(value, here, walk)?;
@@ -167,12 +167,12 @@ fn count_accepting(
 #[inline(never)]
 pub fn is_not_met(
     value: &ValueView<'_>,
-    here: Applied<'_>,
+    here: &Applied<'_>,
     walk: Walk<'_, '_>,
 ) -> Result<bool, CheckError>
     ensures { IfOk result
         (λ is. Follows walk.entry is
-        (λ f. applies f kw.Not (view here.entry.schema.now) (tree_of value.now))) }
+        (λ f. applies f kw.Not (view here.now.schema.now) (tree_of value.now))) }
 {
     match here.schema_at(Keyword::Not) {
         Some(part) => {
@@ -188,12 +188,12 @@ pub fn is_not_met(
 #[inline(never)]
 pub fn are_names_met(
     value: &ValueView<'_>,
-    here: Applied<'_>,
+    here: &Applied<'_>,
     walk: Walk<'_, '_>,
 ) -> Result<bool, CheckError>
     ensures { IfOk result
         (λ is. Follows walk.entry is
-        (λ f. applies f kw.PropertyNames (view here.entry.schema.now) (tree_of value.now))) }
+        (λ f. applies f kw.PropertyNames (view here.now.schema.now) (tree_of value.now))) }
 {
     match here.schema_at(Keyword::PropertyNames) {
         Some(part) => {
@@ -239,12 +239,12 @@ fn name_of(key: &str, alloc: Global) -> Result<JsonValue, AllocError>
 #[inline(never)]
 pub fn contained(
     value: &ValueView<'_>,
-    here: Applied<'_>,
+    here: &Applied<'_>,
     walk: Walk<'_, '_>,
 ) -> Result<Option<usize>, CheckError>
     ensures { IfOk result
         (λ count. Follows walk.entry count
-        (λ f. contained f (view here.entry.schema.now) (tree_of value.now))) }
+        (λ f. contained f (view here.now.schema.now) (tree_of value.now))) }
 {
     let Some(part) = here.schema_at(Keyword::Contains) else {
         return Ok(None);

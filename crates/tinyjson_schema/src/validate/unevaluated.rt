@@ -21,7 +21,7 @@ ghost use Rattle.tinyjson_schema.specs.Sources.{source_evaluates, sources_evalua
 ghost use Rattle.tinyjson_schema.specs.Sources.{Adds, StaysWithin, FindsLeft};
 ghost use Rattle.tinyjson_schema.specs.Valid.{Follows, FindsRest, answers_in};
 
-use crate::applied::{Applied, marks_of};
+use crate::applied::Applied;
 use crate::part::{is_patterned, item_part, member_part};
 use crate::validate::{has_key, is_accepted, violation_in};
 use crate::violation::Violation;
@@ -30,6 +30,7 @@ use std::alloc::AllocError;
 use tinyjson::{JsonKind, JsonValue};
 use tinyjson_document::JsonView;
 use tinyjson_schema_keywords::{CheckError, Keyword, branch};
+use tinyjson_schema_table::marks_of;
 use tinyjson_view::{MemberView, ValueView};
 
 /// A schema whose keywords evaluate members and items, and the walk in it.
@@ -46,17 +47,17 @@ pub struct Source<'d, 's> {
 #[inline(never)]
 pub fn in_rest(
     value: &ValueView<'_>,
-    here: Applied<'_>,
+    here: &Applied<'_>,
     walk: Walk<'_, '_>,
 ) -> Result<Option<Violation>, CheckError>
-    ensures { FindsRest walk.entry (view here.entry.schema.now) (tree_of value.now) result }
+    ensures { FindsRest walk.entry (view here.now.schema.now) (tree_of value.now) result }
 {
     match value.kind() {
         JsonKind::Object => {
             let Some(rest) = here.schema_at(Keyword::UnevaluatedProperties) else {
                 return Ok(None);
             };
-            let sources = sources_of(value, here, walk)?;
+            let sources = sources_of(value, &*here, walk)?;
             let members = value.members(walk.alloc)?;
             in_members_left(members.as_slice(), rest, sources.as_slice(), walk)
         }
@@ -64,7 +65,7 @@ pub fn in_rest(
             let Some(rest) = here.schema_at(Keyword::UnevaluatedItems) else {
                 return Ok(None);
             };
-            let sources = sources_of(value, here, walk)?;
+            let sources = sources_of(value, &*here, walk)?;
             let items = value.items(walk.alloc)?;
             in_items_left(items.as_slice(), rest, sources.as_slice(), walk)
         }
@@ -145,11 +146,11 @@ fn evaluates_member(source: &Source<'_, '_>, key: &str) -> Result<bool, CheckErr
     if has_rest {
         return Ok(true);
     }
-    let part = member_part(source.applied, key, source.walk)?;
+    let part = member_part(&source.applied, key, source.walk)?;
     if part.is_some() {
         return Ok(true);
     }
-    is_patterned(source.applied, key, source.walk)
+    is_patterned(&source.applied, key, source.walk)
 }
 
 /// Whether the source has the keyword for the unevaluated parts, and is not the schema that asks.
@@ -199,7 +200,7 @@ fn evaluates_item(
     if has_rest {
         return Ok(true);
     }
-    let applied = item_part(source.applied, index);
+    let applied = item_part(&source.applied, index);
     if applied.is_some() {
         return Ok(true);
     }
@@ -215,18 +216,18 @@ fn evaluates_item(
 #[inline(never)]
 pub fn sources_of<'d, 's>(
     value: &ValueView<'_>,
-    here: Applied<'s>,
+    here: &Applied<'s>,
     walk: Walk<'d, 's>,
 ) -> Result<Vec<Source<'d, 's>>, CheckError>
     ensures evaluated { IfOk result (λ sources. (g : Answers) (c : Child) →
         sources_evaluate g sources.items c
         ≡ others_evaluate (view walk.entry.ground.now.whole.now.root.now) (answers_in walk.entry g)
-        (view here.entry.schema.now) (tree_of value.now) c) }
+        (view here.now.schema.now) (tree_of value.now) c) }
     ensures within { IfOk result (λ sources. AreWithin walk.entry.steps sources.items) }
 {
     let mut sources = Vec::new(walk.alloc);
     sources.push(Source {
-        applied: here,
+        applied: *here,
         walk,
         asks: true,
     })?;
@@ -252,13 +253,14 @@ fn add_schema<'d, 's>(
     let here = Applied {
         schema,
         marks: marks_of(schema),
+        known: None,
     };
     sources.push(Source {
         applied: here,
         walk: inner,
         asks: false,
     })?;
-    add_inner(value, here, inner, sources)?;
+    add_inner(value, &here, inner, sources)?;
     Ok(())
 }
 
@@ -267,12 +269,12 @@ fn add_schema<'d, 's>(
 #[inline(never)]
 fn add_inner<'d, 's>(
     value: &ValueView<'_>,
-    here: Applied<'s>,
+    here: &Applied<'s>,
     walk: Walk<'d, 's>,
     sources: &mut Vec<Source<'d, 's>>,
 ) -> Result<(), CheckError>
     ensures evaluated { OnOk result (Adds walk.entry
-        (λ a c. inner_evaluate (view walk.entry.ground.now.whole.now.root.now) a (view here.entry.schema.now)
+        (λ a c. inner_evaluate (view walk.entry.ground.now.whole.now.root.now) a (view here.now.schema.now)
         (tree_of value.now) c)
         sources.old.items sources.new.items) }
     ensures within { OnOk result (StaysWithin walk.entry sources.old.items sources.new.items) }
@@ -360,12 +362,12 @@ fn add_if_accepting<'d, 's>(
 #[inline(never)]
 fn add_branch<'d, 's>(
     value: &ValueView<'_>,
-    here: Applied<'s>,
+    here: &Applied<'s>,
     walk: Walk<'d, 's>,
     sources: &mut Vec<Source<'d, 's>>,
 ) -> Result<(), CheckError>
     ensures evaluated { OnOk result (Adds walk.entry
-        (λ a c. branch_evaluates a (view here.entry.schema.now) (tree_of value.now) c)
+        (λ a c. branch_evaluates a (view here.now.schema.now) (tree_of value.now) c)
         sources.old.items sources.new.items) }
     ensures within { OnOk result (StaysWithin walk.entry sources.old.items sources.new.items) }
 {
@@ -386,13 +388,13 @@ fn add_branch<'d, 's>(
 #[inline(never)]
 fn add_dependents<'d, 's>(
     value: &ValueView<'_>,
-    here: Applied<'s>,
+    here: &Applied<'s>,
     walk: Walk<'d, 's>,
     sources: &mut Vec<Source<'d, 's>>,
 ) -> Result<(), CheckError>
     ensures evaluated { OnOk result (Adds walk.entry
         (λ a c. dependents_evaluate a
-        (schema_map_at (view here.entry.schema.now) kw.DependentSchemas)
+        (schema_map_at (view here.now.schema.now) kw.DependentSchemas)
         (tree_of value.now) c)
         sources.old.items sources.new.items) }
     ensures within { OnOk result (StaysWithin walk.entry sources.old.items sources.new.items) }
@@ -433,13 +435,13 @@ fn add_dependent<'d, 's>(
 #[inline(never)]
 fn add_reference<'d, 's>(
     value: &ValueView<'_>,
-    here: Applied<'s>,
+    here: &Applied<'s>,
     walk: Walk<'d, 's>,
     sources: &mut Vec<Source<'d, 's>>,
 ) -> Result<(), CheckError>
     ensures evaluated { OnOk result (Adds walk.entry
         (λ a c. reference_evaluates (view walk.entry.ground.now.whole.now.root.now) a
-        (view here.entry.schema.now) (tree_of value.now) c)
+        (view here.now.schema.now) (tree_of value.now) c)
         sources.old.items sources.new.items) }
     ensures within { OnOk result (StaysWithin walk.entry sources.old.items sources.new.items) }
 {
@@ -453,20 +455,20 @@ fn add_reference<'d, 's>(
 #[inline(never)]
 fn add_target<'d, 's>(
     value: &ValueView<'_>,
-    here: Applied<'s>,
+    here: &Applied<'s>,
     keyword: Keyword,
     walk: Walk<'d, 's>,
     sources: &mut Vec<Source<'d, 's>>,
 ) -> Result<(), CheckError>
     ensures evaluated { OnOk result (Adds walk.entry
         (λ a c. target_evaluates (view walk.entry.ground.now.whole.now.root.now) keyword a
-        (view here.entry.schema.now) (tree_of value.now) c)
+        (view here.now.schema.now) (tree_of value.now) c)
         sources.old.items sources.new.items) }
     ensures within { OnOk result (StaysWithin walk.entry sources.old.items sources.new.items) }
 {
     let Some(part) = here.referenced(keyword, walk)? else {
         return Ok(());
     };
-    add_schema(value, part, walk, sources)?;
+    add_schema(value, part.schema, walk, sources)?;
     Ok(())
 }

@@ -55,12 +55,12 @@ pub struct Pending<'v, 's> {
 #[inline(never)]
 pub fn uses_in<'v, 's>(
     value: &ValueView<'v>,
-    here: Applied<'s>,
+    here: &Applied<'s>,
     walk: Walk<'_, 's>,
 ) -> Result<Vec<Pending<'v, 's>>, CheckError>
     ensures { IfOk result (λ pending. (g : Answers) → map use_of pending.items
         ≡ uses (view walk.entry.ground.now.whole.now.root.now) (answers_in walk.entry g)
-        (view here.entry.schema.now) (tree_of value.now)) }
+        (view here.now.schema.now) (tree_of value.now)) }
 {
     let mut pending = Vec::new(walk.alloc);
     add_all_of(value, here, &mut pending)?;
@@ -100,11 +100,11 @@ fn add_if<'v, 's>(
 #[inline(never)]
 fn add_all_of<'v, 's>(
     value: &ValueView<'v>,
-    here: Applied<'s>,
+    here: &Applied<'s>,
     pending: &mut Vec<Pending<'v, 's>>,
 ) -> Result<(), AllocError>
     ensures { OnOk result (AddsUses
-        (all_uses 0 (schemas_at (view here.entry.schema.now) kw.AllOf) (tree_of value.now))
+        (all_uses 0 (schemas_at (view here.now.schema.now) kw.AllOf) (tree_of value.now))
         pending.old.items pending.new.items) }
 {
     let parts = here.schemas_at(Keyword::AllOf);
@@ -123,12 +123,12 @@ fn add_all_of<'v, 's>(
 #[inline(never)]
 fn add_branch<'v, 's>(
     value: &ValueView<'v>,
-    here: Applied<'s>,
+    here: &Applied<'s>,
     walk: Walk<'_, 's>,
     pending: &mut Vec<Pending<'v, 's>>,
 ) -> Result<(), CheckError>
     ensures { OnOk result ((g : Answers) → AddsUses
-        (branch_uses (says walk.entry g) (view here.entry.schema.now) (tree_of value.now))
+        (branch_uses (says walk.entry g) (view here.now.schema.now) (tree_of value.now))
         pending.old.items pending.new.items) }
 {
     let Some(test) = here.schema_at(Keyword::If) else {
@@ -152,12 +152,12 @@ fn add_branch<'v, 's>(
 #[inline(never)]
 fn add_dependents<'v, 's>(
     value: &ValueView<'v>,
-    here: Applied<'s>,
+    here: &Applied<'s>,
     walk: Walk<'_, 's>,
     pending: &mut Vec<Pending<'v, 's>>,
 ) -> Result<(), CheckError>
     ensures { OnOk result (AddsUses
-        (dependent_uses (schema_map_at (view here.entry.schema.now) kw.DependentSchemas)
+        (dependent_uses (schema_map_at (view here.now.schema.now) kw.DependentSchemas)
         (tree_of value.now)) pending.old.items pending.new.items) }
 {
     let listed = here.schema_map_at(Keyword::DependentSchemas, walk.alloc)?;
@@ -180,12 +180,12 @@ fn add_dependents<'v, 's>(
 #[inline(never)]
 fn add_patterned<'v, 's>(
     members: &[MemberView<'v>],
-    here: Applied<'s>,
+    here: &Applied<'s>,
     walk: Walk<'_, 's>,
     pending: &mut Vec<Pending<'v, 's>>,
 ) -> Result<(), CheckError>
     ensures { OnOk result (AddsUses
-        (pattern_uses (schema_map_at (view here.entry.schema.now) kw.PatternProperties)
+        (pattern_uses (schema_map_at (view here.now.schema.now) kw.PatternProperties)
         (members_of members.now)) pending.old.items pending.new.items) }
 {
     let listed = here.schema_map_at(Keyword::PatternProperties, walk.alloc)?;
@@ -227,21 +227,21 @@ fn add_found<'v, 's>(
 #[inline(never)]
 fn add_target<'v, 's>(
     value: &ValueView<'v>,
-    here: Applied<'s>,
+    here: &Applied<'s>,
     keyword: Keyword,
     walk: Walk<'_, 's>,
     pending: &mut Vec<Pending<'v, 's>>,
 ) -> Result<(), AllocError>
     ensures { OnOk result (AddsUses
         (target_uses (view walk.entry.ground.now.whole.now.root.now) keyword
-        (view here.entry.schema.now) (tree_of value.now)) pending.old.items pending.new.items) }
+        (view here.now.schema.now) (tree_of value.now)) pending.old.items pending.new.items) }
 {
     let Some(part) = here.referenced(keyword, walk)? else {
         return Ok(());
     };
     let one = Pending {
         step: Step::Schema(keyword),
-        schema: part,
+        schema: part.schema,
         value: *value,
     };
     add_if(true, one, pending)?;
@@ -252,12 +252,12 @@ fn add_target<'v, 's>(
 #[inline(never)]
 fn add_members<'v, 's>(
     members: &[MemberView<'v>],
-    here: Applied<'s>,
+    here: &Applied<'s>,
     walk: Walk<'_, 's>,
     pending: &mut Vec<Pending<'v, 's>>,
 ) -> Result<(), CheckError>
     ensures { OnOk result (AddsUses
-        (member_uses (view here.entry.schema.now) (members_of members.now))
+        (member_uses (view here.now.schema.now) (members_of members.now))
         pending.old.items pending.new.items) }
 {
     for member in members {
@@ -269,12 +269,12 @@ fn add_members<'v, 's>(
 
 fn add_member<'v, 's>(
     member: MemberView<'v>,
-    here: Applied<'s>,
+    here: &Applied<'s>,
     walk: Walk<'_, 's>,
     pending: &mut Vec<Pending<'v, 's>>,
 ) -> Result<(), CheckError>
     ensures { OnOk result (AddsUses
-        (uses_of_member (view here.entry.schema.now) (chars member.entry.key.now)
+        (uses_of_member (view here.now.schema.now) (chars member.entry.key.now)
         (tree_of member.entry.value))
         pending.old.items pending.new.items) }
 {
@@ -303,11 +303,11 @@ fn add_member<'v, 's>(
 #[inline(never)]
 fn add_items<'v, 's>(
     items: &[ValueView<'v>],
-    here: Applied<'s>,
+    here: &Applied<'s>,
     pending: &mut Vec<Pending<'v, 's>>,
 ) -> Result<(), AllocError>
     ensures { OnOk result (AddsUses
-        (item_uses (view here.entry.schema.now) 0 (trees_of items.now))
+        (item_uses (view here.now.schema.now) 0 (trees_of items.now))
         pending.old.items pending.new.items) }
 {
     for (index, item) in items.iter().enumerate() {
@@ -319,11 +319,11 @@ fn add_items<'v, 's>(
 fn add_item<'v, 's>(
     index: usize,
     item: &ValueView<'v>,
-    here: Applied<'s>,
+    here: &Applied<'s>,
     pending: &mut Vec<Pending<'v, 's>>,
 ) -> Result<(), AllocError>
     ensures { OnOk result (AddsUses
-        (uses_of_item (view here.entry.schema.now) index (tree_of item.now))
+        (uses_of_item (view here.now.schema.now) index (tree_of item.now))
         pending.old.items pending.new.items) }
 {
     if let Some(part) = prefix_item(here, index) {
@@ -352,15 +352,15 @@ fn add_item<'v, 's>(
 fn add_rest_members<'v, 's>(
     value: &ValueView<'v>,
     members: &[MemberView<'v>],
-    here: Applied<'s>,
+    here: &Applied<'s>,
     walk: Walk<'_, 's>,
     pending: &mut Vec<Pending<'v, 's>>,
 ) -> Result<(), CheckError>
     requires { members_of members.now ≡ members_in (tree_of value.now) }
     ensures { OnOk result ((g : Answers) → AddsUses
         (rest_members (others_evaluate (view walk.entry.ground.now.whole.now.root.now)
-        (answers_in walk.entry g) (view here.entry.schema.now) (tree_of value.now))
-        (view here.entry.schema.now) (tree_of value.now)) pending.old.items pending.new.items) }
+        (answers_in walk.entry g) (view here.now.schema.now) (tree_of value.now))
+        (view here.now.schema.now) (tree_of value.now)) pending.old.items pending.new.items) }
 {
     let Some(rest) = here.schema_at(Keyword::UnevaluatedProperties) else {
         return Ok(());
@@ -398,15 +398,15 @@ fn add_left_members<'v, 's>(
 fn add_rest_items<'v, 's>(
     value: &ValueView<'v>,
     items: &[ValueView<'v>],
-    here: Applied<'s>,
+    here: &Applied<'s>,
     walk: Walk<'_, 's>,
     pending: &mut Vec<Pending<'v, 's>>,
 ) -> Result<(), CheckError>
     requires { trees_of items.now ≡ items_in (tree_of value.now) }
     ensures { OnOk result ((g : Answers) → AddsUses
         (rest_items (others_evaluate (view walk.entry.ground.now.whole.now.root.now)
-        (answers_in walk.entry g) (view here.entry.schema.now) (tree_of value.now))
-        (view here.entry.schema.now) (tree_of value.now)) pending.old.items pending.new.items) }
+        (answers_in walk.entry g) (view here.now.schema.now) (tree_of value.now))
+        (view here.now.schema.now) (tree_of value.now)) pending.old.items pending.new.items) }
 {
     let Some(rest) = here.schema_at(Keyword::UnevaluatedItems) else {
         return Ok(());

@@ -5,7 +5,7 @@ use Rattle.tinyjson.specs.View.{view}
 use Rattle.tinyjson_document.specs.Numbers.{decimal_of}
 use Rattle.tinyjson_view.proofs.Callers.{number_is}
 use Rattle.tinyjson_view.specs.Views.{tree_of}
-use Rattle.tinyjson_schema_assertions.specs.Assertions.{IsUnmetAmong}
+use Rattle.tinyjson_schema_assertions.specs.Assertions.{IsUnmet}
 use Rattle.tinyjson_schema.proofs.assertions.unmet.Goals as goal
 
 pub returns-in-Made : goal.returns-in-Made
@@ -13,4 +13,5 @@ returns-in-Made c =
     let same = view_Number c.in-Made.made
     ∙ number_is (tree_of c.args.value.now) c.in-Made.made.decimal (ap (λ n. Some (decimal_of n)) (sym c.in-Made.is)
     ∙ (ap (option_map decimal_of) (sym c.in-Some.is) ∙ c.number.ensures)) in
-    subst (λ t. IfOk c.first_unmet-in-Made.result (IsUnmetAmong c.args.keywords.now (view c.args.here.schema.now) t)) same c.first_unmet-in-Made.ensures
+    subst (λ t. IfOk c.unmet_of-in-Made.result
+    (IsUnmet c.args.walk.ground.now.formats (view c.args.here.now.schema.now) t)) same c.unmet_of-in-Made.ensures

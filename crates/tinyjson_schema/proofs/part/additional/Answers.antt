@@ -6,12 +6,12 @@ use Rattle.tinyjson_schema.proofs.part.additional.Goals as goal
 
 pub returns-in_default : goal.returns-in_default
 returns-in_default c =
-    let s = view c.args.here.schema.now in
+    let s = view c.args.here.now.schema.now in
     no_additional s (chars c.args.key.now) c.in_default.ensures
 
 pub returns : goal.returns
 returns c =
-    let s = view c.args.here.schema.now in
+    let s = view c.args.here.now.schema.now in
     let r = view c.in-Some.part.now in
     by_patterned s (chars c.args.key.now) (Some r) false (sym c.if-patterned.false ∙ c.in_ok-patterned.ensures)
     c.in-Some.ensures

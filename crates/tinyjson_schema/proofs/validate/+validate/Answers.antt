@@ -24,7 +24,7 @@ use Rattle.tinyjson_schema.specs.Applicators.{applies, parts_accepted, tests, co
 use Rattle.tinyjson_schema.specs.Applicators.{one_of, branch_accepts, some_accepts, accepting, keys_pass, passing, items_passing}
 use Rattle.tinyjson_schema.specs.Evaluated.{Answers, Child, member_at, item_at, value_of, others_evaluate, rest_accepted, members_pass}
 use Rattle.tinyjson_schema.specs.Evaluated.{some_evaluate, accepting_evaluate, branch_evaluates, dependents_evaluate, target_evaluates}
-use Rattle.tinyjson_schema_assertions.specs.Assertions.{IsUnmet, IsUnmetAmong}
+use Rattle.tinyjson_schema_assertions.specs.Assertions.{IsUnmet}
 use Rattle.tinyjson_schema.specs.Parts.{item_schema}
 use Rattle.tinyjson_schema.specs.Places.{IsMemberPart, IsUnderKey, place}
 use Rattle.tinyjson_schema.specs.Sources.{sources_evaluate, AreWithin}
@@ -39,7 +39,7 @@ use Rattle.tinyjson_schema.proofs.Sourcing.{adds_none, adds_both, adds_as, adds_
 use Rattle.tinyjson_schema.proofs.Sourcing.{inner_added, asking_added, branch_none, branch_some, no_branch_added, target_added}
 use Rattle.tinyjson_schema.proofs.Sourcing.{no_target_added, left_turn, left_end, no_member_rest, no_item_rest, no_rest, members_found, items_found}
 use Rattle.tinyjson_schema.proofs.Sourcing.{evaluated_by, item_applied}
-use Rattle.tinyjson_schema.proofs.Validity.{reported, flipped, verdict, placed, last_tested, last_found, before, no_branch, branch_met, branch_place}
+use Rattle.tinyjson_schema.proofs.Validity.{reported, reported_there, flipped, verdict, placed, last_tested, last_found, before, no_branch, branch_met, branch_place}
 use Rattle.tinyjson_schema.proofs.Validity.{reference_met, no_reference, both_met}
 use Rattle.tinyjson_schema.proofs.validate.+validate.Goals.{in_dependents-then-has_key+in_ok-found+in_default, in_dependents-else-has_key}
 use Rattle.tinyjson_schema.proofs.validate.+validate.Goals.{in_found-then-is_found+in_ok-found+in_default, in_found-else-is_found}
@@ -55,44 +55,44 @@ use Rattle.tinyjson_schema.proofs.validate.+validate.Goals as goal
 
 -- ---- each step takes one of the walk's
 
-pub violation_in-unmet_test-requires : goal.violation_in-unmet_test-requires
-violation_in-unmet_test-requires t c =
-    let fewer : 16 * c.in_ok-inner.inner.steps + 15 < 16 * c.args.walk.steps + 7 = omega (arith, c.in_ok-inner.ensures.1) in
+pub violation_of-unmet_test-requires : goal.violation_of-unmet_test-requires
+violation_of-unmet_test-requires t c =
+    let fewer : 16 * c.in_ok-inner.inner.steps + 15 < 16 * c.args.walk.steps + 6 = omega (arith, c.in_ok-inner.ensures.1) in
     search rules
 
-pub violation_in-in_all_of-requires : goal.violation_in-in_all_of-requires
-violation_in-in_all_of-requires t c =
-    let fewer : 16 * c.in_ok-inner.inner.steps + 10 < 16 * c.args.walk.steps + 7 = omega (arith, c.in_ok-inner.ensures.1) in
+pub violation_of-in_all_of-requires : goal.violation_of-in_all_of-requires
+violation_of-in_all_of-requires t c =
+    let fewer : 16 * c.in_ok-inner.inner.steps + 10 < 16 * c.args.walk.steps + 6 = omega (arith, c.in_ok-inner.ensures.1) in
     search rules
 
-pub violation_in-in_branch-requires : goal.violation_in-in_branch-requires
-violation_in-in_branch-requires t c =
-    let fewer : 16 * c.in_ok-inner.inner.steps + 10 < 16 * c.args.walk.steps + 7 = omega (arith, c.in_ok-inner.ensures.1) in
+pub violation_of-in_branch-requires : goal.violation_of-in_branch-requires
+violation_of-in_branch-requires t c =
+    let fewer : 16 * c.in_ok-inner.inner.steps + 10 < 16 * c.args.walk.steps + 6 = omega (arith, c.in_ok-inner.ensures.1) in
     search rules
 
-pub violation_in-in_dependents-requires : goal.violation_in-in_dependents-requires
-violation_in-in_dependents-requires t c =
-    let fewer : 16 * c.in_ok-inner.inner.steps + 10 < 16 * c.args.walk.steps + 7 = omega (arith, c.in_ok-inner.ensures.1) in
+pub violation_of-in_dependents-requires : goal.violation_of-in_dependents-requires
+violation_of-in_dependents-requires t c =
+    let fewer : 16 * c.in_ok-inner.inner.steps + 10 < 16 * c.args.walk.steps + 6 = omega (arith, c.in_ok-inner.ensures.1) in
     search rules
 
-pub violation_in-in_patterned-requires : goal.violation_in-in_patterned-requires
-violation_in-in_patterned-requires t c =
-    let fewer : 16 * c.in_ok-inner.inner.steps + 10 < 16 * c.args.walk.steps + 7 = omega (arith, c.in_ok-inner.ensures.1) in
+pub violation_of-in_patterned-requires : goal.violation_of-in_patterned-requires
+violation_of-in_patterned-requires t c =
+    let fewer : 16 * c.in_ok-inner.inner.steps + 10 < 16 * c.args.walk.steps + 6 = omega (arith, c.in_ok-inner.ensures.1) in
     search rules
 
-pub violation_in-in_reference-requires : goal.violation_in-in_reference-requires
-violation_in-in_reference-requires t c =
-    let fewer : 16 * c.in_ok-inner.inner.steps + 11 < 16 * c.args.walk.steps + 7 = omega (arith, c.in_ok-inner.ensures.1) in
+pub violation_of-in_reference-requires : goal.violation_of-in_reference-requires
+violation_of-in_reference-requires t c =
+    let fewer : 16 * c.in_ok-inner.inner.steps + 11 < 16 * c.args.walk.steps + 6 = omega (arith, c.in_ok-inner.ensures.1) in
     search rules
 
-pub violation_in-in_parts-requires : goal.violation_in-in_parts-requires
-violation_in-in_parts-requires t c =
-    let fewer : 16 * c.in_ok-inner.inner.steps + 12 < 16 * c.args.walk.steps + 7 = omega (arith, c.in_ok-inner.ensures.1) in
+pub violation_of-in_parts-requires : goal.violation_of-in_parts-requires
+violation_of-in_parts-requires t c =
+    let fewer : 16 * c.in_ok-inner.inner.steps + 12 < 16 * c.args.walk.steps + 6 = omega (arith, c.in_ok-inner.ensures.1) in
     search rules
 
-pub violation_in-in_rest-requires : goal.violation_in-in_rest-requires
-violation_in-in_rest-requires t c =
-    let fewer : 16 * c.in_ok-inner.inner.steps + 14 < 16 * c.args.walk.steps + 7 = omega (arith, c.in_ok-inner.ensures.1) in
+pub violation_of-in_rest-requires : goal.violation_of-in_rest-requires
+violation_of-in_rest-requires t c =
+    let fewer : 16 * c.in_ok-inner.inner.steps + 14 < 16 * c.args.walk.steps + 6 = omega (arith, c.in_ok-inner.ensures.1) in
     search rules
 
 pub unevaluated::add_schema-add_inner-requires : goal.unevaluated::add_schema-add_inner-requires
@@ -102,104 +102,104 @@ unevaluated::add_schema-add_inner-requires t c =
 
 -- ---- the whole check
 
-pub violation_in-returns-then-refuses_all : goal.violation_in-returns-then-refuses_all
-violation_in-returns-then-refuses_all t c =
+pub violation_of-returns-then-refuses_all : goal.violation_of-returns-then-refuses_all
+violation_of-returns-then-refuses_all t c =
     let inner = c.in_ok-inner.inner in
-    let s = view c.args.schema.now in
+    let s = view c.args.here.now.schema.now in
     let v = tree_of c.args.value.now in
     before c.args.walk inner c.in_ok-inner.ensures s v (Ok (Some c.of_schema.result))
     (reported (root_of inner) (suc inner.steps) s v c.of_schema.result _ _ c.of_schema.ensures
     (refused (sym c.refuses_all.ensures ∙ c.if-refuses_all.true)))
 
-pub violation_in-returns-in-Some : goal.violation_in-returns-in-Some
-violation_in-returns-in-Some t c =
+pub violation_of-returns-in-Some : goal.violation_of-returns-in-Some
+violation_of-returns-in-Some t c =
     let inner = c.in_ok-inner.inner in
-    let s = view c.args.schema.now in
+    let s = view c.args.here.now.schema.now in
     let v = tree_of c.args.value.now in
-    before c.args.walk inner c.in_ok-inner.ensures s v (Ok (Some c.in_ok-of_keyword.field-0))
-    (reported (root_of inner) (suc inner.steps) s v c.in_ok-of_keyword.field-0 _ _ c.in_ok-of_keyword.ensures
+    before c.args.walk inner c.in_ok-inner.ensures s v c.at_keyword.result
+    (reported_there (root_of inner) (suc inner.steps) s v c.at_keyword.result _ _ c.at_keyword.ensures
     (unmet c.in-Some.keyword (subst (λ f. IsUnmet f s v (Some c.in-Some.keyword)) (sym (ap (λ g. g.now.formats) c.in_ok-inner.ensures.0))
     (subst (λ o. IsUnmet c.args.walk.ground.now.formats s v o) c.in-Some.is
-    (subst (λ ks. IsUnmetAmong ks s v c.in_ok-keyword.field-0) c.assertions.ensures c.in_ok-keyword.ensures)))))
+    c.in_ok-keyword.ensures))))
 
-pub violation_in-returns-then-not-may_apply : goal.violation_in-returns-then-not-may_apply
-violation_in-returns-then-not-may_apply t c =
+pub violation_of-returns-then-not-may_apply : goal.violation_of-returns-then-not-may_apply
+violation_of-returns-then-not-may_apply t c =
     let inner = c.in_ok-inner.inner in
-    let s = view c.args.schema.now in
+    let s = view c.args.here.now.schema.now in
     let v = tree_of c.args.value.now in
     before c.args.walk inner c.in_ok-inner.ensures s v (Ok None)
     (decided_alone s (c.may_apply.ensures c.if-not-may_apply.true) inner v (sym c.refuses_all.ensures ∙ c.if-refuses_all.false)
     (subst (λ f. IsUnmet f s v None) (sym (ap (λ g. g.now.formats) c.in_ok-inner.ensures.0))
     (subst (λ o. IsUnmet c.args.walk.ground.now.formats s v o) c.in_default.is
-    (subst (λ ks. IsUnmetAmong ks s v c.in_ok-keyword.field-0) c.assertions.ensures c.in_ok-keyword.ensures))))
+    c.in_ok-keyword.ensures)))
 
-pub violation_in-returns-in-Some-2 : goal.violation_in-returns-in-Some-2
-violation_in-returns-in-Some-2 t c =
+pub violation_of-returns-in-Some-2 : goal.violation_of-returns-in-Some-2
+violation_of-returns-in-Some-2 t c =
     let inner = c.in_ok-inner.inner in
-    let s = view c.args.schema.now in
+    let s = view c.args.here.now.schema.now in
     let v = tree_of c.args.value.now in
-    before c.args.walk inner c.in_ok-inner.ensures s v (Ok (Some c.in_ok-of_keyword-2.field-0))
-    (reported (root_of inner) (suc inner.steps) s v c.in_ok-of_keyword-2.field-0 _ _ c.in_ok-of_keyword-2.ensures
+    before c.args.walk inner c.in_ok-inner.ensures s v c.at_keyword-in-Some-2.result
+    (reported_there (root_of inner) (suc inner.steps) s v c.at_keyword-in-Some-2.result _ _ c.at_keyword-in-Some-2.ensures
     (not_applied c.in-Some-2.keyword (subst (λ o. IsUnapplied inner tests s v o) c.in-Some-2.is c.in_ok-keyword-2.ensures)))
 
-pub violation_in-returns-in-Some-3 : goal.violation_in-returns-in-Some-3
-violation_in-returns-in-Some-3 t c =
+pub violation_of-returns-in-Some-3 : goal.violation_of-returns-in-Some-3
+violation_of-returns-in-Some-3 t c =
     let inner = c.in_ok-inner.inner in
-    let s = view c.args.schema.now in
+    let s = view c.args.here.now.schema.now in
     let v = tree_of c.args.value.now in
     before c.args.walk inner c.in_ok-inner.ensures s v (Ok (Some c.in-Some-3.found))
     (subst (λ o. Finds inner (λ f. applies f kw.AllOf s v) s v (Ok o)) c.in-Some-3.is c.in_ok-found.ensures)
 
-pub violation_in-returns-in-Some-4 : goal.violation_in-returns-in-Some-4
-violation_in-returns-in-Some-4 t c =
+pub violation_of-returns-in-Some-4 : goal.violation_of-returns-in-Some-4
+violation_of-returns-in-Some-4 t c =
     let inner = c.in_ok-inner.inner in
-    let s = view c.args.schema.now in
+    let s = view c.args.here.now.schema.now in
     let v = tree_of c.args.value.now in
     before c.args.walk inner c.in_ok-inner.ensures s v (Ok (Some c.in-Some-4.found))
     (subst (λ o. Finds inner (λ f. applies f kw.If s v) s v (Ok o)) c.in-Some-4.is c.in_ok-found-2.ensures)
 
-pub violation_in-returns-in-Some-5 : goal.violation_in-returns-in-Some-5
-violation_in-returns-in-Some-5 t c =
+pub violation_of-returns-in-Some-5 : goal.violation_of-returns-in-Some-5
+violation_of-returns-in-Some-5 t c =
     let inner = c.in_ok-inner.inner in
-    let s = view c.args.schema.now in
+    let s = view c.args.here.now.schema.now in
     let v = tree_of c.args.value.now in
     before c.args.walk inner c.in_ok-inner.ensures s v (Ok (Some c.in-Some-5.found))
     (subst (λ o. Finds inner (λ f. applies f kw.DependentSchemas s v) s v (Ok o)) c.in-Some-5.is c.in_ok-found-3.ensures)
 
-pub violation_in-returns-in-Some-6 : goal.violation_in-returns-in-Some-6
-violation_in-returns-in-Some-6 t c =
+pub violation_of-returns-in-Some-6 : goal.violation_of-returns-in-Some-6
+violation_of-returns-in-Some-6 t c =
     let inner = c.in_ok-inner.inner in
-    let s = view c.args.schema.now in
+    let s = view c.args.here.now.schema.now in
     let v = tree_of c.args.value.now in
     before c.args.walk inner c.in_ok-inner.ensures s v (Ok (Some c.in-Some-6.found))
     (subst (λ o. Finds inner (λ f. applies f kw.PatternProperties s v) s v (Ok o)) c.in-Some-6.is c.in_ok-found-4.ensures)
 
-pub violation_in-returns-in-Some-7 : goal.violation_in-returns-in-Some-7
-violation_in-returns-in-Some-7 t c =
+pub violation_of-returns-in-Some-7 : goal.violation_of-returns-in-Some-7
+violation_of-returns-in-Some-7 t c =
     let inner = c.in_ok-inner.inner in
-    let s = view c.args.schema.now in
+    let s = view c.args.here.now.schema.now in
     let v = tree_of c.args.value.now in
     before c.args.walk inner c.in_ok-inner.ensures s v (Ok (Some c.in-Some-7.found))
     (subst (λ o. Finds inner (λ f. reference_accepts (view inner.ground.now.whole.now.root.now) f s v) s v (Ok o)) c.in-Some-7.is
     c.in_ok-found-5.ensures)
 
-pub violation_in-returns-in-Some-8 : goal.violation_in-returns-in-Some-8
-violation_in-returns-in-Some-8 t c =
+pub violation_of-returns-in-Some-8 : goal.violation_of-returns-in-Some-8
+violation_of-returns-in-Some-8 t c =
     let inner = c.in_ok-inner.inner in
-    let s = view c.args.schema.now in
+    let s = view c.args.here.now.schema.now in
     let v = tree_of c.args.value.now in
     before c.args.walk inner c.in_ok-inner.ensures s v (Ok (Some c.in-Some-8.found))
     (subst (λ o. Finds inner (λ f. parts_accepted f s v) s v (Ok o)) c.in-Some-8.is c.in_ok-found-6.ensures)
 
-pub violation_in-returns : goal.violation_in-returns
-violation_in-returns t c =
+pub violation_of-returns : goal.violation_of-returns
+violation_of-returns t c =
     let inner = c.in_ok-inner.inner in
-    let s = view c.args.schema.now in
+    let s = view c.args.here.now.schema.now in
     let v = tree_of c.args.value.now in
     before c.args.walk inner c.in_ok-inner.ensures s v c.in_rest.result
     (last_found inner s v c.in_rest.result (sym c.refuses_all.ensures ∙ c.if-refuses_all.false)
     (subst (λ f. IsUnmet f s v None) (sym (ap (λ g. g.now.formats) c.in_ok-inner.ensures.0)) (subst (λ o. IsUnmet c.args.walk.ground.now.formats s v o) c.in_default.is
-    (subst (λ ks. IsUnmetAmong ks s v c.in_ok-keyword.field-0) c.assertions.ensures c.in_ok-keyword.ensures)))
+    c.in_ok-keyword.ensures))
     (subst (λ o. IsUnapplied inner tests s v o) c.in_default-2.is c.in_ok-keyword-2.ensures)
     (subst (λ o. Finds inner (λ f. applies f kw.AllOf s v) s v (Ok o)) c.in_default-3.is c.in_ok-found.ensures)
     (subst (λ o. Finds inner (λ f. applies f kw.If s v) s v (Ok o)) c.in_default-4.is c.in_ok-found-2.ensures)
@@ -217,7 +217,7 @@ is_accepted-returns t c g = flipped c.is_none.result _ c.is_none.ensures
 
 pub tested::unmet_test-returns-then-not-may_test : goal.tested::unmet_test-returns-then-not-may_test
 tested::unmet_test-returns-then-not-may_test t c g =
-    untested (says c.args.walk g) (view c.args.here.schema.now) (tree_of c.args.value.now)
+    untested (says c.args.walk g) (view c.args.here.now.schema.now) (tree_of c.args.value.now)
     (c.may_test.ensures c.if-not-may_test.true)
 
 pub tested::unmet_test-returns-then-not-any : goal.tested::unmet_test-returns-then-not-any
@@ -241,7 +241,7 @@ tested::unmet_test-returns-then-not-names t c g = sym (c.in_ok-names.ensures g) 
 pub tested::unmet_test-returns : goal.tested::unmet_test-returns
 tested::unmet_test-returns t c =
     let w = c.args.walk in
-    let s = view c.args.here.schema.now in
+    let s = view c.args.here.now.schema.now in
     let v = tree_of c.args.value.now in
     last_tested w s v c.unmet_count.result (λ g. (
       sym (c.in_ok-any.ensures g ∙ ap (λ rs. any_of (says w g) rs v) c.schemas_at.ensures) ∙ c.if-not-any.false,
@@ -252,7 +252,7 @@ tested::unmet_test-returns t c =
 
 pub tested::unmet_count-returns : goal.tested::unmet_count-returns
 tested::unmet_count-returns t c g =
-    let s = view c.args.here.schema.now in
+    let s = view c.args.here.now.schema.now in
     let counted = c.in_ok-count.ensures g in
     let some : contains_some c.in_ok-count.count s ≡ true = sym c.contains_some-some.ensures ∙ c.if-not-some.false in
     let most : contains_at_most c.in_ok-count.count s ≡ true = sym c.in_ok-most.ensures ∙ c.if-not-most.false in
@@ -405,24 +405,24 @@ tested::count_passing-returns t c g =
 
 pub tested::unmet_count-returns-then-not-some : goal.tested::unmet_count-returns-then-not-some
 tested::unmet_count-returns-then-not-some t c g =
-    let s = view c.args.here.schema.now in
+    let s = view c.args.here.now.schema.now in
     ap (λ n. contains_some n s) (sym (c.in_ok-count.ensures g)) ∙ (sym c.contains_some-some.ensures ∙ c.if-not-some.true)
 
 pub tested::unmet_count-returns-then-not-most : goal.tested::unmet_count-returns-then-not-most
 tested::unmet_count-returns-then-not-most t c g =
-    let s = view c.args.here.schema.now in
+    let s = view c.args.here.now.schema.now in
     ap (λ n. contains_at_most n s) (sym (c.in_ok-count.ensures g)) ∙ (sym c.in_ok-most.ensures ∙ c.if-not-most.true)
 
 pub tested::unmet_count-returns-then-not-least : goal.tested::unmet_count-returns-then-not-least
 tested::unmet_count-returns-then-not-least t c g =
-    let s = view c.args.here.schema.now in
+    let s = view c.args.here.now.schema.now in
     ap (λ n. contains_at_least n s) (sym (c.in_ok-count.ensures g)) ∙ (sym c.in_ok-least.ensures ∙ c.if-not-least.true)
 
 -- ---- where a schema in this one is not met
 
 pub in_all_of-returns-in-Some : goal.in_all_of-returns-in-Some
 in_all_of-returns-in-Some t c =
-    let s = view c.args.here.schema.now in
+    let s = view c.args.here.now.schema.now in
     let v = tree_of c.args.value.now in
     let vs = c.schemas_at-parts.result.now in
     let i = c.loop-index.index in
@@ -457,26 +457,26 @@ in_all_of-returns t c g =
 pub in_branch-returns-in_default : goal.in_branch-returns-in_default
 in_branch-returns-in_default t c g =
     let f = says c.args.walk g in
-    let s = view c.args.here.schema.now in
+    let s = view c.args.here.now.schema.now in
     let v = tree_of c.args.value.now in
     ap (λ o. option_map_or (λ r. branch_accepts f s v (f r v)) o true) (sym c.in_default.ensures)
 
 pub in_branch-returns-in_default-schema_at : goal.in_branch-returns-in_default-schema_at
 in_branch-returns-in_default-schema_at t c =
-    no_branch c.args.walk (view c.args.here.schema.now) (tree_of c.args.value.now) (view c.in-Some.test.now) c.in_ok-accepted.accepted
+    no_branch c.args.walk (view c.args.here.now.schema.now) (tree_of c.args.value.now) (view c.in-Some.test.now) c.in_ok-accepted.accepted
     c.branch-chosen.result c.in-Some.ensures c.in_ok-accepted.ensures c.branch-chosen.ensures c.in_default-schema_at.ensures
 
 pub in_branch-returns-in_default-2 : goal.in_branch-returns-in_default-2
 in_branch-returns-in_default-2 t c =
     let v = tree_of c.args.value.now in
     let r = view c.in-Some-schema_at.part.now in
-    branch_met c.args.walk (view c.args.here.schema.now) v (view c.in-Some.test.now) c.in_ok-accepted.accepted c.branch-chosen.result
+    branch_met c.args.walk (view c.args.here.now.schema.now) v (view c.in-Some.test.now) c.in_ok-accepted.accepted c.branch-chosen.result
     c.in-Some.ensures c.in_ok-accepted.ensures c.branch-chosen.ensures r c.in-Some-schema_at.ensures
     (subst (λ o. Judges c.args.walk r v (Ok o)) c.in_default-2.is c.in_ok-found.ensures)
 
 pub in_branch-returns : goal.in_branch-returns
 in_branch-returns t c =
-    let s = view c.args.here.schema.now in
+    let s = view c.args.here.now.schema.now in
     let v = tree_of c.args.value.now in
     let r = view c.in-Some-schema_at.part.now in
     let inner = subst (λ o. Judges c.args.walk r v (Ok o)) c.in-Some-2.is c.in_ok-found.ensures in
@@ -486,7 +486,7 @@ in_branch-returns t c =
 
 pub in_dependents-returns-in-Some : goal.in_dependents-returns-in-Some
 in_dependents-returns-in-Some t c =
-    let s = view c.args.here.schema.now in
+    let s = view c.args.here.now.schema.now in
     let v = tree_of c.args.value.now in
     let ps = c.as_slice-dependents.result.now in
     let i = c.loop-key.key-index in
@@ -535,7 +535,7 @@ in_dependents-returns t c g =
 
 pub in_patterned-returns-in-Some : goal.in_patterned-returns-in-Some
 in_patterned-returns-in-Some t c =
-    let s = view c.args.here.schema.now in
+    let s = view c.args.here.now.schema.now in
     let v = tree_of c.args.value.now in
     let ps = c.as_slice-patterns.result.now in
     let i = c.loop-pattern.pattern-index in
@@ -633,7 +633,7 @@ in_found-returns t c g =
 pub in_reference-returns : goal.in_reference-returns
 in_reference-returns t c =
     let w = c.args.walk in
-    let s = view c.args.here.schema.now in
+    let s = view c.args.here.now.schema.now in
     let v = tree_of c.args.value.now in
     both_met w s v c.in_target-2.result
     (subst (λ o. Finds w (λ f. target_accepts (view w.ground.now.whole.now.root.now) kw.Ref f s v) s v (Ok o)) c.in_default.is c.in_ok-found.ensures)
@@ -642,81 +642,81 @@ in_reference-returns t c =
 pub in_target-returns-in_default : goal.in_target-returns-in_default
 in_target-returns-in_default t c g =
     let w = c.args.walk in
-    no_reference (view w.ground.now.whole.now.root.now) (says w g) (view c.args.here.schema.now) (tree_of c.args.value.now) c.args.keyword
-    (ap (option_map (λ x. view x.now)) (sym c.in_default.is) ∙ c.in_ok-part.ensures)
+    no_reference (view w.ground.now.whole.now.root.now) (says w g) (view c.args.here.now.schema.now) (tree_of c.args.value.now) c.args.keyword
+    (ap (option_map (λ x. view x.schema.now)) (sym c.in_default.is) ∙ c.in_ok-part.ensures)
 
 pub in_target-returns-in_default-2 : goal.in_target-returns-in_default-2
 in_target-returns-in_default-2 t c g =
     let w = c.args.walk in
     let v = tree_of c.args.value.now in
-    let r = view c.in-Some.part.now in
-    reference_met (view w.ground.now.whole.now.root.now) (says w g) (view c.args.here.schema.now) v r c.args.keyword
-    (ap (option_map (λ x. view x.now)) (sym c.in-Some.is) ∙ c.in_ok-part.ensures)
+    let r = view c.in-Some.part.schema.now in
+    reference_met (view w.ground.now.whole.now.root.now) (says w g) (view c.args.here.now.schema.now) v r c.args.keyword
+    (ap (option_map (λ x. view x.schema.now)) (sym c.in-Some.is) ∙ c.in_ok-part.ensures)
     (subst (λ o. Judges w r v (Ok o)) c.in_default-2.is c.in_ok-found.ensures g)
 
 pub in_target-returns : goal.in_target-returns
 in_target-returns t c =
     let w = c.args.walk in
-    let s = view c.args.here.schema.now in
+    let s = view c.args.here.now.schema.now in
     let v = tree_of c.args.value.now in
-    let r = view c.in-Some.part.now in
+    let r = view c.in-Some.part.schema.now in
     let inner = subst (λ o. Judges w r v (Ok o)) c.in-Some-2.is c.in_ok-found.ensures in
     placed w (λ f. target_accepts (view w.ground.now.whole.now.root.now) c.args.keyword f s v) s v c.enter_keyword.new.self _ _
     c.in_ok-enter_keyword.ensures
-    (in_reference c.args.keyword c.requires (sym (ap (option_map (λ x. view x.now)) (sym c.in-Some.is) ∙ c.in_ok-part.ensures)) inner)
+    (in_reference c.args.keyword c.requires (sym (ap (option_map (λ x. view x.schema.now)) (sym c.in-Some.is) ∙ c.in_ok-part.ensures)) inner)
 
 pub in_members-returns-in-Some-2 : goal.in_members-returns-in-Some-2
 in_members-returns-in-Some-2 t c =
-    let s = view c.args.here.schema.now in
+    let s = view c.args.here.now.schema.now in
     let ps = c.args.members.now in
-    let i = c.loop-member.member-index in
-    let p = c.member-item.result in
+    let i = c.loop-near.near in
+    let p = c.index-members-near.result in
     let k = chars p.key.now in
     let part = c.in-Some.part in
-    let r = view part.schema.now in
+    let r = view part.to.schema.now in
     let applied = subst (λ o. IsMemberPart s k o) c.in-Some.is (c.in_ok-part.ensures c.schema_at-properties.ensures) in
     let inner = subst (λ o. Judges c.args.walk r (tree_of p.value) (Ok o)) c.in-Some-2.is c.in_ok-found.ensures in
     placed c.args.walk (λ f. members_accepted f s (members_of ps)) s (object (members_of ps)) c.enter_member.new.self _
     _ c.in_ok-enter_member.ensures
-    (in_part (place part.applicator k) applied.0 (member_found ps i p c.requires c.loop-member-test.true c.member-item.is) applied.1 inner)
+    (in_part (place part.applicator k) applied.0 (member_found ps i p c.requires c.loop-near-test.true c.index-members-near.is) applied.1 inner)
 
-pub in_members-loop-member-preserved : goal.in_members-loop-member-preserved
-in_members-loop-member-preserved t c g =
-    let s = view c.args.here.schema.now in
+pub in_members-loop-near-preserved : goal.in_members-loop-near-preserved
+in_members-loop-near-preserved t c g =
+    let s = view c.args.here.now.schema.now in
     let ps = c.args.members.now in
-    let i = c.loop-member.member-index in
-    let p = c.member-item.result in
+    let i = c.loop-near.near in
+    let p = c.index-members-near.result in
     let u = tree_of p.value in
     let k = chars p.key.now in
     elim c.match-branch-2.branch [
       | in_members-in-Some+in_ok-found+in_default-2 w ↦
           let part = w.in-Some.part in
-          let r = view part.schema.now in
+          let r = view part.to.schema.now in
           let applied = subst (λ o. IsMemberPart s k o) w.in-Some.is (c.in_ok-part.ensures c.schema_at-properties.ensures) in
-          members_turn (says c.args.walk g) s ps i p c.loop-member-test.true c.member-item.is
+          members_turn (says c.args.walk g) s ps i p c.loop-near-test.true c.index-members-near.is
           (member_passes (says c.args.walk g) s k r u applied.0
           (subst (λ o. Judges c.args.walk r u (Ok o)) w.in_default-2.is w.in_ok-found.ensures g))
-          (c.loop-member.invariant g)
+          (c.loop-near.invariant g)
       | in_members-in_default w ↦
-          members_turn (says c.args.walk g) s ps i p c.loop-member-test.true c.member-item.is
+          members_turn (says c.args.walk g) s ps i p c.loop-near-test.true c.index-members-near.is
           (member_free (says c.args.walk g) s k u (subst (λ o. IsMemberPart s k o) w.in_default.is (c.in_ok-part.ensures c.schema_at-properties.ensures)))
-          (c.loop-member.invariant g)
+          (c.loop-near.invariant g)
     ]
 
 pub in_members-returns : goal.in_members-returns
 in_members-returns t c g =
-    let s = view c.args.here.schema.now in
-    turn_end (λ xs. members_accepted (says c.args.walk g) s (members_of xs)) c.args.members.now c.loop-member.member-index true
-    c.loop-member-test.false refl (c.loop-member.invariant g)
+    let s = view c.args.here.now.schema.now in
+    turn_end (λ xs. members_accepted (says c.args.walk g) s (members_of xs)) c.args.members.now c.loop-near.near true
+    c.loop-near-test.false refl (c.loop-near.invariant g)
 
 pub in_items-returns-in-Some-2 : goal.in_items-returns-in-Some-2
 in_items-returns-in-Some-2 t c =
-    let s = view c.args.here.schema.now in
+    let s = view c.args.here.now.schema.now in
     let vs = c.args.items.now in
     let i = c.loop-index.index in
     let x = c.index-items-index.result in
     let part = c.in-Some.part in
-    let r = view part.schema.now in
+    let r = view part.to.schema.now in
     let old = c.in-Some-2.found in
     let applied = c.in-Some.ensures in
     let inner = subst (λ o. Judges c.args.walk r (tree_of x) (Ok o)) c.in-Some-2.is c.in_ok-found.ensures in
@@ -731,13 +731,13 @@ in_items-returns-in-Some-2 t c =
 
 pub in_items-loop-index-preserved : goal.in_items-loop-index-preserved
 in_items-loop-index-preserved t c g =
-    let s = view c.args.here.schema.now in
+    let s = view c.args.here.now.schema.now in
     let vs = c.args.items.now in
     let i = c.loop-index.index in
     let x = c.index-items-index.result in
     elim c.match-item_part.branch [
       | in_items-in-Some+in_ok-found+in_default-2 w ↦
-          let r = view w.in-Some.part.schema.now in
+          let r = view w.in-Some.part.to.schema.now in
           items_turn (says c.args.walk g) s vs i x c.loop-index-test.true c.index-items-index.is
           (item_passes (says c.args.walk g) s i r (tree_of x) w.in-Some.ensures.0
           (subst (λ o. Judges c.args.walk r (tree_of x) (Ok o)) w.in_default-2.is w.in_ok-found.ensures g))
@@ -749,7 +749,7 @@ in_items-loop-index-preserved t c g =
     ]
 
 pub in_items-returns : goal.in_items-returns
-in_items-returns t c g = items_end (says c.args.walk g) (view c.args.here.schema.now) c.args.items.now c.loop-index.index
+in_items-returns t c g = items_end (says c.args.walk g) (view c.args.here.now.schema.now) c.args.items.now c.loop-index.index
     c.loop-index-test.false (c.loop-index.invariant g)
 
 pub in_parts-in_members-requires : goal.in_parts-in_members-requires
@@ -760,7 +760,7 @@ in_parts-in_members-requires t c =
 
 pub in_parts-returns-in_ok-members-in-Object : goal.in_parts-returns-in_ok-members-in-Object
 in_parts-returns-in_ok-members-in-Object t c =
-    let s = view c.args.here.schema.now in
+    let s = view c.args.here.now.schema.now in
     let v = tree_of c.args.value.now in
     let same : object (members_of c.as_slice.result.now) ≡ v
     = ap object (ap members_of c.as_slice.ensures.value ∙ c.in_ok-members-in-Object.ensures.listed)
@@ -769,7 +769,7 @@ in_parts-returns-in_ok-members-in-Object t c =
 
 pub in_parts-returns-in_ok-items-in-Array : goal.in_parts-returns-in_ok-items-in-Array
 in_parts-returns-in_ok-items-in-Array t c =
-    let s = view c.args.here.schema.now in
+    let s = view c.args.here.now.schema.now in
     let v = tree_of c.args.value.now in
     let same : array (trees_of c.as_slice-in-Array.result.now) ≡ v
     = ap array (ap trees_of c.as_slice-in-Array.ensures.value ∙ c.in_ok-items-in-Array.ensures)
@@ -777,7 +777,7 @@ in_parts-returns-in_ok-items-in-Array t c =
     subst (λ x. Finds c.args.walk (λ f. parts_accepted f s x) s x c.in_items.result) same c.in_items.ensures
 
 pub in_parts-returns-in_default : goal.in_parts-returns-in_default
-in_parts-returns-in_default t c g = no_parts (says c.args.walk g) (view c.args.here.schema.now) (tree_of c.args.value.now)
+in_parts-returns-in_default t c g = no_parts (says c.args.walk g) (view c.args.here.now.schema.now) (tree_of c.args.value.now)
     (λ e. c.in_default.not-Object (c.kind.ensures ∙ sym e)) (λ e. c.in_default.not-Array (c.kind.ensures ∙ sym e))
 
 -- ---- what is not evaluated
@@ -956,7 +956,7 @@ unevaluated::in_rest-in_items_left-requires t c =
 pub unevaluated::in_rest-returns-in_default-schema_at : goal.unevaluated::in_rest-returns-in_default-schema_at
 unevaluated::in_rest-returns-in_default-schema_at t c g =
     let w = c.args.walk in
-    let s = view c.args.here.schema.now in
+    let s = view c.args.here.now.schema.now in
     let v = tree_of c.args.value.now in
     subst (λ x. rest_accepted (view w.ground.now.whole.now.root.now) (answers_in w g) s x ≡ true)
     (object_is v (sym c.in-Object.is ∙ c.kind.ensures))
@@ -965,7 +965,7 @@ unevaluated::in_rest-returns-in_default-schema_at t c g =
 pub unevaluated::in_rest-returns-in_default-schema_at-2 : goal.unevaluated::in_rest-returns-in_default-schema_at-2
 unevaluated::in_rest-returns-in_default-schema_at-2 t c g =
     let w = c.args.walk in
-    let s = view c.args.here.schema.now in
+    let s = view c.args.here.now.schema.now in
     let v = tree_of c.args.value.now in
     subst (λ x. rest_accepted (view w.ground.now.whole.now.root.now) (answers_in w g) s x ≡ true)
     (array_is v (sym c.in-Array.is ∙ c.kind.ensures))
@@ -974,13 +974,13 @@ unevaluated::in_rest-returns-in_default-schema_at-2 t c g =
 pub unevaluated::in_rest-returns-in_default : goal.unevaluated::in_rest-returns-in_default
 unevaluated::in_rest-returns-in_default t c g =
     let w = c.args.walk in
-    no_rest (view w.ground.now.whole.now.root.now) (answers_in w g) (view c.args.here.schema.now) (tree_of c.args.value.now)
+    no_rest (view w.ground.now.whole.now.root.now) (answers_in w g) (view c.args.here.now.schema.now) (tree_of c.args.value.now)
     (λ e. c.in_default.not-Object (c.kind.ensures ∙ sym e)) (λ e. c.in_default.not-Array (c.kind.ensures ∙ sym e))
 
 pub unevaluated::in_rest-returns-in_ok-members-in-Object : goal.unevaluated::in_rest-returns-in_ok-members-in-Object
 unevaluated::in_rest-returns-in_ok-members-in-Object t c =
     let w = c.args.walk in
-    let s = view c.args.here.schema.now in
+    let s = view c.args.here.now.schema.now in
     let v = tree_of c.args.value.now in
     let xs = c.as_slice-in-Object.result.now in
     let ms = members_of c.as_slice.result.now in
@@ -997,7 +997,7 @@ unevaluated::in_rest-returns-in_ok-members-in-Object t c =
 pub unevaluated::in_rest-returns-in_ok-items-in-Array : goal.unevaluated::in_rest-returns-in_ok-items-in-Array
 unevaluated::in_rest-returns-in_ok-items-in-Array t c =
     let w = c.args.walk in
-    let s = view c.args.here.schema.now in
+    let s = view c.args.here.now.schema.now in
     let v = tree_of c.args.value.now in
     let xs = c.as_slice-in-Array-2.result.now in
     let us = trees_of c.as_slice-in-Array.result.now in
@@ -1015,14 +1015,14 @@ unevaluated::in_rest-returns-in_ok-items-in-Array t c =
 
 pub unevaluated::sources_of-returns-clause-evaluated : goal.unevaluated::sources_of-returns-clause-evaluated
 unevaluated::sources_of-returns-clause-evaluated t c =
-    let x : Source = record { applied = c.args.here; walk = c.args.walk; asks = true } in
+    let x : Source = record { applied = c.args.here.now; walk = c.args.walk; asks = true } in
     asking_added c.args.walk x (tree_of c.args.value.now) c.push.new.self.items c.add_inner.new.sources.items refl refl
     (c.in_ok-push.ensures.items ∙ ap (λ ys. ys ++ x ∷ []) c.new-sources.ensures.items) c.in_ok-add_inner.ensures.evaluated
 
 pub unevaluated::sources_of-returns-clause-within : goal.unevaluated::sources_of-returns-clause-within
 unevaluated::sources_of-returns-clause-within t c =
     let w = c.args.walk in
-    let x : Source = record { applied = c.args.here; walk = w; asks = true } in
+    let x : Source = record { applied = c.args.here.now; walk = w; asks = true } in
     let one : c.push.new.self.items ≡ x ∷ [] = c.in_ok-push.ensures.items ∙ ap (λ ys. ys ++ x ∷ []) c.new-sources.ensures.items in
     let same : w.steps ≤ w.steps = omega arith in
     c.in_ok-add_inner.ensures.within w.steps same (subst (AreWithin w.steps) (sym one) (same, tt))
@@ -1043,7 +1043,7 @@ unevaluated::add_schema-returns-clause-within t c n h k =
 
 pub unevaluated::add_inner-returns-clause-evaluated : goal.unevaluated::add_inner-returns-clause-evaluated
 unevaluated::add_inner-returns-clause-evaluated t c =
-    inner_added c.args.walk (view c.args.here.schema.now) (tree_of c.args.value.now) (items_view c.schemas_at-all.result.now)
+    inner_added c.args.walk (view c.args.here.now.schema.now) (tree_of c.args.value.now) (items_view c.schemas_at-all.result.now)
     (items_view c.schemas_at-any.result.now) (items_view c.schemas_at-one.result.now) c.args.sources.now.items
     c.add_listed.new.sources.items c.add_accepting.new.sources.items c.add_accepting-2.new.sources.items
     c.add_branch.new.sources.items c.add_dependents.new.sources.items c.add_reference.new.sources.items c.schemas_at-all.ensures
@@ -1107,7 +1107,7 @@ unevaluated::add_if_accepting-returns-clause-evaluated t c =
 
 pub unevaluated::add_branch-returns-in_default-clause-evaluated : goal.unevaluated::add_branch-returns-in_default-clause-evaluated
 unevaluated::add_branch-returns-in_default-clause-evaluated t c =
-    let s = view c.args.here.schema.now in
+    let s = view c.args.here.now.schema.now in
     let v = tree_of c.args.value.now in
     adds_none c.args.walk (λ a k. branch_evaluates a s v k) _
     (λ g k. no_branch_added (answers_in c.args.walk g) s v k c.in_default.ensures)
@@ -1116,7 +1116,7 @@ pub unevaluated::add_branch-returns-in_default-schema_at-clause-evaluated
     : goal.unevaluated::add_branch-returns-in_default-schema_at-clause-evaluated
 unevaluated::add_branch-returns-in_default-schema_at-clause-evaluated t c =
     let w = c.args.walk in
-    let s = view c.args.here.schema.now in
+    let s = view c.args.here.now.schema.now in
     let v = tree_of c.args.value.now in
     let r = view c.in-Some.test.now in
     let b = c.in_ok-accepted.accepted in
@@ -1127,7 +1127,7 @@ unevaluated::add_branch-returns-in_default-schema_at-clause-evaluated t c =
 pub unevaluated::add_branch-returns-clause-evaluated : goal.unevaluated::add_branch-returns-clause-evaluated
 unevaluated::add_branch-returns-clause-evaluated t c =
     let w = c.args.walk in
-    let s = view c.args.here.schema.now in
+    let s = view c.args.here.now.schema.now in
     let v = tree_of c.args.value.now in
     let r = view c.in-Some.test.now in
     let u = view c.in-Some-schema_at.part.now in
@@ -1186,7 +1186,7 @@ unevaluated::add_dependent-returns-clause-evaluated t c =
 pub unevaluated::add_reference-returns-clause-evaluated : goal.unevaluated::add_reference-returns-clause-evaluated
 unevaluated::add_reference-returns-clause-evaluated t c =
     let root = view c.args.walk.ground.now.whole.now.root.now in
-    let s = view c.args.here.schema.now in
+    let s = view c.args.here.now.schema.now in
     let v = tree_of c.args.value.now in
     adds_both c.args.walk (λ a k. target_evaluates root kw.Ref a s v k) (λ a k. target_evaluates root kw.DynamicRef a s v k)
     c.args.sources.now.items c.add_target.new.sources.items c.add_target-2.new.sources.items c.in_ok-add_target.ensures.evaluated
@@ -1199,18 +1199,18 @@ unevaluated::add_reference-returns-clause-within t c n h k =
 pub unevaluated::add_target-returns-in_default-clause-evaluated : goal.unevaluated::add_target-returns-in_default-clause-evaluated
 unevaluated::add_target-returns-in_default-clause-evaluated t c =
     let root = view c.args.walk.ground.now.whole.now.root.now in
-    let s = view c.args.here.schema.now in
+    let s = view c.args.here.now.schema.now in
     let v = tree_of c.args.value.now in
     adds_none c.args.walk (λ a k. target_evaluates root c.args.keyword a s v k) _
     (λ g k. no_target_added root (answers_in c.args.walk g) s v c.args.keyword k
-    (ap (option_map (λ x. view x.now)) (sym c.in_default.is) ∙ c.in_ok-part.ensures))
+    (ap (option_map (λ x. view x.schema.now)) (sym c.in_default.is) ∙ c.in_ok-part.ensures))
 
 pub unevaluated::add_target-returns-clause-evaluated : goal.unevaluated::add_target-returns-clause-evaluated
 unevaluated::add_target-returns-clause-evaluated t c =
     let root = view c.args.walk.ground.now.whole.now.root.now in
-    let s = view c.args.here.schema.now in
+    let s = view c.args.here.now.schema.now in
     let v = tree_of c.args.value.now in
-    let r = view c.in-Some.part.now in
+    let r = view c.in-Some.part.schema.now in
     adds_as c.args.walk (λ a k. a.evaluates r v k) (λ a k. target_evaluates root c.args.keyword a s v k) _ _
     (λ g k. target_added root (answers_in c.args.walk g) s v r c.args.keyword k
-    (ap (option_map (λ x. view x.now)) (sym c.in-Some.is) ∙ c.in_ok-part.ensures)) c.in_ok-add_schema.ensures.evaluated
+    (ap (option_map (λ x. view x.schema.now)) (sym c.in-Some.is) ∙ c.in_ok-part.ensures)) c.in_ok-add_schema.ensures.evaluated

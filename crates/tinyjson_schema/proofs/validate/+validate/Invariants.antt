@@ -14,6 +14,9 @@ use Rattle.tinyjson_schema.proofs.validate.+validate.Given as goal
 abbrev pub decreases-violation_in : goal.decreases-violation_in
 decreases-violation_in l = 16 * l.walk.steps + 7
 
+abbrev pub decreases-violation_of : goal.decreases-violation_of
+decreases-violation_of l = 16 * l.walk.steps + 6
+
 abbrev pub decreases-is_accepted : goal.decreases-is_accepted
 decreases-is_accepted l = 16 * l.walk.steps + 8
 
@@ -119,9 +122,9 @@ invariant-in_found-loop-member l = (g : Answers) →
     found_pass (says l.walk g (view l.schema)) (chars l.pattern) (members_of (drop l.member-index l.members))
     ≡ found_pass (says l.walk g (view l.schema)) (chars l.pattern) (members_of l.members)
 
-abbrev pub invariant-in_members-loop-member : goal.invariant-in_members-loop-member
-invariant-in_members-loop-member l = (g : Answers) →
-    members_accepted (says l.walk g) (view l.here.schema.now) (members_of (drop l.member-index l.members))
+abbrev pub invariant-in_members-loop-near : goal.invariant-in_members-loop-near
+invariant-in_members-loop-near l = (g : Answers) →
+    members_accepted (says l.walk g) (view l.here.schema.now) (members_of (drop l.near l.members))
     ≡ members_accepted (says l.walk g) (view l.here.schema.now) (members_of l.members)
 
 abbrev pub invariant-in_items-loop-index : goal.invariant-in_items-loop-index

@@ -1,8 +1,8 @@
 use Rattle.std.proofs.Common.{sym, ◌∙◌}
 use Rattle.tinyjson.specs.View.{view}
-use Rattle.tinyjson_schema.proofs.Marks.{absent}
+use Rattle.tinyjson_schema_table.proofs.Callers.{absent}
 use Rattle.tinyjson_schema.proofs.applied.Applied.schema_at.Goals as goal
 
 pub returns-then-not-may_have : goal.returns-then-not-may_have
-returns-then-not-may_have c = sym (absent c.args.self.marks (view c.args.self.schema.now) c.args.keyword c.args.self.marked
+returns-then-not-may_have c = sym (absent c.args.self.now.marks (view c.args.self.now.schema.now) c.args.keyword c.args.self.now.marked
     (sym c.may_have.ensures ∙ c.if-not-may_have.true))

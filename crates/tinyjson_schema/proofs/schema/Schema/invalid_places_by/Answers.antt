@@ -3,6 +3,7 @@ use Rattle.std.specs.Prelude.{IfOk}
 use Rattle.tinyjson.specs.View.{view}
 use Rattle.tinyjson_schema.specs.Every.{AreNoneIfValid}
 use Rattle.tinyjson_schema.specs.Leads.{are_led}
+use Rattle.tinyjson_schema_table.proofs.Callers.{known_as}
 use Rattle.tinyjson_schema.specs.Reading.{root_in}
 use Rattle.tinyjson_schema.proofs.schema.Schema.invalid_places_by.Goals as goal
 
@@ -15,4 +16,6 @@ returns-clause-none g c =
 pub invariant_of-ground : goal.invariant_of-ground
 invariant_of-ground g c = record {
   led = ap (are_led (view c.args.self.now.whole.root.now)) c.as_slice.ensures.value ∙ c.args.self.now.led;
+  same = known_as (view c.args.self.now.table.schema.now) (view c.args.self.now.whole.root.now) c.first.result c.first.ensures
+      c.args.self.now.same;
 }

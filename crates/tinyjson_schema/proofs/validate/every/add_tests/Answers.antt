@@ -12,7 +12,7 @@ pub returns : goal.returns
 returns c g =
     let f = says c.args.walk g in
     let counted = c.in_ok-count.ensures g in
-    let s = view c.args.here.schema.now in
+    let s = view c.args.here.now.schema.now in
     let v = tree_of c.args.value.now in
     let q = λ (k : Keyword). applies f k s v in
     failing_next q kw.AnyOf (kw.OneOf ∷ kw.Not ∷ kw.PropertyNames ∷ counts) _ _ _ _

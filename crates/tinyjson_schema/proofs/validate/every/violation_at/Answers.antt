@@ -4,9 +4,12 @@ use Rattle.tinyjson_schema_keywords.specs.Names.{name}
 use Rattle.tinyjson_schema.proofs.Adding.{spot_at_tokens}
 use Rattle.tinyjson_schema.proofs.validate.every.violation_at.Goals as goal
 
-pub returns-in_ok-violation-in-Some : goal.returns-in_ok-violation-in-Some
-returns-in_ok-violation-in-Some c =
-    spot_at_tokens (name c.in-Some.keyword ∷ []) [] c.in_ok-violation-in-Some.violation c.in_ok-violation-in-Some.ensures
+pub returns-in_ok-enter_keyword-in-Some : goal.returns-in_ok-enter_keyword-in-Some
+returns-in_ok-enter_keyword-in-Some c =
+    let k = c.in-Some.keyword in
+    let at = c.in_ok-enter_keyword-in-Some.ensures in
+    let first = c.of_schema-violation.ensures in
+    spot_at_tokens (name k ∷ []) [] c.enter_keyword.new.self (at.0 ∙ (λ i. name k ∷ first.0 i), at.1 ∙ first.1)
     ∙ ap spot_at (sym c.in-Some.is)
 
 pub returns-in-None : goal.returns-in-None

@@ -11,14 +11,14 @@ use Rattle.tinyjson_schema.proofs.validate.uses.add_branch.Goals as goal
 pub returns-in_default : goal.returns-in_default
 returns-in_default c g =
     let f = says c.args.walk g in
-    let s = view c.args.here.schema.now in
+    let s = view c.args.here.now.schema.now in
     let v = tree_of c.args.value.now in
     uses_as [] (branch_uses f s v) _ _ (ap (λ o. option_map_or (λ r. uses_at (branch (f r v)) s v) o []) c.in_default.ensures) (uses_none _)
 
 pub returns-in_default-schema_at : goal.returns-in_default-schema_at
 returns-in_default-schema_at c g =
     let f = says c.args.walk g in
-    let s = view c.args.here.schema.now in
+    let s = view c.args.here.now.schema.now in
     let v = tree_of c.args.value.now in
     let k = c.branch-chosen.result in
     uses_as [] (branch_uses f s v) _ _
@@ -29,7 +29,7 @@ returns-in_default-schema_at c g =
 pub returns : goal.returns
 returns c g =
     let f = says c.args.walk g in
-    let s = view c.args.here.schema.now in
+    let s = view c.args.here.now.schema.now in
     let v = tree_of c.args.value.now in
     let k = c.branch-chosen.result in
     uses_as _ (branch_uses f s v) _ _

@@ -8,11 +8,11 @@ use Rattle.tinyjson_schema.proofs.validate.uses.add_members.Goals as goal
 
 pub loop-member-preserved : goal.loop-member-preserved
 loop-member-preserved c =
-    let s = view c.args.here.schema.now in
+    let s = view c.args.here.now.schema.now in
     gather_next (λ xs. member_uses s (members_of xs)) c.args.members.now c.loop-member.member-index _ c.member-item.result _ _
     (uses_of_member s (chars c.member-item.result.key.now) (tree_of c.member-item.result.value))
     c.loop-member-test.true c.member-item.is refl c.in_ok-add_member.ensures c.loop-member.invariant
 
 pub returns : goal.returns
-returns c = gather_end (λ xs. member_uses (view c.args.here.schema.now) (members_of xs)) c.args.members.now
+returns c = gather_end (λ xs. member_uses (view c.args.here.now.schema.now) (members_of xs)) c.args.members.now
     c.loop-member.member-index _ _ c.loop-member-test.false refl c.loop-member.invariant

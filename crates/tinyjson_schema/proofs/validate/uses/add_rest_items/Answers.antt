@@ -15,14 +15,14 @@ add_left_items-requires c = subst (AreWithin c.args.walk.steps) (sym c.as_slice.
 
 pub returns-in_default : goal.returns-in_default
 returns-in_default c g =
-    let s = view c.args.here.schema.now in
+    let s = view c.args.here.now.schema.now in
     let v = tree_of c.args.value.now in
     let q = others_evaluate (view c.args.walk.ground.now.whole.now.root.now) (answers_in c.args.walk g) s v in
     uses_as [] (rest_items q s v) _ _ (ap (λ o. option_map_or (λ r. left_items q r 0 (items_in v)) o []) c.in_default.ensures) (uses_none _)
 
 pub returns : goal.returns
 returns c g =
-    let s = view c.args.here.schema.now in
+    let s = view c.args.here.now.schema.now in
     let v = tree_of c.args.value.now in
     let r = view c.in-Some.rest.now in
     let q = others_evaluate (view c.args.walk.ground.now.whole.now.root.now) (answers_in c.args.walk g) s v in

@@ -12,14 +12,14 @@ use Rattle.tinyjson_schema.proofs.validate.uses.add_rest_members.Goals as goal
 
 pub returns-in_default : goal.returns-in_default
 returns-in_default c g =
-    let s = view c.args.here.schema.now in
+    let s = view c.args.here.now.schema.now in
     let v = tree_of c.args.value.now in
     let q = others_evaluate (view c.args.walk.ground.now.whole.now.root.now) (answers_in c.args.walk g) s v in
     uses_as [] (rest_members q s v) _ _ (ap (λ o. option_map_or (λ r. left_members q r (members_in v)) o []) c.in_default.ensures) (uses_none _)
 
 pub returns : goal.returns
 returns c g =
-    let s = view c.args.here.schema.now in
+    let s = view c.args.here.now.schema.now in
     let v = tree_of c.args.value.now in
     let r = view c.in-Some.rest.now in
     let q = others_evaluate (view c.args.walk.ground.now.whole.now.root.now) (answers_in c.args.walk g) s v in

@@ -9,13 +9,13 @@ use Rattle.tinyjson_schema.proofs.validate.uses.add_target.Goals as goal
 pub returns-in_default : goal.returns-in_default
 returns-in_default c =
     let v = tree_of c.args.value.now in
-    uses_as [] (target_uses (view c.args.walk.ground.now.whole.now.root.now) c.args.keyword (view c.args.here.schema.now) v) _ _
+    uses_as [] (target_uses (view c.args.walk.ground.now.whole.now.root.now) c.args.keyword (view c.args.here.now.schema.now) v) _ _
     (ap (λ o. option_map_or (λ r. same (word c.args.keyword ∷ []) r v ∷ []) o [])
-    (ap (option_map (λ x. view x.now)) (sym c.in_default.is) ∙ c.in_ok-part.ensures)) (uses_none _)
+    (ap (option_map (λ x. view x.schema.now)) (sym c.in_default.is) ∙ c.in_ok-part.ensures)) (uses_none _)
 
 pub returns : goal.returns
 returns c =
     let v = tree_of c.args.value.now in
-    uses_as _ (target_uses (view c.args.walk.ground.now.whole.now.root.now) c.args.keyword (view c.args.here.schema.now) v) _ _
+    uses_as _ (target_uses (view c.args.walk.ground.now.whole.now.root.now) c.args.keyword (view c.args.here.now.schema.now) v) _ _
     (ap (λ o. option_map_or (λ r. same (word c.args.keyword ∷ []) r v ∷ []) o [])
-    (ap (option_map (λ x. view x.now)) (sym c.in-Some.is) ∙ c.in_ok-part.ensures)) c.in_ok-add_if.ensures
+    (ap (option_map (λ x. view x.schema.now)) (sym c.in-Some.is) ∙ c.in_ok-part.ensures)) c.in_ok-add_if.ensures

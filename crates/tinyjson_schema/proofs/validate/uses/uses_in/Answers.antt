@@ -21,7 +21,7 @@ add_rest_items-requires c =
 
 pub returns : goal.returns
 returns c g =
-    let s = view c.args.here.schema.now in
+    let s = view c.args.here.now.schema.now in
     let v = tree_of c.args.value.now in
     let members = ap members_of c.as_slice-members.ensures.value ∙ (c.in_ok-named.ensures.listed ∙ same_members v) in
     let items = ap trees_of c.as_slice-items.ensures.value ∙ (c.in_ok-listed.ensures ∙ same_items v) in

@@ -1,5 +1,5 @@
-use Rattle.tinyjson_schema.proofs.Marks.{has_marks, no_marks}
-use Rattle.tinyjson_schema.proofs.applied.marks_of.Goals as goal
+use Rattle.tinyjson_schema_table.proofs.Marking.{has_marks, no_marks}
+use Rattle.tinyjson_schema_table.proofs.marks.marks_of.Goals as goal
 
 pub returns-in-Object : goal.returns-in-Object
 returns-in-Object c = has_marks c.marks_among.result c.args.schema.now c.in-Object.members c.in-Object.is c.marks_among.ensures

@@ -18,7 +18,7 @@ use Rattle.tinyjson_schema_keywords.proofs.Callers.{name_ascii}
 use Rattle.tinyjson_schema_keywords.specs.Applied.{schema_at}
 use Rattle.tinyjson_schema_keywords.specs.Names.{name}
 use Rattle.tinyjson_schema_keywords.specs.declared.keyword.Keyword.{Keyword}
-use Rattle.tinyjson_schema.specs.Marks.{mark, HasMarks}
+use Rattle.tinyjson_schema_table.specs.Marks.{mark, HasMarks}
 
 unset : (n i : ℕ) → (bit_at n i == 1) ≡ false → bit_at n i ≡ 0
 unset n i h = by (bit_at n i) (bit_at-lt n i) h

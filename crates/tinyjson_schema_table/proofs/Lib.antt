@@ -1,0 +1,4 @@
+pub mod Callers
+pub mod Givens
+pub mod Links
+pub mod Marking

@@ -1,0 +1,4 @@
+pub mod Givens
+pub mod Links
+pub mod Marks
+pub mod Places

@@ -1,0 +1,20 @@
+//! The subschemas of a schema in a table, each with what a check looks up in it.
+//!
+//! ```
+//! let table = Table::of(&schema, alloc)?;
+//! let known = table.first();
+//! ```
+#![tactic(auto)]
+
+mod given;
+mod known;
+mod link;
+mod marks;
+mod shape;
+mod table;
+
+pub use given::{Given, assertions, unmet_given};
+pub use known::{known_item, known_property};
+pub use marks::{mark_of, marks_of};
+pub use shape::Shape;
+pub use table::{Known, Table};
