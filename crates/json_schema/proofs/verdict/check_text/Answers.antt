@@ -7,15 +7,15 @@ use Rattle.json_schema.specs.Verdicts.{judged, depth_limit}
 use Rattle.json_schema.proofs.Verdicts.{text_read, no_text, gives_of_value}
 use Rattle.json_schema.proofs.verdict.check_text.Goals as goal
 
-pub check_value-requires : goal.check_value-requires
-check_value-requires c = subst (IsText depth_limit (chars c.args.text.now)) (sym c.root.ensures)
+pub check_value-verdict-requires : goal.check_value-verdict-requires
+check_value-verdict-requires c = subst (IsText depth_limit (chars c.args.text.now)) (sym c.root.ensures)
     (text_read depth_limit (chars c.args.text.now) c.in-Ok.document c.in-Ok.ensures)
 
 pub returns-in-Ok : goal.returns-in-Ok
 returns-in-Ok c =
     let xs = chars c.args.text.now in
-    gives_of_value (judged c.args.judge) xs (tree c.root.result) c.check_value.result
-    (subst (IsText depth_limit xs) (sym c.root.ensures) (text_read depth_limit xs c.in-Ok.document c.in-Ok.ensures)) c.check_value.ensures
+    gives_of_value (judged c.args.judge) xs (tree c.root.result) c.check_value-verdict.result
+    (subst (IsText depth_limit xs) (sym c.root.ensures) (text_read depth_limit xs c.in-Ok.document c.in-Ok.ensures)) c.check_value-verdict.ensures
 
 pub returns-else-is_out_of_memory : goal.returns-else-is_out_of_memory
 returns-else-is_out_of_memory c =
