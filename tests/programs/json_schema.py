@@ -1201,6 +1201,9 @@ HOSTILE = [
     ('{"patternProperties":{%s}}' % ",".join(f'"^{i}$":{{}}' for i in range(2_000)), json.dumps({f"a{i}": 0 for i in range(4_000)}), TOO_MUCH),
     # Each member is looked up in each schema.
     ('{"allOf":[%s],"unevaluatedProperties":{"type":"integer"}}' % ",".join(f'{{"properties":{{"a{i}":{{}}}}}}' for i in range(3_000)), json.dumps({f"b{i}": 0 for i in range(3_000)}), TOO_MUCH),
+    # Each number is divided by one of 904 digits.
+    ('{"items":{"multipleOf":%d}}' % 2**3000, "[" + "1e9999," * 3_000 + "1e9999]", TOO_MUCH),
+    ('{"items":{"multipleOf":%d}}' % 2**3000, "[" + "1e9999," * 100 + "1e9999]", judged(None)),
     # A long text with eight schemas an item is no such one.
     ('{"items":{"$ref":"#/$defs/a"},"$defs":{%s"g":{"minimum":0}}}' % "".join(f'"{a}":{{"$ref":"#/$defs/{b}"}},' for a, b in zip("abcdef", "bcdefg")), "[" + "0," * 700_000 + "0]", judged(None)),
 ]
