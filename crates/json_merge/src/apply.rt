@@ -1,14 +1,17 @@
 //! Applies merge patches to texts.
-ghost use Rattle.std.specs.Prelude.{◌≡◌, IfOk, false, map};
+ghost use Rattle.std.specs.Prelude.{◌≡◌, ◌∷◌, ℕ, List, IfOk, None, false, map, true};
+ghost use Rattle.tinyjson.specs.Events.{TellsText};
 ghost use Rattle.tinyjson.specs.Written.{WritesPrefix};
 ghost use Rattle.tinyjson_cli.specs.Layout.{laid_out};
 ghost use Rattle.tinyjson_cli.specs.Texts.{Answers};
-ghost use Rattle.tinyjson_document.specs.Document.{document_tree, tree};
+ghost use Rattle.tinyjson_document.specs.Document.{document_tree, HasTree, tree};
 ghost use Rattle.tinyjson_patch.specs.Merge.{merge_patch};
-ghost use Rattle.json_merge.specs.Apply.{GivesMerged, GivesMergedOf, all_merged};
+ghost use Rattle.json_merge.specs.Apply.{GivesMerged, all_merged};
 
 use std::alloc::{AllocError, Global};
 use std::io::{self, Write};
+use tinyjson::JsonParseError;
+use tinyjson_buffers::Buffers;
 use tinyjson_cli::{NoAnswer, TextAnswer};
 use tinyjson_document::{Document, Node};
 use tinyjson_lines::Cause;
@@ -22,6 +25,8 @@ pub struct Asked<'a> {
     pub patches: &'a [Document],
     /// Whether the text of the result is indented with two spaces.
     pub is_indented: bool,
+    /// The memory that the texts are read into, one after another.
+    pub buffers: &'a Buffers,
 }
 
 /// ```
@@ -37,83 +42,112 @@ impl TextAnswer for Asked<'_> {
         text: &str,
         output: &mut W,
     ) -> io::Result<Option<NoAnswer>> {
-        match Document::read(alloc, text) {
-            Ok(document) => answer_document(alloc, *self, document, output),
-            Err(error) => {
-                if error.is_out_of_memory() {
-                    return Err(error.into());
-                }
-                Ok(Some(NoAnswer::Refused(Cause::NotJson(error))))
+        let read = self.buffers.read(text);
+        let answered = answer_read(alloc, *self, &read, output);
+        if let Ok(document) = read {
+            self.buffers.recycle(document);
+        }
+        answered
+    }
+}
+
+/// Answers for what was read of a text.
+fn answer_read<W: Write>(
+    alloc: Global,
+    asked: Asked<'_>,
+    read: &Result<Document, JsonParseError>,
+    output: &mut W,
+) -> io::Result<Option<NoAnswer>>
+    ensures { (text : List ℕ) → TellsText HasTree None text read.now
+        → Answers (GivesMerged asked.entry.is_indented
+        (map document_tree asked.entry.patches.now) text)
+        (W.contents output.old) (W.contents output.new) result }
+{
+    match read {
+        Ok(document) => {
+            write_text(alloc, asked, document.root(), output)?;
+            Ok(None)
+        }
+        Err(error) => {
+            if error.is_out_of_memory() {
+                return Err((*error).into());
             }
+            Ok(Some(NoAnswer::Refused(Cause::NotJson(*error))))
         }
     }
 }
 
-/// Writes the text of a document with the patches applied.
-fn answer_document<W: Write>(
-    alloc: Global,
-    asked: Asked<'_>,
-    document: Document,
-    output: &mut W,
-) -> io::Result<Option<NoAnswer>>
-    ensures { Answers (GivesMergedOf asked.entry.is_indented
-        (map document_tree asked.entry.patches.now) (document_tree document))
-        (W.contents output.old) (W.contents output.new) result }
-{
-    write_text(alloc, asked, document, output)?;
-    Ok(None)
-}
-
-/// Writes the text of a document with the patches applied, compact or indented, and a line feed.
+/// Writes the text of a value with the patches applied, compact or indented, and a line feed.
 fn write_text<W: Write>(
     alloc: Global,
     asked: Asked<'_>,
-    document: Document,
+    value: Node<'_>,
     output: &mut W,
 ) -> io::Result<()>
     ensures { WritesPrefix (W.contents output.old) (W.contents output.new)
         (laid_out asked.entry.is_indented
-        (all_merged (document_tree document) (map document_tree asked.entry.patches.now)))
+        (all_merged (tree value.entry) (map document_tree asked.entry.patches.now)))
         result }
 {
     if asked.is_indented {
-        let merged = merge_all(alloc, document, asked.patches)?;
-        return merged.root().format_line_to(alloc, output);
+        return write_indented(alloc, value, asked.patches, output);
     }
-    write_compact(alloc, document, asked.patches, output)
+    write_compact(alloc, value, asked.patches, output)
 }
 
-/// The document with the patches applied, in order. The only error is out of memory.
+/// A value with patches applied, in order. The only error is out of memory.
 fn merge_all(
     alloc: Global,
-    document: Document,
-    patches: &[Document],
+    value: Node<'_>,
+    first: &Document,
+    others: &[Document],
 ) -> Result<Document, AllocError>
-    ensures { IfOk result (λ d. document_tree d
-        ≡ all_merged (document_tree document) (map document_tree patches.now)) }
+    ensures { IfOk result (λ d. document_tree d ≡ all_merged (tree value.entry)
+        (document_tree first.now ∷ map document_tree others.now)) }
 {
-    let mut merged = document;
-    for patch in patches {
+    let mut merged = merge_documents(alloc, value, first.root())?;
+    for patch in others {
         merged = merge_documents(alloc, merged.root(), patch.root())?;
     }
     Ok(merged)
 }
 
-/// Writes the compact text of a document with the patches applied, and a line feed.
-fn write_compact<W: Write>(
+/// Writes the indented text of a value with the patches applied, and a line feed.
+fn write_indented<W: Write>(
     alloc: Global,
-    document: Document,
+    value: Node<'_>,
     patches: &[Document],
     output: &mut W,
 ) -> io::Result<()>
     ensures { WritesPrefix (W.contents output.old) (W.contents output.new)
-        (laid_out false (all_merged (document_tree document) (map document_tree patches.now)))
+        (laid_out true (all_merged (tree value.entry) (map document_tree patches.now)))
+        result }
+{
+    let Some((first, others)) = patches.split_first() else {
+        return value.format_line_to(alloc, output);
+    };
+    let merged = merge_all(alloc, value, first, others)?;
+    merged.root().format_line_to(alloc, output)
+}
+
+/// Writes the compact text of a value with the patches applied, and a line feed.
+fn write_compact<W: Write>(
+    alloc: Global,
+    value: Node<'_>,
+    patches: &[Document],
+    output: &mut W,
+) -> io::Result<()>
+    ensures { WritesPrefix (W.contents output.old) (W.contents output.new)
+        (laid_out false (all_merged (tree value.entry) (map document_tree patches.now)))
         result }
 {
     let Some((last, others)) = patches.split_last() else {
-        return document.root().write_line_to(alloc, output);
+        return value.write_line_to(alloc, output);
     };
-    let merged = merge_all(alloc, document, others)?;
+    let Some((first, others)) = others.split_first() else {
+        return write_merged(alloc, value, last.root(), output);
+    };
+    let merged = merge_all(alloc, value, first, others)?;
     write_merged(alloc, merged.root(), last.root(), output)
 }
 

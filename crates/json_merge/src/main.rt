@@ -10,6 +10,7 @@ use apply::Asked;
 use options::{PATCHES, Request, requested};
 use reading::read_patches;
 use std::process::ExitCode;
+use tinyjson_buffers::Buffers;
 use tinyjson_cli::{
     HELP, INDENT, LINES, MAX_LINE, Misuse, Program, Status, VERSION, answer_texts, argument_words,
     arguments_of, misused, report,
@@ -79,9 +80,11 @@ fn run(rt: &HostRuntime) -> Result<Status, Status> {
     };
     match read_patches(rt, patches) {
         Ok(patches) => {
+            let buffers = Buffers::new(rt.alloc());
             let asked = Asked {
                 patches: patches.as_slice(),
                 is_indented,
+                buffers: &buffers,
             };
             if arguments.has(b'I') {
                 return Ok(answer_in_place(rt, PROGRAM, texts, files, &asked));

@@ -2,7 +2,7 @@
 ghost use Rattle.std.specs.Prelude.{◌≡◌, ℕ, List, None, Some, true, false, length, string_bytes};
 ghost use Rattle.std.specs.Str.{chars};
 ghost use Rattle.tinyjson.specs.Events.{TellsText};
-ghost use Rattle.tinyjson_document.specs.Document.{document_tree, tree, HasTree};
+ghost use Rattle.tinyjson_document.specs.Document.{tree, HasTree};
 ghost use Rattle.tinyjson_patch.specs.Patch.{actions_of};
 ghost use Rattle.json_patch.specs.Apply.{Answers, GivesPatched, GivesPatchedOf, GivesWithin};
 ghost use Rattle.json_patch.specs.Apply.{TellsFailure, copy_limit, unanswered_message};
@@ -11,6 +11,7 @@ use std::alloc::Global;
 use std::fmt;
 use std::io::{self, ErrorKind, Write};
 use tinyjson::JsonParseError;
+use tinyjson_buffers::Buffers;
 use tinyjson_document::{Document, Node};
 use tinyjson_edit::{EditError, patch_document, write_patched};
 use tinyjson_lines::write_all;
@@ -28,6 +29,8 @@ pub struct Asked<'a> {
     pub patch: &'a Patch,
     /// Whether the text of the result is indented with two spaces.
     pub is_indented: bool,
+    /// The memory that the texts are read into, one after another.
+    pub buffers: &'a Buffers,
 }
 
 /// Why a text has no answer.
@@ -71,7 +74,12 @@ pub fn write_answer<W: Write>(
         (chars text.now)) (W.contents output.old) (W.contents output.new) result }
 {
     let most = copies_for(text.len());
-    answer_read(alloc, asked, Document::read(alloc, text), most, output)
+    let read = asked.buffers.read(text);
+    let answered = answer_read(alloc, asked, &read, most, output);
+    if let Ok(document) = read {
+        asked.buffers.recycle(document);
+    }
+    answered
 }
 
 /// Does as [`write_answer`], for a text that is given up: its document keeps it.
@@ -90,7 +98,13 @@ pub fn write_owned_answer<W: Write>(
         (chars (string_bytes text))) (W.contents output.old) (W.contents output.new) result }
 {
     let most = copies_for(text.len());
-    answer_read(alloc, asked, Document::of_text(alloc, text), most, output)
+    answer_read(
+        alloc,
+        asked,
+        &Document::of_text(alloc, text),
+        most,
+        output,
+    )
 }
 
 /// How many values the copies of a patch may copy, by the number of bytes that the text has.
@@ -104,39 +118,38 @@ fn copies_for(length: usize) -> usize
 fn answer_read<W: Write>(
     alloc: Global,
     asked: Asked<'_>,
-    read: Result<Document, JsonParseError>,
+    read: &Result<Document, JsonParseError>,
     most: usize,
     output: &mut W,
 ) -> io::Result<Option<Unanswered>>
-    ensures { (text : List ℕ) → TellsText HasTree None text read
+    ensures { (text : List ℕ) → TellsText HasTree None text read.now
         → Answers (GivesWithin most asked.entry.is_indented
         (actions_of asked.entry.patch.now) text) (W.contents output.old) (W.contents output.new)
         result }
 {
     match read {
-        Ok(document) => answer_document(alloc, asked, document, most, output),
+        Ok(document) => answer_value(alloc, asked, document.root(), most, output),
         Err(error) => {
             if error.is_out_of_memory() {
-                return Err(error.into());
+                return Err((*error).into());
             }
-            Ok(Some(Unanswered::Refused(error)))
+            Ok(Some(Unanswered::Refused(*error)))
         }
     }
 }
 
-/// Writes the text of a document with the patch applied.
-fn answer_document<W: Write>(
+/// Writes the text of a value with the patch applied.
+fn answer_value<W: Write>(
     alloc: Global,
     asked: Asked<'_>,
-    document: Document,
+    value: Node<'_>,
     most: usize,
     output: &mut W,
 ) -> io::Result<Option<Unanswered>>
     ensures { Answers (GivesPatchedOf most asked.entry.is_indented
-        (actions_of asked.entry.patch.now) (document_tree document)) (W.contents output.old)
+        (actions_of asked.entry.patch.now) (tree value.entry)) (W.contents output.old)
         (W.contents output.new) result }
 {
-    let value = document.root();
     if asked.is_indented {
         return answer_indented(alloc, asked.patch, value, most, output);
     }

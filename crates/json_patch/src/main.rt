@@ -11,6 +11,7 @@ use apply::Asked;
 use options::{Request, requested};
 use reading::read_patch;
 use std::process::ExitCode;
+use tinyjson_buffers::Buffers;
 use tinyjson_cli::{
     HELP, INDENT, LINES, MAX_LINE, Misuse, Program, Status, VERSION, answer_files, answer_texts,
     argument_words, arguments_of, misused, report,
@@ -82,9 +83,11 @@ fn run(rt: &HostRuntime) -> Result<Status, Status> {
     };
     match read_patch(rt, patch) {
         Ok(patch) => {
+            let buffers = Buffers::new(rt.alloc());
             let asked = Asked {
                 patch: &patch,
                 is_indented,
+                buffers: &buffers,
             };
             if arguments.has(b'I') {
                 return Ok(answer_in_place(rt, PROGRAM, texts, files, &asked));

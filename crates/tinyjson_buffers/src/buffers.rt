@@ -7,7 +7,6 @@ ghost use Rattle.tinyjson_document.specs.Document.{HasTree};
 use crate::memory::Memory;
 use std::alloc::Global;
 use std::cell::RefCell;
-use std::mem;
 use tinyjson::JsonParseError;
 use tinyjson_document::Document;
 
@@ -60,42 +59,18 @@ impl Buffers {
 
     /// Gives the memory of a document to the one that is read next.
     pub fn recycle(&self, document: Document) {
-        let mut memory = self.take();
-        memory.take_store(document.into_store());
-        self.put(memory);
+        if let Ok(mut memory) = self.memory.try_borrow_mut() {
+            memory.take_store(document.into_store());
+        }
     }
 
     /// Parses a text. There may be a limit on nested containers.
     fn read_limited(&self, limit: Option<usize>, text: &str) -> Result<Document, JsonParseError>
         ensures { TellsText HasTree limit (chars text.now) result }
     {
-        let mut memory = self.take();
-        let source = memory.copy_of(text.as_bytes());
-        match memory.build(limit, text, source.as_slice()) {
-            Ok(built) => {
-                self.put(memory);
-                Ok(Document::over(built, source))
-            }
-            Err(error) => {
-                memory.source = source;
-                self.put(memory);
-                Err(error)
-            }
-        }
-    }
-
-    /// Takes the memory out.
-    fn take(&self) -> Memory {
         match self.memory.try_borrow_mut() {
-            Ok(mut memory) => mem::replace(&mut *memory, Memory::new(self.alloc)),
-            Err(_) => Memory::new(self.alloc),
-        }
-    }
-
-    /// Puts memory back.
-    fn put(&self, memory: Memory) {
-        if let Ok(mut kept) = self.memory.try_borrow_mut() {
-            *kept = memory;
+            Ok(mut memory) => memory.read(limit, text),
+            Err(_) => Memory::new(self.alloc).read(limit, text),
         }
     }
 }

@@ -2,12 +2,14 @@
 ghost use Rattle.std.specs.Prelude.{◌≡◌, []};
 ghost use Rattle.std.specs.Str.{chars};
 ghost use Rattle.tinyjson.specs.Events.{TellsText, without_events};
+ghost use Rattle.tinyjson_document.specs.Document.{HasTree};
 ghost use Rattle.tinyjson_document.specs.Holding.{Holds, HoldsOver, IsBuilt, IsTreeOver};
 ghost use Rattle.tinyjson_document.specs.Texts.{source_bytes};
 
 use std::alloc::Global;
 use std::mem;
 use tinyjson::{JsonParseError, read_events, read_events_with_depth_limit};
+use tinyjson_document::Document;
 use tinyjson_document::arena::{Arena, Built, Pending};
 use tinyjson_document::store::Store;
 use tinyjson_document::texts::{Source, Texts};
@@ -16,7 +18,7 @@ use tinyjson_document::texts::{Source, Texts};
 #[derive(Drop)]
 pub struct Memory {
     /// The text that a document keeps.
-    pub source: Vec<u8>,
+    source: Vec<u8>,
     store: Store<'static>,
     pending: Pending,
     alloc: Global,
@@ -40,8 +42,22 @@ impl Memory {
         }
     }
 
+    /// Parses a text. There may be a limit on nested containers.
+    pub fn read(&mut self, limit: Option<usize>, text: &str) -> Result<Document, JsonParseError>
+        ensures { TellsText HasTree limit (chars text.now) result }
+    {
+        let source = self.copy_of(text.as_bytes());
+        match self.build(limit, text, source.as_slice()) {
+            Ok(built) => Ok(Document::over(built, source)),
+            Err(error) => {
+                self.source = source;
+                Err(error)
+            }
+        }
+    }
+
     /// A copy of a text for a document to keep, or nothing where memory runs out.
-    pub fn copy_of(&mut self, text: &[u8]) -> Vec<u8> {
+    fn copy_of(&mut self, text: &[u8]) -> Vec<u8> {
         let mut copy = emptied(self.alloc, &mut self.source);
         if copy.extend_from_slice(text).is_err() {
             copy.clear();
@@ -51,7 +67,7 @@ impl Memory {
 
     /// What is built of a text over these bytes, of which its strings, keys and short numbers may be ranges. There may
     /// be a limit on nested containers.
-    pub fn build(
+    fn build(
         &mut self,
         limit: Option<usize>,
         text: &str,
@@ -96,7 +112,8 @@ impl Memory {
             keys: emptied(alloc, &mut pending.keys),
             values: emptied(alloc, &mut pending.values),
             gathered: emptied(alloc, &mut pending.gathered),
-            ranks: emptied(alloc, &mut pending.ranks),
+            // The next text has the same keys, if the texts are alike.
+            ranks: mem::replace(&mut pending.ranks, Vec::new(alloc)),
             sorted: emptied(alloc, &mut pending.sorted),
             deepest: 0,
         }

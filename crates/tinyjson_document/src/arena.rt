@@ -34,7 +34,7 @@ pub struct Arena<'t> {
     pub values: Vec<Cell>,
     /// The members of the object that is being closed.
     pub gathered: Vec<Member>,
-    /// The order of the members of the last object, and those members.
+    /// The orders of the members of the last objects, and the members of the last one.
     pub ranks: Vec<u64>,
     pub sorted: Vec<Member>,
     /// The greatest number of containers that were open at once.

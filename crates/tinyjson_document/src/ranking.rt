@@ -11,12 +11,15 @@ use crate::texts::Texts;
 use std::alloc::AllocError;
 use tinyjson_bytes::{Keys, place_mask, rank};
 
-/// Up to this many members are sorted without ranks, unless the object before had as many keys.
-const FEW: usize = 32;
+/// For each number of members up to this one, the ranks have a place of their own.
+const FEW: usize = 16;
+
+/// In the place of the first rank: the last object with as many members had equal keys.
+const EQUAL_KEYS: u64 = u64::MAX;
 
 /// Keeps the members in the order of their keys; of equal keys only the last. It first tries the order of
-/// the last object, which the ranks have, since many objects of a text have the same keys. If that object
-/// had equal keys, there are no ranks, and few members are simply sorted.
+/// the last object with as many members, which the ranks have, since many objects of a text have the same
+/// keys. Few members are simply sorted if there was no such object, or if it had equal keys.
 pub fn keep_ordered(
     texts: &Texts<'_>,
     members: &mut Vec<Member>,
@@ -26,21 +29,23 @@ pub fn keep_ordered(
     ensures { OnOk result ((ns : List Pair) × IsOrdered texts.now members.old.items ns
         × (kept.new.items ≡ lasts texts.now ns)) }
 {
-    if keep_rising(texts, members, ranks, kept)? {
+    let from = members.len().min(FEW + 1) * FEW;
+    let to = from.saturating_add(members.len());
+    if keep_rising(texts, members, ranks.get(from..to).unwrap_or(&[]), kept)? {
         return Ok(());
     }
-    if members.len() > FEW || !ranks.is_empty() {
-        rank_members(texts, members, ranks)?;
-        if keep_rising(texts, members, ranks, kept)? {
+    if members.len() > FEW || ranks.get(from).is_some_and(|rank| *rank != EQUAL_KEYS) {
+        rank_members(texts, members, ranks, from)?;
+        if keep_rising(texts, members, ranks.get(from..to).unwrap_or(&[]), kept)? {
             return Ok(());
         }
     }
     sort(texts, members)?;
     kept.clear();
     push_lasts(texts, kept, members)?;
-    ranks.clear();
-    if kept.len() == members.len() {
-        ranks.push(0)?;
+    ranks.resize(ranks.len().max(to), 0)?;
+    if let Some(first) = ranks.get_mut(from) {
+        *first = if kept.len() == members.len() { 0 } else { EQUAL_KEYS };
     }
     Ok(())
 }
@@ -78,19 +83,23 @@ fn pick(members: &[Member], ranks: &[u64], kept: &mut Vec<Member>) -> Result<(),
     Ok(())
 }
 
-/// Ranks the members by their keys.
+/// Ranks the members by their keys. Their ranks begin at `from`.
 fn rank_members(
     texts: &Texts<'_>,
     members: &[Member],
     ranks: &mut Vec<u64>,
+    from: usize,
 ) -> Result<(), AllocError> {
-    ranks.clear();
-    ranks.reserve(members.len())?;
-    for place in 0..members.len() {
-        ranks.push(place as u64)?;
+    let to = from.saturating_add(members.len());
+    ranks.resize(ranks.len().max(to), 0)?;
+    let Some(ranks) = ranks.as_mut_slice().get_mut(from..to) else {
+        return Ok(());
+    };
+    for (place, rank) in ranks.iter_mut().enumerate() {
+        *rank = place as u64;
     }
     let mask = place_mask(members.len());
-    rank(ranks.as_mut_slice(), mask, &MemberKeys { texts, members });
+    rank(ranks, mask, &MemberKeys { texts, members });
     Ok(())
 }
 

@@ -210,7 +210,7 @@ impl<'t> Store<'t> {
     }
 
     /// Appends the members of an object in the order of their keys; of those with equal keys, only the last. The
-    /// ranks have the order of the object before ([`keep_ordered`]).
+    /// ranks have the orders of objects before ([`keep_ordered`]).
     pub fn add_object(
         &mut self,
         members: &mut Vec<Member>,

@@ -1,21 +1,20 @@
-use Rattle.std.proofs.Common.{◌≡◌, None, Err, subst, sym}
+use Rattle.std.proofs.Common.{◌≡◌, ◌∙◌, None, Err, subst, sym}
 use Rattle.std.proofs.KnownBytes.{Keeps-refl}
 use Rattle.std.proofs.lemmas.Bool.{false≢true}
 use Rattle.tinyjson.specs.Error.{error_kind}
 use Rattle.tinyjson.specs.Events.{TellsText}
 use Rattle.tinyjson.specs.Grammar.{IsText}
 use Rattle.tinyjson.specs.JsonParseErrorKind.TheVariants as kind
-use Rattle.tinyjson_document.specs.Document.{document_tree, HasTree}
+use Rattle.tinyjson_document.specs.Document.{tree, HasTree}
 use Rattle.tinyjson_patch.specs.Patch.{actions_of}
 use Rattle.json_patch.proofs.Applying.{of_text}
 use Rattle.json_patch.proofs.apply.answer_read.Goals as goal
 
 pub returns-in-Ok : goal.returns-in-Ok
 returns-in-Ok g c = λ text told.
-    let document = c.in-Ok.document in
     let h = (subst (TellsText HasTree None text) c.in-Ok.is told).answer in
-    of_text c.args.most c.args.asked.is_indented (actions_of c.args.asked.patch.now) (document_tree document) _ _ text
-    c.answer_document.result (subst (IsText None text) (sym h.3) h.2) c.answer_document.ensures
+    of_text c.args.most c.args.asked.is_indented (actions_of c.args.asked.patch.now) (tree c.root.result) _ _ text
+    c.answer_value.result (subst (IsText None text) (sym (c.root.ensures ∙ h.3)) h.2) c.answer_value.ensures
 
 pub returns-else-is_out_of_memory : goal.returns-else-is_out_of_memory
 returns-else-is_out_of_memory g c = λ text told.
