@@ -1,6 +1,6 @@
 """The programs that answer, change and compare: what is run over records, and the table of it.
 
-Each is timed beside `jsonnorm` on the same text, in turn. A row says how many times as long it takes, and its peak memory
+Each is timed beside `jsonnorm`, or `json_lines`, on the same text, in turn. A row says how many times as long it takes, and its peak memory
 over the text's size; and so for `jq`, where it can do the same.
 """
 
@@ -14,10 +14,12 @@ import programs
 import results
 
 TITLE = "Programs"
+# What the program is called that the others are beside.
+BASE = "base"
 # How many operations a patch has, and how many of the records a merge changes.
 CHANGES = 2_000
 ABOUT = (
-    "Texts of records are read and answered. Each cell has how many times as long as `jsonnorm` a program takes for the text"
+    "Texts of records are read and answered. Each cell has how many times as long as `jsonnorm` (for lines `json_lines`) a program takes for the text"
     " (processor time, the least of {runs} runs in turn), and behind it its peak memory over the text's size."
     f" Patch, merge and differences have {CHANGES:,} changes."
 )
@@ -30,6 +32,7 @@ def by_number(source):
 
 ARRAY = inputs.Input("array", inputs.LARGE.make)
 OBJECT = inputs.Input("object", by_number)
+LINES = inputs.Input("lines", inputs.long_lines, mode="lines")
 
 
 @dataclasses.dataclass(frozen=True)
@@ -54,6 +57,10 @@ RUNS = [
     Run(("json_patch", "patch.json"), ARRAY),
     Run(("json_diff", "changed.json"), ARRAY),
     Run(("json_diff", "-m", "merged.json"), OBJECT),
+    Run(("json_path", "-l", "$.name"), LINES, ("-c", "[.name]")),
+    Run(("json_path", "-l", "$"), LINES, ("-c", "[.]")),
+    Run(("json_patch", "-l", "line.json"), LINES),
+    Run(("json_merge", "-l", "name.json"), LINES, ("-S", "-c", "--slurpfile", "patch", "name.json", ". * $patch[0]")),
 ]
 
 
@@ -71,6 +78,8 @@ def write_files(work):
         "patch.json": [{"op": "replace", "path": f"/{number}/name", "value": name} for number, name in names.items()],
         "merged.json": merged,
         "changed.json": list(merged.values()),
+        "line.json": [{"op": "replace", "path": "/name", "value": "other"}],
+        "name.json": {"name": "other"},
     }
     for name, value in files.items():
         (work / name).write_text(inputs.compact(value))
@@ -92,7 +101,7 @@ def command_of(work, folder, words):
 
 @dataclasses.dataclass(frozen=True)
 class Row:
-    """A run with its times and memory beside those of `jsonnorm`, and those of `jq`."""
+    """A run with its times and memory beside those of the base, and those of `jq`."""
 
     run: Run
     size: int
@@ -116,24 +125,24 @@ HEADS = ("program", "records in one", "MB", "itself", "jq")
 def commands(work, folder, given):
     """The programs that are timed over a text, each with its command."""
     chosen = [run for run in RUNS if run.given is given]
-    found = {"jsonnorm": command_of(work, folder, ("jsonnorm",))}
+    found = {BASE: command_of(work, folder, ("json_lines" if given is LINES else "jsonnorm",))}
     found |= {run.name(): command_of(work, folder, run.words) for run in chosen}
     if jq := shutil.which("jq"):
         found |= {f"jq {run.name()}": [jq, *placed(work, run.jq)] for run in chosen if run.jq}
-    return {name: {"text": command} for name, command in found.items()}
+    return {name: {given.mode: command} for name, command in found.items()}
 
 
 def rows(work, folder, runs):
     """Measures the runs over each text, and shows each row as it is done."""
     write_files(work)
-    for given in (ARRAY, OBJECT):
+    for given in (ARRAY, OBJECT, LINES):
         path = inputs.write_input(work, given)
         measured = programs.least(commands(work, folder, given), given, path, runs)
         for run in RUNS:
             if run.given is given:
                 if run.name() not in measured:
                     sys.exit(f"{run.name()}: it ended otherwise than it should")
-                names = ("jsonnorm", run.name(), f"jq {run.name()}")
+                names = (BASE, run.name(), f"jq {run.name()}")
                 yield Row(run, path.stat().st_size, *map(measured.get, names))
 
 

@@ -173,20 +173,6 @@ EVERYDAY = [
 ]
 
 
-def tenfold(given):
-    """The input ten times in an array: what a program takes for its start hardly counts then."""
-
-    def ten(random):
-        value = given.make(random)
-        text = value if isinstance(value, str) else compact(value)
-        return array_of([text.strip()] * 10)
-
-    return Input(given.name, ten)
-
-
-TENFOLD = [tenfold(one) for one in EVERYDAY]
-
-
 # ---- classes of text
 
 
@@ -270,6 +256,11 @@ def refused_late(random):
 def refused_after(blank):
     """White space, and then a character that begins no value."""
     return lambda _random: blank * (3_000_000 // len(blank)) + "x"
+
+
+def long_lines(random):
+    """100,000 records of some 300 bytes, each on a line."""
+    return "".join(compact(record(random) | {"note": words_of(random, 25)}) + "\n" for _ in range(100_000))
 
 
 def lines(random):

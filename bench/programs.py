@@ -80,10 +80,12 @@ READERS = {
     "json": (
         "json",
         "json::{Scratch, Value}",
-        "let mut scratch = Scratch::new(alloc);\n    let Ok(_read) = Value::parse(alloc, text.as_str(), &mut scratch)",
+        "let mut scratch = Scratch::new(alloc);\n            let Ok(_read) = Value::parse(alloc, text.as_str(), &mut scratch)",
     ),
     "serde_json": ("serde_json", "serde_json::Value", "let Ok(_read) = Value::from_str(alloc, text.as_str())"),
 }
+# How many copies of a text they parse one after another.
+COPIES = 8
 # What a program over `tinyjson` or `tinyjson_document` needs, the lowest first.
 LIBRARIES = (
     "tinyjson_bytes",
@@ -171,10 +173,11 @@ def own(name, work, folder):
 
 
 def readers(work, folder):
-    """The programs of READERS."""
+    """The programs of READERS. One parses its text once, or some copies of it, or makes these copies and parses none."""
     whole = (OWN / "read.rt.txt").read_text()
     for name, (library, taken, read) in READERS.items():
-        yield name, alone(f"read_{name}", library, whole.replace("{TYPE}", taken).replace("{READ}", read), work, folder)
+        built = alone(f"read_{name}", library, whole.replace("{TYPE}", taken).replace("{READ}", read), work, folder)["text"]
+        yield name, {"text": [*built, "read"], "copies": [*built, *["read"] * COPIES], "none": [*built, *["keep"] * COPIES]}
 
 
 def records(work, folder):
@@ -227,13 +230,25 @@ def measure(command, path, is_refused):
 
 
 def least(programs, given, path, runs):
-    """The least processor time and the least peak of each program, which run in turn, where it can do it."""
-    seen = {name: [] for name, program in programs.items() if given.mode in program}
+    """The least processor time and the least peak of each program, which run in turn, where it can do it. Of a program
+    that parses copies, it is the time of one of them, without the rest of the program."""
+    modes = [given.mode, *(mode for mode in ("copies", "none") if all(mode in program for program in programs.values()))]
+    seen = {name: {mode: [] for mode in modes} for name, program in programs.items() if given.mode in program}
     for _ in range(runs):
         for name in list(seen):
-            result = measure(programs[name][given.mode], path, given.is_refused)
-            if result is None:
+            results = [measure(programs[name][mode], path, given.is_refused) for mode in modes]
+            if None in results:
                 del seen[name]
-            else:
-                seen[name].append(result)
-    return {name: tuple(map(min, zip(*pairs))) for name, pairs in seen.items()}
+                continue
+            for mode, result in zip(modes, results):
+                seen[name][mode].append(result)
+    return {name: of_modes([tuple(map(min, zip(*seen[name][mode]))) for mode in modes]) for name in seen}
+
+
+def of_modes(results):
+    """The time and the peak of a program: of one copy, where copies were parsed."""
+    (seconds, megabytes), *copies = results
+    if not copies:
+        return seconds, megabytes
+    (parsed, _), (kept, _) = copies
+    return (parsed - kept) / COPIES, megabytes

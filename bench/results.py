@@ -10,6 +10,7 @@ import textwrap
 
 import pictures
 from pictures import mean
+from programs import COPIES
 
 HERE = pathlib.Path(__file__).resolve().parent
 # What is below this heading was written by hand, and stays; the section of programs before it is written apart.
@@ -21,9 +22,9 @@ GROWN = ("original", "jsonnorm", "documents", "values")
 
 # What is said of the tables that are not beside the original.
 ABOUT = {
-    "Reading alone": "Texts are read and freed: into a `JsonValue`, a `Document`, and the values of the toolchain's `json` and"
-    " `serde_json`.",
-    "Reading ten times as much": "Each of these inputs ten times in an array, so that a program's start hardly counts.",
+    "Reading alone": "Texts are parsed and freed: into a `JsonValue`, a `Document`, and the values of the toolchain's `json`"
+    f" and `serde_json`. The time is that of one of {COPIES} copies of the text, without what the program takes that makes"
+    " them. The memory is the peak of a program that reads its text and parses it once.",
     "Keys of one object": "Objects whose keys have one hash in the toolchain's map, are random, fall, or begin alike.",
     "Large records": "A text of records to its normal text, to indented text, and to its last record, beside the first.",
 }

@@ -98,13 +98,7 @@ pub fn write_owned_answer<W: Write>(
         (chars (string_bytes text))) (W.contents output.old) (W.contents output.new) result }
 {
     let most = copies_for(text.len());
-    answer_read(
-        alloc,
-        asked,
-        &Document::of_text(alloc, text),
-        most,
-        output,
-    )
+    answer_read(alloc, asked, &Document::of_text(alloc, text), most, output)
 }
 
 /// How many values the copies of a patch may copy, by the number of bytes that the text has.

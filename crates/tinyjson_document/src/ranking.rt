@@ -45,7 +45,11 @@ pub fn keep_ordered(
     push_lasts(texts, kept, members)?;
     ranks.resize(ranks.len().max(to), 0)?;
     if let Some(first) = ranks.get_mut(from) {
-        *first = if kept.len() == members.len() { 0 } else { EQUAL_KEYS };
+        *first = if kept.len() == members.len() {
+            0
+        } else {
+            EQUAL_KEYS
+        };
     }
     Ok(())
 }
