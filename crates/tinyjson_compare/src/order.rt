@@ -1,6 +1,6 @@
 //! The order of exact decimals.
-ghost use Rattle.std.specs.Prelude.{◌≡◌};
-ghost use Rattle.tinyjson_compare.specs.Order.{is_at_most, is_less, is_magnitude_at_most, first_place};
+ghost use Rattle.std.specs.Prelude.{◌≡◌, ◌+ℤ◌, pos, length};
+ghost use Rattle.tinyjson_compare.specs.Order.{is_at_most, is_less, is_magnitude_at_most};
 
 use tinyjson::JsonNumber;
 
@@ -47,17 +47,19 @@ fn is_magnitude_at_most(number: &JsonNumber, other: &JsonNumber) -> bool
     if other.is_zero() {
         return false;
     }
-    let place = first_place(number);
-    let other_place = first_place(other);
+    let digits = number.digits();
+    let others = other.digits();
+    let place = first_place(digits, number.power());
+    let other_place = first_place(others, other.power());
     if place != other_place {
         return place < other_place;
     }
-    number.digits() <= other.digits()
+    digits <= others
 }
 
-/// The least power of ten that is greater than the number without its sign. The number is not zero.
-fn first_place(number: &JsonNumber) -> i128
-    ensures { result ≡ first_place number.now.decimal }
+/// The least power of ten that is greater than the number of these digits, of which there are some, and this power.
+fn first_place(digits: &str, power: i64) -> i128
+    ensures { result ≡ pos (length digits.now) +ℤ power }
 {
-    number.digits().len() as i128 + number.power() as i128
+    digits.len() as i128 + power as i128
 }

@@ -1,5 +1,5 @@
 use mir.Syntax.{w128}
-use Rattle.std.proofs.Common.{to_z, of_z, ◌∙◌, sym, arith, true≢false}
+use Rattle.std.proofs.Common.{to_z, of_z, ◌∙◌, length, ap, sym, arith, true≢false}
 use Rattle.std.proofs.lemmas.Int.{ints}
 use Rattle.std.specs.Cmp.Lexicographic.{slice_cmp}
 use Rattle.std.specs.Ordering.{nat_cmp, is_le}
@@ -21,12 +21,14 @@ returns-then-place-other_place c =
     (λ e. true≢false (sym (c.is_zero.ensures.1 e) ∙ c.if-is_zero.false))
     (λ e. true≢false (sym (c.is_zero-2.ensures.1 e) ∙ c.if-is_zero-2.false))
     (to_z w128 (of_z w128 c.first_place-place.result)) (to_z w128 (of_z w128 c.first_place-other_place.result))
-    (omega (arith, ints)) (omega (arith, ints)) (λ e. omega (arith, ints, e))
+    (omega (arith, ints, ap length c.digits-digits.ensures)) (omega (arith, ints, ap length c.digits-others.ensures))
+    (λ e. omega (arith, ints, e))
 
 pub returns : goal.returns
 returns c =
     let d = c.args.number.now.decimal in
     let e = c.args.other.now.decimal in
     c.le.ensures
-    ∙ ((λ i. is_le (slice_cmp nat_cmp (c.digits.ensures i) (c.digits-2.ensures i)))
-    ∙ by_same_place d e c.args.number.now.canonical c.args.other.now.canonical (omega (arith, ints)))
+    ∙ ((λ i. is_le (slice_cmp nat_cmp (c.digits-digits.ensures i) (c.digits-others.ensures i)))
+    ∙ by_same_place d e c.args.number.now.canonical c.args.other.now.canonical
+    (omega (arith, ints, ap length c.digits-digits.ensures, ap length c.digits-others.ensures)))
