@@ -33,6 +33,28 @@ def by_number(source):
 ARRAY = inputs.Input("array", inputs.LARGE.make)
 OBJECT = inputs.Input("object", by_number)
 LINES = inputs.Input("lines", inputs.long_lines, mode="lines")
+SHORT_LINES = inputs.Input("short lines", inputs.short_lines, mode="lines")
+
+# A schema of the records.
+SCHEMA = {
+    "$schema": "https://json-schema.org/draft/2020-12/schema",
+    "type": "object",
+    "required": ["id", "name", "email", "tags"],
+    "properties": {
+        "id": {"type": "integer", "minimum": 1, "maximum": 10**8},
+        "name": {"type": "string", "pattern": "^[a-z]{2,20} [a-z]{2,20}$", "maxLength": 64},
+        "email": {"type": "string", "pattern": "^[^@ ]+@[^@ ]+\\.[a-z]{2,8}$"},
+        "active": {"type": "boolean"},
+        "balance": {"$ref": "#/$defs/amount"},
+        "tags": {"type": "array", "items": {"type": "string", "minLength": 1}, "maxItems": 8},
+        "city": {"type": "string", "pattern": "^[A-Z]"},
+        "score": {"type": "integer", "minimum": 0},
+        "note": {"anyOf": [{"type": "null"}, {"type": "string", "maxLength": 200}]},
+        "parent": {"oneOf": [{"type": "null"}, {"type": "integer"}]},
+    },
+    "additionalProperties": False,
+    "$defs": {"amount": {"type": "number", "minimum": 0, "exclusiveMaximum": 1_000_000}},
+}
 
 
 @dataclasses.dataclass(frozen=True)
@@ -61,6 +83,7 @@ RUNS = [
     Run(("json_path", "-l", "$"), LINES, ("-c", "[.]")),
     Run(("json_patch", "-l", "line.json"), LINES),
     Run(("json_merge", "-l", "name.json"), LINES, ("-S", "-c", "--slurpfile", "patch", "name.json", ". * $patch[0]")),
+    Run(("json_schema", "-l", "schema.json"), SHORT_LINES),
 ]
 
 
@@ -80,6 +103,7 @@ def write_files(work):
         "changed.json": list(merged.values()),
         "line.json": [{"op": "replace", "path": "/name", "value": "other"}],
         "name.json": {"name": "other"},
+        "schema.json": SCHEMA,
     }
     for name, value in files.items():
         (work / name).write_text(inputs.compact(value))
@@ -125,7 +149,7 @@ HEADS = ("program", "records in one", "MB", "itself", "jq")
 def commands(work, folder, given):
     """The programs that are timed over a text, each with its command."""
     chosen = [run for run in RUNS if run.given is given]
-    found = {BASE: command_of(work, folder, ("json_lines" if given is LINES else "jsonnorm",))}
+    found = {BASE: command_of(work, folder, ("json_lines" if given.mode == "lines" else "jsonnorm",))}
     found |= {run.name(): command_of(work, folder, run.words) for run in chosen}
     if jq := shutil.which("jq"):
         found |= {f"jq {run.name()}": [jq, *placed(work, run.jq)] for run in chosen if run.jq}
@@ -135,7 +159,7 @@ def commands(work, folder, given):
 def rows(work, folder, runs):
     """Measures the runs over each text, and shows each row as it is done."""
     write_files(work)
-    for given in (ARRAY, OBJECT, LINES):
+    for given in (ARRAY, OBJECT, LINES, SHORT_LINES):
         path = inputs.write_input(work, given)
         measured = programs.least(commands(work, folder, given), given, path, runs)
         for run in RUNS:

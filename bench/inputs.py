@@ -263,6 +263,11 @@ def long_lines(random):
     return "".join(compact(record(random) | {"note": words_of(random, 25)}) + "\n" for _ in range(100_000))
 
 
+def short_lines(random):
+    """40,000 records of some 215 bytes, each on a line."""
+    return "".join(compact(record(random)) + "\n" for _ in range(40_000))
+
+
 def lines(random):
     return "".join(compact(record(random)) + "\n" for _ in range(15_000))
 
