@@ -6,7 +6,7 @@ ghost use Rattle.tinyjson_cli.specs.Layout.{laid_out};
 ghost use Rattle.tinyjson_cli.specs.Texts.{Answers};
 ghost use Rattle.tinyjson_document.specs.Document.{document_tree, HasTree, tree};
 ghost use Rattle.tinyjson_patch.specs.Merge.{merge_patch};
-ghost use Rattle.json_merge.specs.Apply.{GivesMerged, all_merged};
+ghost use Rattle.json_merge.specs.Apply.{GivesMerged, GivesMergedOf, all_merged};
 
 use std::alloc::{AllocError, Global};
 use std::io::{self, Write};
@@ -64,10 +64,7 @@ fn answer_read<W: Write>(
         (W.contents output.old) (W.contents output.new) result }
 {
     match read {
-        Ok(document) => {
-            write_text(alloc, asked, document.root(), output)?;
-            Ok(None)
-        }
+        Ok(document) => answer_value(alloc, asked, document.root(), output),
         Err(error) => {
             if error.is_out_of_memory() {
                 return Err((*error).into());
@@ -75,6 +72,21 @@ fn answer_read<W: Write>(
             Ok(Some(NoAnswer::Refused(Cause::NotJson(*error))))
         }
     }
+}
+
+/// Writes the text of a value with the patches applied.
+fn answer_value<W: Write>(
+    alloc: Global,
+    asked: Asked<'_>,
+    value: Node<'_>,
+    output: &mut W,
+) -> io::Result<Option<NoAnswer>>
+    ensures { Answers (GivesMergedOf asked.entry.is_indented
+        (map document_tree asked.entry.patches.now) (tree value.entry))
+        (W.contents output.old) (W.contents output.new) result }
+{
+    write_text(alloc, asked, value, output)?;
+    Ok(None)
 }
 
 /// Writes the text of a value with the patches applied, compact or indented, and a line feed.
@@ -144,10 +156,10 @@ fn write_compact<W: Write>(
     let Some((last, others)) = patches.split_last() else {
         return value.write_line_to(alloc, output);
     };
-    let Some((first, others)) = others.split_first() else {
+    let Some((first, rest)) = others.split_first() else {
         return write_merged(alloc, value, last.root(), output);
     };
-    let merged = merge_all(alloc, value, first, others)?;
+    let merged = merge_all(alloc, value, first, rest)?;
     write_merged(alloc, merged.root(), last.root(), output)
 }
 

@@ -8,7 +8,7 @@ use Rattle.json_merge.proofs.apply.merge_all.Goals as goal
 pub loop-patch-preserved : goal.loop-patch-preserved
 loop-patch-preserved c =
     let i = c.loop-patch.patch-index in
-    let ps = c.args.patches.now in
+    let ps = c.args.others.now in
     let t = document_tree c.loop-patch.merged in
     let merged =
     c.in_ok-merged.ensures
