@@ -1,5 +1,5 @@
 //! Patterns in schemas (Core, 6.4).
-ghost use Rattle.std.specs.Prelude.{◌≡◌, ℕ, List, IfOk, IfErr, is_some};
+ghost use Rattle.std.specs.Prelude.{◌≡◌, ℕ, List, IfOk, IfErr, IfSome, is_some};
 ghost use Rattle.std.specs.Str.{chars};
 ghost use Rattle.tinyjson.specs.View.{text};
 ghost use Rattle.i_regexp.specs.PatternDeciding.{is_pattern, is_found};
@@ -9,6 +9,7 @@ use i_regexp::{SchemaPattern, SchemaPatternErrorKind};
 use std::alloc::{AllocError, Global};
 use std::cell::RefCell;
 use std::collections::HashMap;
+use tinyjson_bytes::are_equal;
 
 /// How many parsed patterns are kept.
 const KEPT: usize = 100;
@@ -56,17 +57,81 @@ impl Pattern {
     }
 }
 
+/// Parsed patterns in the order of their first uses.
+#[derive(Drop)]
+struct Patterns {
+    parsed: Vec<Pattern>,
+    places: HashMap<String, usize>,
+    /// The place after that of the last use.
+    next: usize,
+}
+
+impl Patterns {
+    /// Whether the pattern matches somewhere in the text. Values that are checked one after another use the same
+    /// patterns in the same order, so the one after the last is tried first.
+    fn is_found(&mut self, pattern: &str, text: &str, alloc: Global) -> Result<bool, AllocError>
+        ensures { IfOk result (λ is. is ≡ is_found (chars pattern.now) (chars text.now)) }
+    {
+        let next = if self.next < self.parsed.len() {
+            self.next
+        } else {
+            0
+        };
+        if let Some(is_found) = self.found_at(next, pattern, text) {
+            return Ok(is_found);
+        }
+        if let Some(place) = self.places.get(pattern).copied() {
+            if let Some(is_found) = self.found_at(place, pattern, text) {
+                return Ok(is_found);
+            }
+        }
+        self.found_anew(pattern, text, alloc)
+    }
+
+    /// Whether the pattern at the place matches somewhere in the text; `None` if none is there, or another.
+    fn found_at(&mut self, place: usize, pattern: &str, text: &str) -> Option<bool>
+        ensures { IfSome result (λ is. is ≡ is_found (chars pattern.now) (chars text.now)) }
+    {
+        let known = self.parsed.get_mut(place)?;
+        if !are_equal(known.pattern.as_bytes(), pattern.as_bytes()) {
+            return None;
+        }
+        self.next = place + 1;
+        Some(known.is_found_in(text))
+    }
+
+    /// Whether the pattern, which is parsed now, matches somewhere in the text. It is kept if there is room.
+    fn found_anew(&mut self, pattern: &str, text: &str, alloc: Global) -> Result<bool, AllocError>
+        ensures { IfOk result (λ is. is ≡ is_found (chars pattern.now) (chars text.now)) }
+    {
+        let mut parsed = Pattern::read(alloc, pattern)?;
+        let is_found = parsed.is_found_in(text);
+        let place = self.parsed.len();
+        if place < KEPT {
+            self.parsed.push(parsed)?;
+            self.places
+                .insert(String::from_str(alloc, pattern)?, place)?;
+            self.next = place + 1;
+        }
+        Ok(is_found)
+    }
+}
+
 /// Parsed patterns, up to 100 of them, so that most are parsed once.
 #[derive(Drop)]
 pub struct KeptPatterns {
-    kept: RefCell<HashMap<String, Pattern>>,
+    kept: RefCell<Patterns>,
 }
 
 impl KeptPatterns {
     /// No pattern yet.
     pub fn new(alloc: Global) -> KeptPatterns {
         KeptPatterns {
-            kept: RefCell::new(HashMap::new(alloc)),
+            kept: RefCell::new(Patterns {
+                parsed: Vec::new(alloc),
+                places: HashMap::new(alloc),
+                next: 0,
+            }),
         }
     }
 
@@ -79,17 +144,7 @@ impl KeptPatterns {
         let Ok(mut kept) = self.kept.try_borrow_mut() else {
             return Ok(Pattern::read(alloc, pattern)?.is_found_in(text));
         };
-        if let Some(known) = kept.get_mut(pattern) {
-            if known.pattern.as_str() == pattern {
-                return Ok(known.is_found_in(text));
-            }
-        }
-        let mut read = Pattern::read(alloc, pattern)?;
-        let is_found = read.is_found_in(text);
-        if kept.len() < KEPT {
-            kept.insert(String::from_str(alloc, pattern)?, read)?;
-        }
-        Ok(is_found)
+        kept.is_found(pattern, text, alloc)
     }
 }
 

@@ -18,6 +18,7 @@ use crate::keyword::{Form, Keyword, form_by, keyword_of};
 use std::alloc::{AllocError, Global};
 use std::collections::HashMap;
 use tinyjson::{JsonValue, sorted_members};
+use tinyjson_bytes::are_equal;
 
 /// How many keys are compared one by one.
 const FEW: usize = 8;
@@ -41,7 +42,7 @@ fn found<'s>(members: &'s HashMap<String, JsonValue>, name: &str) -> Option<&'s 
         return members.get(name);
     }
     for (key, value) in members {
-        if name == key.as_str() {
+        if are_equal(name.as_bytes(), key.as_bytes()) {
             return Some(value);
         }
     }
