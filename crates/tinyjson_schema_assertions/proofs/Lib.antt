@@ -1,4 +1,5 @@
 pub mod Counted
+pub mod Counts
 pub mod Formatted
 pub mod Operands
 pub mod Patterns

@@ -1,5 +1,8 @@
 -- What `type` says of a value, by the bytes of its texts.
-use Rattle.std.proofs.Common.{◌≡◌, Bool, true, ◌&&◌, ◌||◌, String, string_bytes, Global, bytes_eq, codes, refl, sym, ap, ◌∙◌}
+use Rattle.std.proofs.Common.{◌≡◌, ◌≢◌, ℕ, Bool, true, false, List, ◌&&◌, ◌||◌, String, string_bytes, Global, bytes_eq, codes, refl, sym, ap, ◌∙◌}
+use Rattle.std.proofs.lemmas.Bool.{false_from_ne_true}
+use Rattle.std.proofs.lemmas.Slice.Eq.{bytes_eq-Decides}
+use Rattle.std.specs.Bool.{MatchBool}
 use Rattle.std.proofs.lemmas.Str.{IsUtf8-string_bytes}
 use Rattle.tinyjson.proofs.Callers.{view_String, is_key, are_ascii}
 use Rattle.tinyjson.specs.Kind.{kind_of, kind_name}
@@ -28,6 +31,11 @@ is_type_name v s t e =
     (sym (is_key (string_bytes s) (kind_name (kind_of t)) (IsUtf8-string_bytes s) (kind_name_ascii (kind_of t))))
     ∙ ap (λ b. bytes_eq (string_bytes s) (kind_name (kind_of t)) || (b && is_whole t))
     (sym (is_key (string_bytes s) (codes "integer") (IsUtf8-string_bytes s) refl)))
+
+-- bytes that were compared as they are
+pub compared_bytes : (b : Bool) (xs ys s n : List ℕ) → MatchBool b (xs ≡ ys) (xs ≢ ys) → xs ≡ s → ys ≡ n → b ≡ bytes_eq s n
+compared_bytes true xs ys s n h f g = sym ((bytes_eq-Decides s n).1 (sym f ∙ (h ∙ g)))
+compared_bytes false xs ys s n h f g = sym (false_from_ne_true (bytes_eq s n) (λ e. h (f ∙ ((bytes_eq-Decides s n).0 e ∙ sym g))))
 
 -- a value's type is determined by two comparisons and the fraction
 pub type_determined : (v : JsonValue) (s : String Global) (t : Tree) (a b c : Bool) → v ≡ is.String s

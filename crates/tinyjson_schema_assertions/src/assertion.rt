@@ -1,5 +1,5 @@
 //! Assertions: the keywords that constrain a value itself, not its parts.
-ghost use Rattle.std.specs.Prelude.{◌≡◌, IfOk, int_le, is_some, length, pos};
+ghost use Rattle.std.specs.Prelude.{◌≡◌, ◌<◌, ◌^◌, IfOk, IfSome, int_le, is_some, length, pos};
 ghost use Rattle.std.specs.Str.{chars};
 ghost use Rattle.tinyjson.specs.Kind.{kind_of, kind_name};
 ghost use Rattle.tinyjson.specs.Tree.{find, number, string};
@@ -21,6 +21,7 @@ use crate::unique::are_unique;
 use std::alloc::{AllocError, Global};
 use text_formats::Format;
 use tinyjson::{JsonKind, JsonNumber, JsonValue, sorted_members};
+use tinyjson_bytes::are_equal;
 use tinyjson_compare::is_at_most;
 use tinyjson_document::JsonView;
 use tinyjson_schema_keywords::{Keyword, Walk};
@@ -92,10 +93,10 @@ fn is_type(name: &JsonValue, value: &ValueView<'_>) -> bool
     let JsonValue::String(name) = name else {
         return false;
     };
-    if name.as_str() == kind_name(value) {
+    if are_equal(name.as_bytes(), kind_name(value).as_bytes()) {
         return true;
     }
-    name.as_str() == "integer" && is_whole(value)
+    are_equal(name.as_bytes(), b"integer") && is_whole(value)
 }
 
 /// The name that `type` has for the value's type.
@@ -266,13 +267,14 @@ pub fn is_count_at_most(
 ) -> Result<bool, AllocError>
     ensures { IfOk result (λ is. is ≡ is_count_at_most found (view limit.now)) }
 {
-    match found {
-        Some(found) => {
-            let found = number_of(found, alloc)?;
-            Ok(are_ordered(&ValueView::InValue(&found), &ValueView::InValue(limit)))
-        }
-        None => Ok(true),
+    let Some(found) = found else {
+        return Ok(true);
+    };
+    if let Some(limit) = count_in(limit) {
+        return Ok(found as u64 <= limit);
     }
+    let found = number_of(found, alloc)?;
+    Ok(are_ordered(&ValueView::InValue(&found), &ValueView::InValue(limit)))
 }
 
 /// Whether the count is at least the limit; true for `None`.
@@ -283,12 +285,24 @@ pub fn is_count_at_least(
 ) -> Result<bool, AllocError>
     ensures { IfOk result (λ is. is ≡ is_count_at_least found (view limit.now)) }
 {
-    match found {
-        Some(found) => {
-            let found = number_of(found, alloc)?;
-            Ok(are_ordered(&ValueView::InValue(limit), &ValueView::InValue(&found)))
-        }
-        None => Ok(true),
+    let Some(found) = found else {
+        return Ok(true);
+    };
+    if let Some(limit) = count_in(limit) {
+        return Ok(limit <= found as u64);
+    }
+    let found = number_of(found, alloc)?;
+    Ok(are_ordered(&ValueView::InValue(limit), &ValueView::InValue(&found)))
+}
+
+/// The whole number that the limit is, if it fits.
+fn count_in(limit: &JsonValue) -> Option<u64>
+    ensures is { IfSome result (λ n. view limit.now ≡ number (count n)) }
+    ensures range { IfSome result (λ n. n < 2 ^ 64) }
+{
+    match limit {
+        JsonValue::Number(limit) => limit.to_u64(),
+        _ => None,
     }
 }
 
