@@ -4,6 +4,8 @@ ghost use Rattle.std.specs.Str.{chars};
 ghost use Rattle.tinyjson.specs.Tree.{Tree};
 ghost use Rattle.tinyjson_schema_table.specs.Links.{property, led_by, IsPlaceOf};
 
+use tinyjson_bytes::are_equal;
+
 /// How a schema leads to a subschema.
 #[derive(Clone, Copy)]
 pub enum Way<'s> {
@@ -51,6 +53,6 @@ fn is_for(link: Link<'_>, key: &str) -> bool
 {
     match link.way {
         Way::Items => false,
-        Way::Property(name) => name == key,
+        Way::Property(name) => are_equal(name.as_bytes(), key.as_bytes()),
     }
 }
