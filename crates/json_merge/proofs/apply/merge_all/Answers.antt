@@ -11,9 +11,9 @@ loop-patch-preserved c =
     let ps = c.args.others.now in
     let t = document_tree c.loop-patch.merged in
     let merged =
-    c.in_ok-merged.ensures
-    ∙ (ap (λ u. merge_patch u (tree c.root-in-loop-patch.result)) c.root.ensures
-    ∙ ap (λ u. merge_patch t u) c.root-in-loop-patch.ensures) in
+    c.in_ok-merged-2.ensures
+    ∙ (ap (λ u. merge_patch u (tree c.root-in-loop-patch-2.result)) c.root-in-loop-patch.ensures
+    ∙ ap (λ u. merge_patch t u) c.root-in-loop-patch-2.ensures) in
     c.loop-patch.invariant
     ∙ (ap (λ us. all_merged t (map document_tree us)) (drop_one ps i c.patch-item.result c.loop-patch-test.true c.patch-item.is)
     ∙ ap (λ u. all_merged u (map document_tree (drop (i + 1) ps))) (sym merged))

@@ -1,4 +1,4 @@
-use Rattle.std.proofs.Common.{◌++◌, ◌∷◌, [], false, map, sym, ap, ◌∙◌, subst}
+use Rattle.std.proofs.Common.{◌∷◌, [], false, map, sym, ap, ◌∙◌, subst}
 use Rattle.std.proofs.lemmas.List.{map-append}
 use Rattle.tinyjson.specs.Written.{WritesPrefix}
 use Rattle.tinyjson_cli.specs.Layout.{laid_out}
@@ -10,16 +10,17 @@ use Rattle.json_merge.proofs.apply.write_compact.Goals as goal
 
 pub returns : goal.returns
 returns g c =
-    let t = document_tree c.args.document in
+    let t = tree c.args.value in
     let last = c.in-Some.last.now in
     let others = c.in-Some.others.now in
     let split = c.in-Some.ensures.cases.0 in
+    let merged = c.in_ok-merged.ensures ∙ ap (λ ds. all_merged t (map document_tree ds)) (sym c.in-Some-split_first.ensures.cases.0) in
     let whole =
-    ap (λ p. merge_patch (tree c.root-2.result) p) (c.root-3.ensures) ∙ ap (λ u. merge_patch u (document_tree last)) (c.root-2.ensures ∙ c.in_ok-merged.ensures)
+    ap (λ p. merge_patch (tree c.root-2.result) p) c.root-3.ensures ∙ ap (λ u. merge_patch u (document_tree last)) (c.root-2.ensures ∙ merged)
     ∙ sym (last_merged t (map document_tree others) (document_tree last))
     ∙ ap (all_merged t) (sym (map-append document_tree others (last ∷ [])) ∙ ap (map document_tree) (sym split)) in
-    subst (λ u. WritesPrefix (g.W.Write.contents c.args.output.now) (g.W.Write.contents c.write_merged.new.output) (laid_out false u)
-    c.write_merged.result) whole c.write_merged.ensures
+    subst (λ u. WritesPrefix (g.W.Write.contents c.args.output.now) (g.W.Write.contents c.write_merged-2.new.output) (laid_out false u)
+    c.write_merged-2.result) whole c.write_merged-2.ensures
 
 pub returns-in_err-merged : goal.returns-in_err-merged
 returns-in_err-merged g c = unwritten _ _ c.from_residual.result c.from_residual.ensures.0
