@@ -3,7 +3,7 @@ use Rattle.std.proofs.Common.{◌≡◌, ℕ, ◌-◌, ◌<◌, ◌≤◌, ◌^�
 use Rattle.std.proofs.Common.{IsTrue, ◌&&◌, ◌==◌, cond, refl, sym, ap, ◌∙◌, subst, ⊎_elim, arith, Option, Some, None, inl, inr, ◌⊎◌, Result}
 use Rattle.std.proofs.Common.{Ok, Err}
 use mir.Val.{to_z, of_z}
-use Rattle.std.specs.Prelude.{FitsSigned, int_le, int_lt, ◌+ℤ◌, ◌-ℤ◌}
+use Rattle.std.specs.Prelude.{FitsSigned, int_le, int_lt, ◌+ℤ◌, ◌-ℤ◌, ◌≤ℤ◌}
 use Rattle.std.specs.Result.{IsErrAnd}
 use Rattle.std.specs.Int.{w64}
 use Rattle.std.specs.Str.Parse.{digits_value}
@@ -15,7 +15,7 @@ use Rattle.tinyjson_number.specs.Numeral.{in_range}
 use Rattle.tinyjson_number.specs.Canonical.{is_canonical}
 use Rattle.tinyjson_number.specs.NumberText.{Spells}
 use Rattle.tinyjson_number.specs.Number.{Canonical}
-use Rattle.tinyjson_number.specs.private.Power.{exponent_cap, capped, shifted}
+use Rattle.tinyjson_number.specs.private.Power.{exponent_cap, near_cap, capped, shifted}
 use Rattle.tinyjson_number.specs.Reading.{Reads, ReadsNumeral}
 use Rattle.tinyjson_number.specs.Error.{of_literal}
 use Rattle.tinyjson_number.specs.declared.error.JsonNumberError.{JsonNumberError}
@@ -157,6 +157,21 @@ few_fits (negsuc n) zeros fraction e h k = record { sfits = omega (arith, ints, 
 
 pub power_few_fits : (zeros fraction : ℕ) → zeros ≤ 24 → fraction ≤ 24 → FitsSigned w64 (shifted (pos 0) fraction zeros)
 power_few_fits zeros fraction h k = few_fits (shifted (pos 0) fraction zeros) zeros fraction refl h k
+
+-- the power of few digits and an exponent that is near 0
+near_fits : (z e : ℤ) (zeros fraction : ℕ) → z ≡ (e -ℤ pos fraction) +ℤ pos zeros → zeros ≤ 24 → fraction ≤ 24
+    → neg_ℤ (pos near_cap) ≤ℤ e → e ≤ℤ pos near_cap → FitsSigned w64 z
+near_fits (pos n) e stripped fraction is h k low high = record { sfits = omega (arith, ints, is, h, k, low, high) }
+near_fits (negsuc n) e stripped fraction is h k low high = record { sfits = omega (arith, ints, is, h, k, low, high) }
+
+pub power_near_fits : (e : ℤ) (zeros fraction : ℕ) → zeros ≤ 24 → fraction ≤ 24 → neg_ℤ (pos near_cap) ≤ℤ e → e ≤ℤ pos near_cap
+    → FitsSigned w64 (shifted e fraction zeros)
+power_near_fits e stripped fraction h k low high = near_fits (shifted e fraction stripped) e stripped fraction refl h k low high
+
+-- that power, as the code computes it
+pub power_near : (e : ℤ) (zeros fraction : ℕ) → zeros ≤ 24 → fraction ≤ 24 → neg_ℤ (pos near_cap) ≤ℤ e → e ≤ℤ pos near_cap
+    → to_z w64 (of_z w64 (to_z w64 (of_z w64 (to_z w64 (of_z w64 e) -ℤ to_z w64 fraction)) +ℤ to_z w64 zeros)) ≡ shifted e fraction zeros
+power_near e stripped fraction h k low high = omega (arith, ints, h, k, low, high)
 
 -- ---- from what was read to the numeral
 

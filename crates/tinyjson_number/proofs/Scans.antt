@@ -365,9 +365,6 @@ module _ (text : List ℕ) (at : ℕ) (m : Mantissa) (end : ℕ) (x : MantissaAt
     after_mantissa = (same_mantissa m.negative n.negative m.integer.now n.integer m.fraction.now n.fraction (drop at text) (drop end text)
         (exponent_text n.exponent ++ drop last text) x.0 (mantissa_of n (drop at text) (drop last text) y.grammatical y.spelled y.ends)).3
 
-    pub letter_follows : starts is_exponent_letter (drop end text) ≡ true → n.exponent ≡ None → ⊥
-    letter_follows h e = grind (arith, after_mantissa)
-
     pub exponent_lacks : starts is_exponent_letter (drop end text) ≡ true → NoExponentAt text (end + 1) → ⊥
     exponent_lacks h lacks =
         let s = shown_first is_exponent_letter text end h in

@@ -1,7 +1,7 @@
 //! A few digits in the number itself.
 ghost use Rattle.std.specs.Prelude.{◌≡◌, ◌+◌, ◌≤◌, ◌++◌, IfSome, length, take, drop};
 
-use tinyjson_bytes::put;
+use tinyjson_bytes::{copy, put};
 
 /// The most digits that a number keeps in itself.
 pub(crate) const INLINE_DIGITS: usize = 24;
@@ -23,10 +23,8 @@ impl Inline {
     {
         let len = front.len() + back.len();
         let mut bytes = [0; INLINE_DIGITS];
-        bytes[..front.len()].copy_from_slice(front);
-        if !back.is_empty() {
-            bytes[front.len()..len].copy_from_slice(back);
-        }
+        copy(&mut bytes, 0, front);
+        copy(&mut bytes, front.len(), back);
         Inline { bytes, len }
     }
 

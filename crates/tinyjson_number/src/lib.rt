@@ -19,7 +19,7 @@ mod text;
 pub use error::{JsonNumberError, LiteralError};
 pub use number::JsonNumber;
 #[doc(hidden)]
-pub use parse::short_number_at;
+pub use parse::ready_number_at;
 pub use parse::{ExponentParts, NumberParts};
 #[doc(hidden)]
 pub use scan::{has_leading_zero, number_at};

@@ -1,14 +1,15 @@
 //! The number that a text spells (RFC 8259, section 6).
 ghost use Rattle.std.specs.Prelude.{◌≡◌, ◌+◌, ◌<◌, ◌≤◌, ◌^◌, ◌++◌, length, take, drop, min, pos};
 ghost use Rattle.std.specs.Prelude.{neg_ℤ, ◌≤ℤ◌, None};
-ghost use Rattle.std.specs.Prelude.{IfSome, IsOk, MatchOption, FitsSigned, IsTrue, Err, Ok};
+ghost use Rattle.std.specs.Prelude.{IfSome, IsOk, MatchOption, FitsSigned, IsTrue, Err, Ok, Some};
 ghost use Rattle.std.specs.Int.{w64};
 ghost use Rattle.std.specs.Str.Parse.{digits_value};
 ghost use Rattle.tinyjson_number.specs.Decimal.{strip_leading, strip_trailing, significant};
 ghost use Rattle.tinyjson_number.specs.Decimal.{trailing_zeros};
-ghost use Rattle.tinyjson_number.specs.Numeral.{Numeral, IsNumeral, AreDigits, value, in_range};
+ghost use Rattle.tinyjson_number.specs.Numeral.{Numeral, IsNumeral, AreDigits};
+ghost use Rattle.tinyjson_number.specs.Numeral.{exponent_value, value, in_range};
 ghost use Rattle.tinyjson_number.specs.NumberText.{Spells};
-ghost use Rattle.tinyjson_number.specs.private.Power.{capped, exponent_cap, shifted};
+ghost use Rattle.tinyjson_number.specs.private.Power.{capped, exponent_cap, near_cap, shifted};
 ghost use Rattle.tinyjson_number.specs.Reading.{Reads, ReadsNumeral, exponent_of, numeral_of};
 ghost use Rattle.tinyjson_number.specs.Reading.{plain, plain_numeral};
 ghost use Rattle.tinyjson_number.specs.Scan.{PartsAt};
@@ -19,7 +20,7 @@ ghost use Rattle.tinyjson_number.specs.declared.error.JsonNumberError.TheVariant
 use crate::error::{JsonNumberError, LiteralError};
 use crate::inline::{INLINE_DIGITS, Inline};
 use crate::number::JsonNumber;
-use crate::scan::{number_at, plain_number_at};
+use crate::scan::number_at;
 use std::alloc::Global;
 
 /// The parts of a number, as a parser finds them in a text (RFC 8259, section 6).
@@ -142,25 +143,42 @@ impl JsonNumber {
     }
 }
 
-/// The number at a place of a text, and the place after it, if it has no exponent, and few digits that
-/// neither begin nor end with `0`, and some text follows. It may find none.
+/// The number at a place of a text, and the place after it, if one begins there, it is in range, and there is memory
+/// for it. It may find none.
 #[doc(hidden)]
 #[inline(always)]
-pub fn short_number_at(bytes: &[u8], at: usize) -> Option<(JsonNumber, usize)>
+pub fn ready_number_at(alloc: Global, bytes: &[u8], at: usize) -> Option<(JsonNumber, usize)>
     requires { at ≤ length bytes.now }
     ensures { IfSome result (λ r. (p : NumberParts) × PartsAt bytes.now at p r.1
         × ReadsNumeral (numeral_of p) (Ok r.0)) }
 {
-    let (parts, end) = plain_number_at(bytes, at)?;
-    if bytes.len() - end < 17 || !is_unpadded(parts.integer, parts.fraction) {
+    let (parts, end) = number_at(bytes, at)?;
+    if let Some(number) = unpadded_at(bytes, at, parts, end) {
+        return Some((number, end));
+    }
+    match padded(alloc, parts) {
+        Ok(number) => Some((number, end)),
+        Err(_) => None,
+    }
+}
+
+/// The number of these parts, which lie between two places of a text, if it has no exponent, and few digits that
+/// neither begin nor end with `0`, and some text follows. It may find none.
+#[inline(always)]
+fn unpadded_at(bytes: &[u8], at: usize, parts: NumberParts<'_>, end: usize) -> Option<JsonNumber>
+    requires within { at ≤ length bytes.now }
+    requires at { PartsAt bytes.now at parts end }
+    ensures { IfSome result (λ x. ReadsNumeral (numeral_of parts.entry) (Ok x)) }
+{
+    if parts.exponent.is_some()
+        || bytes.len() - end < 17
+        || !is_unpadded(parts.integer, parts.fraction)
+    {
         return None;
     }
     let text = &bytes[at + parts.negative as usize..];
     let digits = Inline::of_text(text, parts.integer.len(), parts.fraction.len())?;
-    Some((
-        unpadded(parts.negative, parts.integer, parts.fraction, digits),
-        end,
-    ))
+    Some(unpadded(parts.negative, parts.integer, parts.fraction, digits))
 }
 
 /// The number of few digits, which neither begin nor end with `0`.
@@ -190,26 +208,63 @@ fn padded(alloc: Global, parts: NumberParts<'_>) -> Result<JsonNumber, LiteralEr
     ensures short { length parts.entry.integer.now + length parts.entry.fraction.now ≤ 24
         → ¬ (result ≡ Err literal_error.OutOfMemory) }
 {
-    if parts.exponent.is_none() && parts.integer.len() + parts.fraction.len() <= INLINE_DIGITS {
-        return Ok(short(parts.negative, parts.integer, parts.fraction));
+    if parts.integer.len() + parts.fraction.len() <= INLINE_DIGITS {
+        if let Some(exponent) = near_exponent(parts.exponent) {
+            return Ok(short(parts, exponent));
+        }
     }
     long(alloc, parts)
 }
 
-/// The number of few digits and no exponent.
-fn short(negative: bool, integer: &[u8], fraction: &[u8]) -> JsonNumber
-    requires integer { AreDigits integer.now }
-    requires fraction { AreDigits fraction.now }
-    requires few { length integer.now + length fraction.now ≤ 24 }
-    ensures decimal { result.decimal ≡ value (plain_numeral negative integer.now fraction.now) }
-    ensures fits { IsTrue (in_range (value (plain_numeral negative integer.now fraction.now))) }
+/// The number of few digits and this exponent.
+fn short(parts: NumberParts<'_>, exponent: i64) -> JsonNumber
+    requires integer { AreDigits parts.integer.now }
+    requires fraction { AreDigits parts.fraction.now }
+    requires few { length parts.integer.now + length parts.fraction.now ≤ 24 }
+    requires exponent { exponent ≡ exponent_value (exponent_of parts.exponent) }
+    requires near { (neg_ℤ (pos near_cap) ≤ℤ exponent) × (exponent ≤ℤ pos near_cap) }
+    ensures decimal { result.decimal ≡ value (numeral_of parts.entry) }
+    ensures fits { IsTrue (in_range (value (numeral_of parts.entry))) }
 {
-    let kept = strip(integer, fraction);
+    let kept = strip(parts.integer, parts.fraction);
     if kept.integer.len() + kept.fraction.len() == 0 {
         return JsonNumber::zero();
     }
-    let power = kept.zeros as i64 - fraction.len() as i64;
-    JsonNumber::of_few(negative, kept.integer, kept.fraction, power)
+    let power = exponent - parts.fraction.len() as i64 + kept.zeros as i64;
+    JsonNumber::of_few(parts.negative, kept.integer, kept.fraction, power)
+}
+
+/// Exponents below this are near 0.
+const NEAR_CAP: u64 = 1 << 32;
+
+/// The exponent, 0 where there is none, if it is near 0.
+fn near_exponent(exponent: Option<ExponentParts<'_>>) -> Option<i64>
+    requires { IfSome exponent (λ e. AreDigits e.digits.now) }
+    ensures none { exponent.entry ≡ None → result ≡ Some (pos 0) }
+    ensures value { IfSome result (λ z. z ≡ exponent_value (exponent_of exponent.entry)) }
+    ensures near { IfSome result (λ z. (neg_ℤ (pos near_cap) ≤ℤ z) × (z ≤ℤ pos near_cap)) }
+{
+    let Some(exponent) = exponent else {
+        return Some(0);
+    };
+    let value = near_value(exponent.digits);
+    if value >= NEAR_CAP {
+        return None;
+    }
+    let near = value as i64;
+    Some(if exponent.negative { -near } else { near })
+}
+
+/// The number that the digits write, or the cap if that is less.
+fn near_value(digits: &[u8]) -> u64
+    requires { AreDigits digits.now }
+    ensures { result ≡ min (digits_value 10 digits.now) near_cap }
+{
+    let mut value: u64 = 0;
+    for b in digits {
+        value = (value * 10 + (*b - b'0') as u64).min(NEAR_CAP);
+    }
+    value
 }
 
 /// Whether the digits of both parts neither begin nor end with `0`.

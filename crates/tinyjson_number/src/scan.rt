@@ -14,7 +14,7 @@ use tinyjson_bytes::digits_end;
 /// The parts of the number at a place of a text, and the place after it; none exactly where no number of
 /// the grammar begins there.
 #[doc(hidden)]
-#[inline(never)]
+#[inline(always)]
 pub fn number_at(bytes: &[u8], at: usize) -> Option<(NumberParts<'_>, usize)>
     requires { at ≤ length bytes.now }
     ensures { MatchOption result ((n : Numeral) (end : ℕ) → ¬ NumeralAt bytes.now at n end)
@@ -26,22 +26,6 @@ pub fn number_at(bytes: &[u8], at: usize) -> Option<(NumberParts<'_>, usize)>
     }
     let (exponent, end) = exponent_at(bytes, end + 1)?;
     Some((front.with_exponent(Some(exponent)), end))
-}
-
-/// The parts of the number at a place of a text, and the place after it; none exactly where no number
-/// without an exponent begins there.
-#[inline(always)]
-pub(crate) fn plain_number_at(bytes: &[u8], at: usize) -> Option<(NumberParts<'_>, usize)>
-    requires { at ≤ length bytes.now }
-    ensures { MatchOption result
-        ((n : Numeral) (end : ℕ) → n.exponent ≡ None → ¬ NumeralAt bytes.now at n end)
-        (λ r. PartsAt bytes.now at r.0 r.1 × (r.0.exponent ≡ None)) }
-{
-    let (front, end) = mantissa_at(bytes, at)?;
-    if has_letter(bytes, end) {
-        return None;
-    }
-    Some((front.with_exponent(None), end))
 }
 
 /// Whether there are two or more digits, and the first is `0`.
@@ -154,6 +138,7 @@ fn fraction_at(bytes: &[u8], point: usize) -> Option<(&[u8], usize)>
 
 /// The sign and the digits of the exponent whose letter precedes a place of a text, and the place
 /// after them. None where there are no digits.
+#[inline(never)]
 fn exponent_at(bytes: &[u8], at: usize) -> Option<(ExponentParts<'_>, usize)>
     requires { at ≤ length bytes.now }
     ensures { MatchOption result (NoExponentAt bytes.now at)

@@ -33,7 +33,7 @@ struct Marks {
 
 impl<S: Tokens> TokenReader<S> {
     /// Reads the number by its parts, whose digits are gathered.
-    #[inline(always)]
+    #[inline(never)]
     pub(crate) fn gathered_number(&mut self) -> Result<JsonNumber, JsonParseErrorKind>
         requires begins { BeginsNumber S.sight self.old.source }
         ensures reads { (limit : Option ℕ) (fs : List Frame) →

@@ -136,23 +136,7 @@ impl<S: Tokens> TokenReader<S> {
             (λ n. complete true fs (number n.decimal) true) self.new.source }
         ensures left { OnOk result (S.left self.new.source < S.left self.old.source) }
     {
-        if let Some((number, after)) = self.source.short_number() {
-            self.source = after;
-            return Ok(number);
-        }
-        self.long_number()
-    }
-
-    /// Reads the number by its exponent, or piece by piece.
-    #[inline(never)]
-    fn long_number(&mut self) -> Result<JsonNumber, JsonParseErrorKind>
-        requires begins { BeginsNumber S.sight self.old.source }
-        ensures reads { (limit : Option ℕ) (fs : List Frame) →
-            Reads S.sight limit self.old.source (next fs awaited) result
-            (λ n. complete true fs (number n.decimal) true) self.new.source }
-        ensures left { OnOk result (S.left self.new.source < S.left self.old.source) }
-    {
-        if let Some((number, after)) = self.source.scientific(self.alloc) {
+        if let Some((number, after)) = self.source.ready_number(self.alloc) {
             self.source = after;
             return Ok(number);
         }

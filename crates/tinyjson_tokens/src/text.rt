@@ -15,7 +15,7 @@ use crate::tokens::Tokens;
 use crate::utf16::push;
 use std::alloc::{AllocError, Global};
 use tinyjson_bytes::{digits_end, plain_end, white_end};
-use tinyjson_number::{JsonNumber, number_at, short_number_at};
+use tinyjson_number::{JsonNumber, ready_number_at};
 
 /// A text, and how many of its bytes were consumed. Line and column are counted when they are asked for.
 #[derive(Drop)]
@@ -218,27 +218,14 @@ impl<'a> Tokens for TextBytes<'a> {
     }
 
     #[inline(always)]
-    fn short_number(&self) -> Option<(JsonNumber, Self)> {
-        let (number, end) = short_number_at(self.text.as_bytes(), self.at)?;
+    fn ready_number(&self, alloc: Global) -> Option<(JsonNumber, Self)> {
+        let (number, end) = ready_number_at(alloc, self.text.as_bytes(), self.at)?;
         let after = TextBytes {
             text: self.text,
             at: end,
             lent: self.lent,
         };
         Some((number, after))
-    }
-
-    fn scientific(&self, alloc: Global) -> Option<(JsonNumber, Self)> {
-        let (parts, end) = number_at(self.text.as_bytes(), self.at)?;
-        let after = TextBytes {
-            text: self.text,
-            at: end,
-            lent: self.lent,
-        };
-        match JsonNumber::from_parts(alloc, parts) {
-            Ok(number) => Some((number, after)),
-            Err(_) => None,
-        }
     }
 }
 

@@ -23,18 +23,9 @@ pub trait Tokens: Source {
         self.plain(string)
     }
 
-    /// The number that comes next, and the source after it, if this source finds it at once, and it has few
-    /// digits and no exponent. It may find none.
-    fn short_number(&self) -> Option<(JsonNumber, Self)>
-        ensures takes { IfSome result (λ r. TakesNumber Self.sight self.now r.0 r.1) }
-        ensures left { IfSome result (λ r. Self.left r.1 < Self.left self.now) }
-    {
-        None
-    }
-
-    /// The number with an exponent that comes next, and the source after it, if this source finds it at once,
-    /// it is in range, and there is memory. It may find none.
-    fn scientific(&self, alloc: Global) -> Option<(JsonNumber, Self)>
+    /// The number that comes next, and the source after it, if this source finds it at once, it is in range, and there
+    /// is memory for it. It may find none.
+    fn ready_number(&self, alloc: Global) -> Option<(JsonNumber, Self)>
         ensures takes { IfSome result (λ r. TakesNumber Self.sight self.now r.0 r.1) }
         ensures left { IfSome result (λ r. Self.left r.1 < Self.left self.now) }
     {

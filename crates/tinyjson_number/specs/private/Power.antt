@@ -7,6 +7,10 @@ use Rattle.tinyjson_number.specs.Numeral.{Exponent, signed}
 abbrev pub exponent_cap : ℕ
 exponent_cap = 2 ^ 66
 
+-- below this an exponent is near 0
+abbrev pub near_cap : ℕ
+near_cap = 2 ^ 32
+
 -- the exponent as the code keeps it
 abbrev pub capped : Option Exponent → ℤ
 capped None = pos 0

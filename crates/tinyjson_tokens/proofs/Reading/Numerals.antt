@@ -13,11 +13,10 @@ use Rattle.tinyjson_number.proofs.Callers.{spelling_ascii, spelling_room}
 use Rattle.tinyjson_number.specs.Number.{Canonical}
 use Rattle.tinyjson_number.specs.Numeral.{numeral, Numeral, Exponent, AreDigits, IsExponent, value, in_range, has_leading_zero}
 use Rattle.tinyjson_number.specs.Numeral.{is_exponent_letter, is_sign, minus_text, sign_text, fraction_text, exponent_text, spelling}
-use Rattle.tinyjson_number.specs.declared.parse.NumberParts.{NumberParts}
 use Rattle.tinyjson_grammar.specs.Position.{advance, origin}
 use Rattle.tinyjson_grammar.specs.Machine.{Frame, Next, next, stop, awaited, digits, integer, fraction, exponent, complete}
 use Rattle.tinyjson_tokens.specs.NumberSteps.{all_digits, Part}
-use Rattle.tinyjson_number.specs.Scan.{EndsNumber, IsGrammatical, NumeralAt, PartsAt}
+use Rattle.tinyjson_number.specs.Scan.{EndsNumber, IsGrammatical, NumeralAt}
 use Rattle.tinyjson_tokens.specs.Numerals.{EndsBefore, TakesNumeral}
 use Rattle.tinyjson_tokens.specs.Slice.{before, chars_after, NextChar}
 use Rattle.tinyjson_tokens.specs.Source.{Sight}
@@ -64,9 +63,6 @@ module _ (text : List ℕ) (at : ℕ) (first : at ≤ length text) (n : Numeral)
 
   pub numeral_some : at < end
   numeral_some = omega (arith, numeral_count, spelling_room n, x.grammatical.well_formed.some_digit)
-
-  numeral_room : length n.integer + length n.fraction ≤ length text
-  numeral_room = omega (arith, numeral_count, x.within, spelling_room n)
 
 module _ (text : List ℕ) (utf8 : IsUtf8 text) (at : ℕ) (first : IsCharBoundary text at) (n : Numeral) (end : ℕ)
     (x : NumeralAt text at n end) where
@@ -138,13 +134,6 @@ numeral_taken p q n x same =
       };
       ends = (f.0, ap (λ t. slice_get (chars_after t end) 0) same ∙ f.1, f.2);
     }
-
-pub parts_room : (text : List ℕ) (at : ℕ) (first : at ≤ length text) (parts : NumberParts) (end : ℕ) → PartsAt text at parts end
-    → length parts.integer.now + length parts.fraction.now ≤ length text
-parts_room text at first parts end x =
-    let integer = ap (λ (m : Numeral). length m.integer) x.1 in
-    let fraction = ap (λ (m : Numeral). length m.fraction) x.1 in
-    omega (arith, integer, fraction, numeral_room text at first x.0 end x.2)
 
 -- ---- the machine takes it
 

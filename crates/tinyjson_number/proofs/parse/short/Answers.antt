@@ -1,14 +1,25 @@
-use Rattle.std.proofs.Common.{arith, length-append}
+use Rattle.std.proofs.Common.{◌≡◌, ◌<◌, ◌≤◌, ◌++◌, length, sym, ap, ◌∙◌, arith, length-append}
 use Rattle.std.proofs.lemmas.List.{nil_from_length}
 use Rattle.tinyjson_number.proofs.DecimalTrip.{digits_join}
-use Rattle.tinyjson_number.proofs.Readings.{kept_is, zero_value, zero_in_range, value_exact, power_few}
+use Rattle.tinyjson_number.proofs.Readings.{kept_is, zero_value, zero_in_range, value_exact, value_fits, power_near, power_near_fits}
 use Rattle.tinyjson_number.proofs.parse.short.Goals as goal
 
 pub returns-then-kept-eq0 : goal.returns-then-kept-eq0
 returns-then-kept-eq0 c = grind (arith, nil_from_length, zero_value, zero_in_range)
 
 pub of_few-requires-clause-canonical : goal.of_few-requires-clause-canonical
-of_few-requires-clause-canonical c = grind (arith, length-append, power_few, kept_is, digits_join)
+of_few-requires-clause-canonical c =
+    let p = c.args.parts in
+    let kept = c.strip-kept in
+    let some : 0 < length (kept.result.integer.now ++ kept.result.fraction.now) =
+    omega (arith, c.if-kept-eq0.false, length-append kept.result.integer.now kept.result.fraction.now) in
+    let few : length p.fraction.now ≤ 24 = omega (arith, c.requires.few) in
+    let left = kept.ensures.zeros (omega (arith, some, ap length kept.ensures.digits)) in
+    let zeros : kept.result.zeros ≤ 24 = omega (arith, left, length-append p.integer.now p.fraction.now, c.requires.few) in
+    let power = power_near c.args.exponent kept.result.zeros (length p.fraction.now) zeros few c.requires.near.0 c.requires.near.1 in
+    let fits = power_near_fits c.args.exponent kept.result.zeros (length p.fraction.now) zeros few c.requires.near.0 c.requires.near.1 in
+    rw power (kept_is p.negative (kept.result.integer.now ++ kept.result.fraction.now) _ some (p.integer.now ++ p.fraction.now)
+    kept.ensures.digits (digits_join p.integer.now p.fraction.now c.requires.integer c.requires.fraction) fits)
 
 pub returns : goal.returns
-returns c = grind (arith, length-append, power_few, value_exact)
+returns c = grind (arith, length-append, power_near, power_near_fits, value_exact, value_fits)

@@ -3,7 +3,7 @@ use Rattle.std.proofs.lemmas.Str.{IsUtf8-had}
 use Rattle.tinyjson_number.proofs.Callers.{parts_read}
 use Rattle.tinyjson_number.specs.Scan.{PartsAt}
 use Rattle.tinyjson_tokens.proofs.Reading.Numerals.{numeral_boundary, numeral_some, numeral_taken}
-use Rattle.tinyjson_tokens.proofs.text.TextBytesTokens.short_number.Goals as goal
+use Rattle.tinyjson_tokens.proofs.text.TextBytesTokens.ready_number.Goals as goal
 
 pub invariant_of-after : goal.invariant_of-after
 invariant_of-after c =

@@ -4,7 +4,7 @@ use Rattle.std.proofs.lemmas.List.{drop-drop, drop_at, length-drop, take_at, tak
 use Rattle.tinyjson_number.specs.Numeral.{Numeral, exponent_text, fraction_text, minus_text}
 use Rattle.tinyjson_number.specs.Scan.{PartsAt}
 use Rattle.tinyjson_number.specs.declared.parse.NumberParts.{NumberParts}
-use Rattle.tinyjson_number.proofs.parse.short_number_at.Goals as goal
+use Rattle.tinyjson_number.proofs.parse.unpadded_at.Goals as goal
 
 -- what follows the sign
 unsigned : (b : Bool) (text rest : List ℕ) (at : ℕ) → drop at text ≡ minus_text b ++ rest → drop (at + mir.Val.bool_byte b) text ≡ rest
@@ -62,15 +62,15 @@ module _ (text : List ℕ) (at : ℕ) (p : NumberParts) (end : ℕ) (x : PartsAt
 
 pub of_text-requires : goal.of_text-requires
 of_text-requires c =
-    let r = c.in_ok-parts in
+    let p = c.args.parts in
     let text = c.args.bytes.now in
-    let h = room text c.args.at r.parts r.end r.ensures.0 (omega (arith, c.if-bytes-end-lt17.false)) in
-    omega (arith, h, ap length (take_rest text (c.args.at + mir.Val.bool_byte r.parts.negative)))
+    let h = room text c.args.at p c.args.end c.requires.at (omega (arith, c.if-bytes-end-lt17.false)) in
+    omega (arith, h, ap length (take_rest text (c.args.at + mir.Val.bool_byte p.negative)))
 
 pub unpadded-requires-clause-digits : goal.unpadded-requires-clause-digits
 unpadded-requires-clause-digits c =
-    let r = c.in_ok-parts in
+    let p = c.args.parts in
     let text = c.args.bytes.now in
-    let d = digits_are text c.args.at r.parts r.end r.ensures.0 in
-    c.in_ok-digits.ensures.1 ∙ ap (λ t. take (length r.parts.integer.now) t ++ take (length r.parts.fraction.now)
-    (drop (length r.parts.integer.now + 1) t)) (take_rest text (c.args.at + mir.Val.bool_byte r.parts.negative)) ∙ d
+    let d = digits_are text c.args.at p c.args.end c.requires.at in
+    c.in_ok-digits.ensures.1 ∙ ap (λ t. take (length p.integer.now) t ++ take (length p.fraction.now)
+    (drop (length p.integer.now + 1) t)) (take_rest text (c.args.at + mir.Val.bool_byte p.negative)) ∙ d
