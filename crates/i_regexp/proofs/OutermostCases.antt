@@ -9,6 +9,7 @@ use Rattle.i_regexp.specs.declared.error.IRegexpErrorKind.TheVariants.{Invalid, 
 use Rattle.i_regexp.specs.declared.mark.Mark.{Mark as CodeMark}
 use Rattle.i_regexp.specs.declared.mark.Mark.TheVariants as code
 use Rattle.i_regexp.specs.declared.outermost.Outermost.{Outermost}
+use Rattle.marked_regexp.specs.Automaton.{expression_of}
 use Rattle.marked_regexp.specs.Building.{Means}
 use Rattle.i_regexp.specs.Patterns.{Mark, look, start, end, token, Look, Case, has_looks, AreSmall, AreSmallCases}
 use Rattle.i_regexp.specs.PatternFronts.{mark_of}
@@ -134,21 +135,21 @@ look_closed old new n k done e c l i here s a some none =
 
 -- ---- the end of a branch
 
-pub case_ended : (old new : Outermost) (n : CaseTree) → Finishes old.here n.root → n.looks ≡ old.looks
+pub case_ended : (old new : Outermost) (n : CaseTree) → Finishes old.here (expression_of n.root) → n.looks ≡ old.looks
     → new.cases.items ≡ old.cases.items ++ n ∷ [] → new.looks.items ≡ [] → new.inside ≡ old.inside → AgreesAt new.here (initial false)
     → (s : CasesState) → StandsFor old s → s.inside ≡ None → no_levels s.here.state.1 ≡ true → StandsFor new (next_case s)
 case_ended old new n done l c k i here s a out none =
     let f = done s.here a.here none in
     let alone = a.proper.alone out in
     let fixed : s.here.fixed ≡ has_looks s.looks = a.proper.behind (ap is_some out) in
-    let first : Means n.root (form_at s.here.fixed (part_in s.here)) =
-    subst (λ qs. Means n.root (disjunction_form s.here.fixed (record { before = qs; last = part_in s.here }))) alone f.0 in
+    let first : Means (expression_of n.root) (form_at s.here.fixed (part_in s.here)) =
+    subst (λ qs. Means (expression_of n.root) (disjunction_form s.here.fixed (record { before = qs; last = part_in s.here }))) alone f.0 in
     let small = subst (λ qs. AreSmall (qs ++ part_in s.here ∷ [])) alone f.1 in
     record {
       cases = subst (λ v. CasesMean v (s.cases ++ case_in s ∷ [])) (sym c) (cases_mean_push old.cases.items s.cases n (case_in s) a.cases
           (record {
             looks = subst (λ v. LooksMean v.items s.looks) (sym l) a.looks;
-            root = subst (λ b. Means n.root (form_at b (part_in s.here))) fixed first;
+            root = subst (λ b. Means (expression_of n.root) (form_at b (part_in s.here))) fixed first;
           }));
       looks = subst (λ v. LooksMean v []) (sym k) tt;
       inside = i ∙ (a.inside ∙ out);

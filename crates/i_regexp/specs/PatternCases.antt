@@ -8,6 +8,7 @@ use Rattle.i_regexp.specs.declared.cases.Case.{Case as CaseTree}
 use Rattle.i_regexp.specs.declared.error.IRegexpErrorKind.{IRegexpErrorKind}
 use Rattle.i_regexp.specs.declared.error.IRegexpErrorKind.TheVariants as kind
 use Rattle.i_regexp.specs.declared.outermost.Outermost.{Outermost}
+use Rattle.marked_regexp.specs.Automaton.{expression_of}
 use Rattle.marked_regexp.specs.Building.{Means, choice}
 use Rattle.marked_regexp.specs.Forms.{Form}
 use Rattle.i_regexp.specs.Grammar.{Token, opened, closed}
@@ -132,7 +133,7 @@ LooksMean (n ∷ ns) (k ∷ ks) = LookMeans n k × LooksMean ns ks
 
 pub record CaseMeans (n : CaseTree) (c : Case) : Type 0 where
   pub looks : LooksMean n.looks.items c.looks
-  pub root : Means n.root (form_at (has_looks c.looks) c.part)
+  pub root : Means (expression_of n.root) (form_at (has_looks c.looks) c.part)
 
 abbrev pub CasesMean : List CaseTree → List Case → Type 0
 CasesMean [] [] = Unit {0}

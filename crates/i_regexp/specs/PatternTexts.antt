@@ -3,6 +3,7 @@ use Rattle.std.specs.Prelude.{ℕ, Bool, true, false, List, [], ◌∷◌, map}
 use Rattle.i_regexp.specs.declared.cases.Look.{Look}
 use Rattle.i_regexp.specs.declared.cases.Case.{Case}
 use Rattle.marked_regexp.specs.Forms.{Form, both, no, Matches}
+use Rattle.marked_regexp.specs.Automaton.{expression_of}
 use Rattle.marked_regexp.specs.Building.{form_of}
 
 -- all other texts, if it is negated
@@ -21,7 +22,7 @@ look_text k = unless_form k.negated (form_of k.root)
 
 -- the texts that the branch is found in
 abbrev pub case_text : Case → Form
-case_text c = guarded (map look_text c.looks.items) (form_of c.root)
+case_text c = guarded (map look_text c.looks.items) (form_of (expression_of c.root))
 
 -- each of them matches
 abbrev pub AllMatch : List Form → List ℕ → Type 0

@@ -1,6 +1,6 @@
 //! The outermost branches of a schema's pattern, with their look-aheads, as trees.
 
-use marked_regexp::Expression;
+use marked_regexp::{Automaton, Expression};
 
 /// A look-ahead: a tree of the texts before which it holds, or does not hold if it is negated.
 #[derive(Drop)]
@@ -9,9 +9,9 @@ pub(crate) struct Look {
     pub(crate) root: Expression,
 }
 
-/// An outermost branch: its look-aheads, and a tree of the texts that it matches a part of.
+/// An outermost branch: its look-aheads, and an automaton of the texts that it matches a part of.
 #[derive(Drop)]
 pub(crate) struct Case {
     pub(crate) looks: Vec<Look>,
-    pub(crate) root: Expression,
+    pub(crate) root: Automaton,
 }

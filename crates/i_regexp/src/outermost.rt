@@ -13,6 +13,7 @@ use crate::cases::{Case, Look};
 use crate::error::{IRegexpError, IRegexpErrorKind};
 use crate::mark::{Mark, next_mark};
 use crate::token::Token;
+use marked_regexp::Automaton;
 use std::alloc::{AllocError, Global};
 use std::mem;
 
@@ -77,6 +78,7 @@ impl Outermost {
     {
         let root = self.here.finish(alloc)?;
         let looks = mem::replace(&mut self.looks, Vec::new(alloc));
+        let root = Automaton::new(alloc, root);
         self.cases.push(Case { looks, root })?;
         self.here = Branches::new(alloc, false);
         Ok(())

@@ -7,7 +7,7 @@ use Rattle.marked_regexp.proofs.Running.{kept_cleared, marked_cleared}
 use Rattle.marked_regexp.specs.declared.marked.Node.{Node}
 use Rattle.marked_regexp.specs.declared.marked.Node.TheVariants.{Empty, Class, Concat', Alternation', Star', UpTo}
 
-same_true : (a b : Bool) → same_bool a b ≡ true → a ≡ b
+pub same_true : (a b : Bool) → same_bool a b ≡ true → a ≡ b
 same_true true b h = sym h
 same_true false true h = absurd (true≢false (sym h))
 same_true false false h = refl

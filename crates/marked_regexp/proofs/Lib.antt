@@ -3,3 +3,5 @@ pub mod Running
 pub mod Kept
 pub mod Building
 pub mod Callers
+pub mod Rereading
+pub mod Automata

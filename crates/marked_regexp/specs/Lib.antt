@@ -1,3 +1,5 @@
 pub mod Forms
 pub mod Marked
 pub mod Building
+pub mod Automata
+pub mod Automaton

@@ -1,5 +1,5 @@
 -- The marked tree of a regular expression; for private contracts.
-use Rattle.std.specs.Prelude.{not, ◌≡◌, ℕ, zero, suc, nat_le, Bool, true, false, ◌&&◌, ◌||◌, cond, List, [], ◌∷◌, ◌++◌}
+use Rattle.std.specs.Prelude.{not, ◌≡◌, ◌==◌, ℕ, zero, suc, nat_le, Bool, true, false, ◌&&◌, ◌||◌, cond, List, [], ◌∷◌, ◌++◌}
 use Rattle.std.specs.Prelude.{Option, Some, None, is_some, ◌⊎◌}
 use Rattle.marked_regexp.specs.declared.class.Class.{Class as ClassOf}
 use Rattle.marked_regexp.specs.declared.class.Item.{Item}
@@ -167,3 +167,28 @@ is_kept (Concat' p l q r le re ends lm rm) =
 is_kept (Alternation' p l q r lm rm) = is_kept l && (is_kept r && (same_bool lm (is_marked l) && same_bool rm (is_marked r)))
 is_kept (Star' p b ends) = same_bool ends (ends_here b) && is_kept b
 is_kept (UpTo cl most left) = is_within left most
+
+-- both counts are equal, or there is none
+abbrev pub same_count : Option ℕ → Option ℕ → Bool
+same_count None None = true
+same_count (Some n) (Some m) = n == m
+same_count _ _ = false
+
+-- two trees of one regular expression have the same marks
+abbrev pub same_marks : Node → Node → Bool
+same_marks Empty Empty = true
+same_marks (Class cl mark) (Class cl' mark') = same_bool mark mark'
+same_marks (Concat' p l q r le re ends lm rm) (Concat' p' l' q' r' le' re' ends' lm' rm') = same_marks l l' && same_marks r r'
+same_marks (Alternation' p l q r lm rm) (Alternation' p' l' q' r' lm' rm') = same_marks l l' && same_marks r r'
+same_marks (Star' p b ends) (Star' p' b' ends') = same_marks b b'
+same_marks (UpTo cl most left) (UpTo cl' most' left') = same_count left left'
+same_marks _ _ = false
+
+-- the text is matched from the marks on or, with `start`, from its beginning
+abbrev pub reads : Bool → Node → List ℕ → Bool
+reads start n [] = ends_here n || (start && skips n)
+reads start n (c ∷ cs) = reads false (shifted start c n) cs
+
+-- whether each text is matched that goes on from the marks, or none is, where that is plain
+abbrev pub verdict_in : Node → Option Bool
+verdict_in n = cond (is_marked n) (cond (is_settled n) (Some true) None) (Some false)

@@ -8,11 +8,14 @@
 //! ```
 #![tactic(auto)]
 
+mod automaton;
 mod build;
 mod class;
 mod expression;
 mod marked;
 mod run;
+mod state;
 
+pub use automaton::Automaton;
 pub use class::{Class, Item};
 pub use expression::Expression;

@@ -2,6 +2,7 @@
 ghost use Rattle.std.specs.Prelude.{◌≡◌, IfOk};
 ghost use Rattle.marked_regexp.specs.Marked.{IsKept, shifted, cleared, skips, is_marked, ends_here};
 ghost use Rattle.marked_regexp.specs.Marked.{is_empty, is_each, is_any, is_settled, fewer, IsCopy};
+ghost use Rattle.marked_regexp.specs.Marked.{same_marks};
 
 use crate::class::Class;
 use std::alloc::{AllocError, Global};
@@ -173,6 +174,43 @@ impl Node {
             } => { right.is_settled() || (*left_ends && right.is_any()) }
             Node::Alternation { left, right, .. } => left.is_settled() || right.is_settled(),
             Node::Star { body, body_ends } => *body_ends && body.is_each(),
+        }
+    }
+
+    /// Whether both have the same marks. They are trees of one regular expression.
+    pub(crate) fn has_marks_of(&self, other: &Node) -> bool
+        ensures { result ≡ same_marks self.now other.now }
+    {
+        match self {
+            Node::Empty => other.is_empty(),
+            Node::Class { mark, .. } => match other {
+                Node::Class { mark: as_here, .. } => *mark == *as_here,
+                _ => false,
+            },
+            Node::Concat { left, right, .. } => match other {
+                Node::Concat {
+                    left: first,
+                    right: second,
+                    ..
+                } => left.has_marks_of(first) && right.has_marks_of(second),
+                _ => false,
+            },
+            Node::Alternation { left, right, .. } => match other {
+                Node::Alternation {
+                    left: first,
+                    right: second,
+                    ..
+                } => left.has_marks_of(first) && right.has_marks_of(second),
+                _ => false,
+            },
+            Node::Star { body, .. } => match other {
+                Node::Star { body: repeated, .. } => body.has_marks_of(repeated),
+                _ => false,
+            },
+            Node::UpTo { left, .. } => match other {
+                Node::UpTo { left: as_here, .. } => *left == *as_here,
+                _ => false,
+            },
         }
     }
 
