@@ -12,8 +12,8 @@ use crate::search::any_found;
 use std::alloc::Global;
 
 /// A pattern of JSON Schema, in the dialect that the standard recommends (Core 2020-12, 6.4), with
-/// the escapes of ECMA-262. Matching borrows it mutably, for marks that move over the text. They
-/// have no meaning between calls.
+/// the escapes of ECMA-262. Matching borrows it mutably: it remembers, within a bound, what the
+/// characters of ASCII lead to, so that further texts take less time.
 ///
 /// ```
 /// let mut code = SchemaPattern::parse(alloc, "^[A-Z]{2}\\d+$")?;
@@ -52,7 +52,8 @@ impl SchemaPattern {
 
     /// Whether the pattern matches a part of the text. A branch that begins with `^` matches only
     /// at the beginning, and if its look-aheads hold there; one that ends with `$` only at the end.
-    /// The time is at most proportional to the product of the two sizes. It takes no memory.
+    /// The time is at most proportional to the product of the two sizes. Where memory for what it
+    /// remembers is refused, it remembers less.
     ///
     /// ```
     /// let mut digits = SchemaPattern::parse(alloc, "\\d{3}")?;

@@ -44,6 +44,11 @@ pub struct Automaton {
 
 impl Automaton {
     /// The automaton of the regular expression. It takes no memory.
+    ///
+    /// ```
+    /// let mut digit = Automaton::new(alloc, digit);
+    /// assert!(rt; !digit.matches("a"));
+    /// ```
     pub fn new(alloc: Global, expression: Expression) -> Automaton
         ensures { result.expression ≡ expression }
     {
@@ -59,8 +64,8 @@ impl Automaton {
     /// expression and the text.
     ///
     /// ```
-    /// let mut digit = Automaton::new(alloc, digit);
-    /// assert!(rt; digit.matches("7"));
+    /// let mut word = Automaton::new(alloc, Expression::star(alloc, letter)?);
+    /// assert!(rt; word.matches("abba"));
     /// ```
     pub fn matches(&mut self, text: &str) -> bool
         ensures matched { IsTrue result ↔ Matches (form_of self.old.expression) (chars text.now) }

@@ -1,6 +1,6 @@
 //! The examples of `marked_regexp`, to the letter.
 
-use marked_regexp::{Class, Expression, Item};
+use marked_regexp::{Automaton, Class, Expression, Item};
 use std::test::Fail;
 
 #[test]
@@ -106,5 +106,42 @@ fn a_choice(rt: HostRuntime) -> Result<(), Fail> {
     branches.push(Expression::one_of(Class::single(alloc, Item::Range('b', 'b'))?))?;
     let mut any = Expression::choice_of(alloc, branches)?;
     assert!(rt; any.matches("b"));
+    Ok(())
+}
+
+/// Of `Automaton`. The second text goes the way of the first one.
+#[test]
+fn automaton(rt: HostRuntime) -> Result<(), Fail> {
+    let alloc = rt.alloc();
+    let digit = Expression::one_of(Class::single(alloc, Item::Range('0', '9'))?);
+    let mut year = Automaton::new(alloc, digit.repeat(alloc, 4, Some(4))?);
+    assert!(rt; year.matches("2026"));
+    assert!(rt; !year.matches("20261"));
+    assert!(rt; year.matches("1999"));
+    assert!(rt; !year.matches(""));
+    assert!(rt; !year.matches("٢٠٢٦"));
+    Ok(())
+}
+
+/// Of `Automaton::new`.
+#[test]
+fn automaton_of_an_expression(rt: HostRuntime) -> Result<(), Fail> {
+    let alloc = rt.alloc();
+    let digit = Expression::one_of(Class::single(alloc, Item::Range('0', '9'))?);
+    let mut digit = Automaton::new(alloc, digit);
+    assert!(rt; !digit.matches("a"));
+    Ok(())
+}
+
+/// Of `Automaton::matches`. Characters outside of ASCII are matched without steps that are kept.
+#[test]
+fn automaton_of_letters(rt: HostRuntime) -> Result<(), Fail> {
+    let alloc = rt.alloc();
+    let letter = Expression::one_of(Class::single(alloc, Item::Range('a', 'ω'))?);
+    let mut word = Automaton::new(alloc, Expression::star(alloc, letter)?);
+    assert!(rt; word.matches("abba"));
+    assert!(rt; word.matches("αβ"));
+    assert!(rt; word.matches("abβα"));
+    assert!(rt; !word.matches("aBba"));
     Ok(())
 }

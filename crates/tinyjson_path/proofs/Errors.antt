@@ -1,14 +1,14 @@
 -- What an error of a part of a query says of the whole.
 use Rattle.std.proofs.Common.{◌≡◌, ℕ, ◌<◌, List, [], ◌∷◌, ◌++◌, map, length, get_or, refl, sym, ap}
 use Rattle.std.proofs.Common.{◌∙◌, subst}
-use Rattle.std.proofs.Common.{rules, Result, Ok, Err, Option}
+use Rattle.std.proofs.Common.{rules, Result, Ok, Err, Option, Bool}
 use Rattle.std.specs.Prelude.{IsErrAnd, IfErr, IfOk}
 use Rattle.tinyjson.specs.Tree.{Tree}
 use Rattle.tinyjson_path.specs.Answers.{answer_of, found_view}
 use Rattle.tinyjson_path.specs.Comparing.{origin_tree}
 use Rattle.tinyjson_path.specs.Nodes.{Part, part_view, parts_view}
 use Rattle.tinyjson_view.specs.Views.{tree_of}
-use Rattle.tinyjson_path.specs.Queries.{found_by, filter_parts, comparable_value}
+use Rattle.tinyjson_path.specs.Queries.{found_by, filter_parts, comparable_value, is_some_part}
 use Rattle.tinyjson_path.specs.Strings.{Texts, joined, strings_in, strings_at, strings_of, comparable_strings, IsFrom, IsFromAny}
 use Rattle.tinyjson_path.specs.declared.answers.Found.{Found}
 use Rattle.tinyjson_path.specs.declared.node.Node.{Node}
@@ -110,15 +110,14 @@ part_result whole part here root r w k =
     from_result (part ++ (strings_in root ++ here)) (whole ++ (strings_in root ++ here)) r
     (of_all whole here root part here w (of_here whole here root)) k
 
--- of a query that is asked of the root
-pub error_of_root : {T : Type 0} (whole part : Texts) (root : Tree) (r : Result T FindError) → whole ≡ part
-    → IfErr r (IsFromAny part root (strings_in root)) → IfErr r (IsFrom (whole ++ strings_in root))
-error_of_root whole part root r e k =
+-- of nodes that wait, whose strings are the root's
+pub error_of_rest : {T : Type 0} (part waits : Texts) (root : Tree) (d : FindError) (r : Result T FindError) → IsErrAnd r (λ e. e ≡ d)
+    → Within waits (strings_in root) → IsFromAny part root waits d → IfErr r (IsFrom (part ++ strings_in root))
+error_of_rest part waits root d r h w k =
     let zs = strings_in root in
-    from_result (part ++ (zs ++ zs)) (whole ++ zs) r
-    (within_both part (zs ++ zs) (whole ++ zs)
-    (within_trans part whole (whole ++ zs) (within_same part whole (sym e)) (within_left whole zs))
-    (within_both zs zs (whole ++ zs) (within_right whole zs) (within_right whole zs)))
+    from_error (part ++ (zs ++ waits)) (part ++ zs) d r h
+    (within_both part (zs ++ waits) (part ++ zs) (within_left part zs)
+    (within_both zs waits (part ++ zs) (within_right part zs) (within_trans waits zs (part ++ zs) w (within_right part zs))))
     k
 
 -- of a root that is the same
@@ -139,3 +138,8 @@ pub answered : (q : FilterQuery) (root here start : Tree) (r : Result Found Find
     → IfOk r (λ f. found_view f ≡ answer_of (filter_parts q root here))
 answered q root here start (Ok f) s h = h ∙ ap answer_of (finds_by q root here start s)
 answered q root here start (Err e) s h = tt
+
+pub some_answered : (q : FilterQuery) (root here start : Tree) (r : Result Bool FindError) → start ≡ origin_tree q.origin root here
+    → IfOk r (λ b. b ≡ is_some_part (found_by q.segments.items root start)) → IfOk r (λ b. b ≡ is_some_part (filter_parts q root here))
+some_answered q root here start (Ok b) s h = h ∙ ap is_some_part (finds_by q root here start s)
+some_answered q root here start (Err e) s h = tt

@@ -28,6 +28,13 @@ pub are_within : (zs : Texts) (ps : List Part) → AreWithin zs ps → Within (s
 are_within zs [] h = within_none zs
 are_within zs (p ∷ ps) h = within_both (strings_in p.tree) (strings_of ps) zs h.0 (are_within zs ps h.1)
 
+pub are_from : (zs : Texts) (ps : List Part) → Within (strings_of ps) zs → AreWithin zs ps
+are_from zs [] w = tt
+are_from zs (p ∷ ps) w = (
+  within_trans (strings_in p.tree) (strings_of (p ∷ ps)) zs (within_left (strings_in p.tree) (strings_of ps)) w,
+  are_from zs ps (within_trans (strings_of ps) (strings_of (p ∷ ps)) zs (within_right (strings_in p.tree) (strings_of ps)) w),
+)
+
 pub are_in : (xs ys : Texts) (ps : List Part) → Within xs ys → AreWithin xs ps → AreWithin ys ps
 are_in xs ys [] w h = tt
 are_in xs ys (p ∷ ps) w h = (within_trans (strings_in p.tree) xs ys h.0 w, are_in xs ys ps w h.1)

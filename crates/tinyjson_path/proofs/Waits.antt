@@ -1,13 +1,13 @@
 -- What waits on a stack, the first one last: what it selects, how long that takes, and whose strings it has.
 use Rattle.std.proofs.Common.{◌≡◌, ℕ, suc, ◌+◌, ◌<◌, ◌≤◌, List, [], ◌∷◌, ◌++◌, reverse, map, drop, length, get_or, refl, sym, ap, ◌∙◌, subst}
-use Rattle.std.proofs.Common.{arith, append_assoc, append-nil, rules, Vec, Global}
+use Rattle.std.proofs.Common.{arith, append_assoc, append-nil, rules, Vec, Global, Option, None, Some, is_some}
 use Rattle.std.proofs.lemmas.List.{map-append, reverse-append, reverse-reverse, length-append}
 use Rattle.tinyjson.specs.Tree.{Tree}
-use Rattle.tinyjson_path.specs.Nodes.{Part, part_view, parts_view, children, visited, root_part}
-use Rattle.tinyjson_path.specs.Queries.{Selects, one_by_one, segment_parts, selected_by, found_by, kept}
+use Rattle.tinyjson_path.specs.Nodes.{Part, Takes, part_view, parts_view, children, visited, root_part}
+use Rattle.tinyjson_path.specs.Queries.{Selects, one_by_one, segment_parts, selected_by, found_by, is_some_part, kept}
 use Rattle.tinyjson_path.specs.Selecting.{from_each}
 use Rattle.tinyjson_path.specs.Strings.{Texts, strings_in}
-use Rattle.tinyjson_path.specs.Waiting.{Wait, waits_view, rest_of, waits_at, waits_left, wants}
+use Rattle.tinyjson_path.specs.Waiting.{Wait, waits_view, rest_of, waits_at, waits_left, waits_parts, waits_strings, wants}
 use Rattle.tinyjson_path.specs.declared.children.Wanted.TheVariants.{Containers}
 use Rattle.tinyjson_path.specs.declared.node.Node.{Node}
 use Rattle.tinyjson_path.specs.declared.select.Waiting.{Waiting}
@@ -17,6 +17,8 @@ use Rattle.tinyjson_path.proofs.Selected.{AreWithin, are_both, are_first, are_la
 use Rattle.tinyjson_path.proofs.Stated.{segment_keeps}
 use Rattle.tinyjson_path.proofs.Wanting.{each_container, fewer_kept, visited_scalar}
 use Rattle.tinyjson_path.proofs.Within.{Within}
+use Rattle.tinyjson_view.specs.Views.{tree_of}
+use Rattle.tinyjson_view.specs.declared.view.ValueView.{ValueView}
 use Rattle.tinyjson_path_query.specs.declared.query.Segment.{Segment, the_lemmas}
 use Rattle.tinyjson_path_query.specs.declared.query.Segment.TheVariants as segment
 use Rattle.tinyjson_path_query.specs.declared.query.Selector.{Selector}
@@ -123,23 +125,6 @@ module _ (ss : List Segment) (root : Tree) where
       → waits_left ss root ws ≡ p ∷ waits_left ss root mid
   left_whole ws mid i p e d =
       left_popped ws mid (i, p) e ∙ ap (λ xs. one_by_one root (map segment_parts xs) (p ∷ []) ++ waits_left ss root mid) d
-
-  pub less_whole : (ws mid : List Wait) (i : ℕ) (p : Part) → ws ≡ mid ++ (i, p) ∷ [] → drop i ss ≡ [] → pops_of mid < pops_of ws
-  less_whole ws mid i p e d =
-      let was : pops_of ws ≡ pops_of mid + pops_of ((i, p) ∷ []) = ap pops_of e ∙ pops_of_append mid ((i, p) ∷ []) in
-      let one : pops root (segments_from i) (p ∷ []) ≡ 1 = ap (λ xs. pops root (map segment_parts xs) (p ∷ [])) d in
-      omega (arith, was, one)
-
-  -- what was selected, and what is left
-  pub goes_on : (acc : List Part) (goal : List Part) (new ws : List Wait) → waits_left ss root new ≡ waits_left ss root ws
-      → acc ++ waits_left ss root ws ≡ goal → acc ++ waits_left ss root new ≡ goal
-  goes_on acc goal new ws e h = ap (λ z. acc ++ z) e ∙ h
-
-  pub takes_one : (acc more goal : List Part) (ws mid : List Wait) (i : ℕ) (p : Part) → ws ≡ mid ++ (i, p) ∷ [] → drop i ss ≡ []
-      → more ≡ acc ++ p ∷ [] → acc ++ waits_left ss root ws ≡ goal → more ++ waits_left ss root mid ≡ goal
-  takes_one acc more goal ws mid i p e d m h =
-      ap (λ z. z ++ waits_left ss root mid) m
-      ∙ (append_assoc acc (p ∷ []) (waits_left ss root mid) ∙ (ap (λ z. acc ++ z) (sym (left_whole ws mid i p e d)) ∙ h))
 
   module _ (i : ℕ) (s : Segment) (l : i < length ss) (at : s ≡ get_or ss i s) (sels : Vec Selector Global) (p : Part) where
     abbrev chosen : List Part
@@ -252,10 +237,32 @@ module _ (ss : List Segment) (root : Tree) where
         let some : length (from_each visited_of (p ∷ [])) ≡ suc (length (from_each visited_of below)) = ap length seen in
         omega (arith, was, is, under, each, fewer, here, more, some)
 
+-- ---- one by one
+
+-- what came, and what is still to come
+pub one_more : (ps old new goal : List Part) (p : Part) → old ≡ p ∷ new → ps ++ old ≡ goal → (ps ++ p ∷ []) ++ new ≡ goal
+one_more ps old new goal p t h = append_assoc ps (p ∷ []) new ∙ (ap (λ z. ps ++ z) (sym t) ∙ h)
+
+pub one_less : (old new : List Part) (p : Part) → old ≡ p ∷ new → length new < length old
+one_less old new p t = let more : length old ≡ suc (length new) = ap length t in omega (arith, more)
+
+pub all_came : (ps old goal : List Part) → old ≡ [] → ps ++ old ≡ goal → ps ≡ goal
+all_came ps old goal e h = sym (append-nil ps) ∙ (ap (λ z. ps ++ z) (sym e) ∙ h)
+
+-- of a root that is the same
+pub next_at : (ss : List Segment) (ws vs : List Wait) (o : Option Node) {r s : ValueView} → r ≡ s
+    → Takes (waits_left ss (tree_of r) ws) (waits_left ss (tree_of r) vs) o → Takes (waits_left ss (tree_of s) ws) (waits_left ss (tree_of s) vs) o
+next_at ss ws vs o e t = subst (λ x. Takes (waits_left ss (tree_of x) ws) (waits_left ss (tree_of x) vs) o) e t
+
+pub is_next : (old new : List Part) (o : Option Node) → Takes old new o → is_some o ≡ is_some_part old
+is_next old new (Some n) t = ap is_some_part (sym t)
+is_next old new None t = ap is_some_part (sym t.0)
+
 -- ---- whose strings they have
 
-abbrev pub waits_parts : List Wait → List Part
-waits_parts ws = map (λ w. w.1) ws
+-- of the one part that waits at first
+pub first_strings : (ws : List Wait) (t : Tree) → ws ≡ (0, root_part t) ∷ [] → waits_strings ws ≡ strings_in t
+first_strings ws t e = ap waits_strings e ∙ append-nil (strings_in t)
 
 -- what selectors select from a part is within it
 pub chosen_within : (sels : Vec Selector Global) (root : Tree) (p : Part) → AreWithin (strings_in p.tree) (selected_by sels.items root p)

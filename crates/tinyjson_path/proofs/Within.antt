@@ -1,20 +1,22 @@
 -- Lists of texts that are within others, and errors that come from one of the texts.
 use Rattle.std.proofs.Common.{◌≡◌, ℕ, zero, suc, ◌<◌, List, [], ◌∷◌, ◌++◌, map, length, get_or, Result, Ok, Err, sym, subst, arith}
-use Rattle.std.proofs.Common.{⊎_elim, ap, ◌∙◌, Option, Some}
+use Rattle.std.proofs.Common.{⊎_elim, ap, ap₂, refl, ◌∙◌, Option, Some, true, ◌&&◌, bytes_eq}
+use Rattle.std.proofs.lemmas.Bool.{and_parts}
+use Rattle.std.proofs.lemmas.List.Folds.{list_any_at}
+use Rattle.std.proofs.lemmas.Map.Views.{Contains-from_any}
+use Rattle.std.proofs.lemmas.Slice.Eq.{bytes_eq-Decides}
+use Rattle.std.specs.List.{list_any}
 use Rattle.std.proofs.lemmas.List.Elements.{Contains-append_left, Contains-append_right, Contains-append_cases}
 use Rattle.std.specs.Prelude.{Contains, flat_map, IsErrAnd, IfErr}
 use Rattle.tinyjson.specs.Tree.{Tree, null, boolean, number, string, array, object}
 use Rattle.tinyjson_document.specs.Parts.{string_in}
 use Rattle.tinyjson_view.specs.Views.{tree_of}
 use Rattle.tinyjson_path.specs.Seen.{value_tree}
-use Rattle.tinyjson_path.specs.Strings.{Texts, strings_in, strings_at, IsFrom}
+use Rattle.tinyjson_path.specs.Strings.{Texts, strings_in, strings_at, are_among, IsFrom}
+pub use Rattle.tinyjson_path.specs.Strings.{Within}
 use Rattle.tinyjson_path.specs.declared.patterns.FindError.{FindError}
 use Rattle.tinyjson_path.specs.declared.patterns.FindError.TheVariants.{Pattern, OutOfMemory}
 use Rattle.tinyjson_view.specs.declared.view.ValueView.{ValueView}
-
--- each of the first stands among the second
-abbrev pub Within : Texts → Texts → Type 0
-Within xs ys = (x : List ℕ) → Contains xs x → Contains ys x
 
 pub within_self : (xs : Texts) → Within xs xs
 within_self xs x c = c
@@ -45,6 +47,29 @@ within_each g h (y ∷ ys) zero x l e = subst (λ z. Within (g (h z)) (g (h y) +
 within_each g h (y ∷ ys) (suc i) x l e =
     within_trans (g (h x)) (flat_map g (map h ys)) (g (h y) ++ flat_map g (map h ys)) (within_each g h ys i x (omega arith) e)
     (within_right (g (h y)) (flat_map g (map h ys)))
+
+-- ---- as a test
+
+pub among : (xs ys : Texts) → Within xs ys → are_among xs ys ≡ true
+among [] ys w = refl
+among (x ∷ xs) ys w =
+    let c : Contains ys x = w x (within_left (x ∷ []) xs x (0, omega arith, refl)) in
+    ap₂ (λ a b. a && b) (list_any_at (bytes_eq x) ys c.0 x c.1 ((bytes_eq-Decides x _).1 (sym c.2)))
+    (among xs ys (within_trans xs (x ∷ xs) ys (within_right (x ∷ []) xs) w))
+
+within_at : (x : List ℕ) (ys : Texts) → Contains ys x → (z : List ℕ) (i : ℕ) → i < 1 → get_or (x ∷ []) i z ≡ z → Contains ys z
+within_at x ys c z zero l e = subst (Contains ys) e c
+within_at x ys c z (suc i) l e = absurd (omega arith)
+
+within_one : (x : List ℕ) (ys : Texts) → Contains ys x → Within (x ∷ []) ys
+within_one x ys c z k = within_at x ys c z k.0 k.1 k.2
+
+pub within_among : (xs ys : Texts) → are_among xs ys ≡ true → Within xs ys
+within_among [] ys e = within_none ys
+within_among (x ∷ xs) ys e =
+    let h = and_parts (list_any (bytes_eq x) ys) (are_among xs ys) e in
+    within_both (x ∷ []) xs ys (within_one x ys (Contains-from_any (λ a b k. (bytes_eq-Decides a b).0 k) x ys h.0))
+    (within_among xs ys h.1)
 
 -- ---- errors
 

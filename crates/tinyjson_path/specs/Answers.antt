@@ -3,7 +3,7 @@ use Rattle.std.specs.Prelude.{◌≡◌, ℕ, Bool, List, length, map, Option, N
 use Rattle.tinyjson.specs.Tree.{Tree}
 use Rattle.tinyjson_path.specs.Comparing.{size_of, value_of}
 use Rattle.tinyjson_path.specs.Nodes.{Part}
-use Rattle.tinyjson_path.specs.Queries.{comparable_value, found_by, holds_of}
+use Rattle.tinyjson_path.specs.Queries.{comparable_value, found_by, holds_of, is_some_part}
 use Rattle.tinyjson_path.specs.Seen.{value_tree}
 use Rattle.tinyjson_path.specs.declared.answers.Answer.{Answer}
 use Rattle.tinyjson_path.specs.declared.answers.Found.{Found}
@@ -36,6 +36,7 @@ value_at root c = comparable_value c root root
 -- what the definition gives
 abbrev pub due : Tree → Question → Known
 due root (question.Query ss) = (Some (answer_of (found_by ss.now root root)), None, None)
+due root (question.Any ss) = (None, Some (is_some_part (found_by ss.now root root)), None)
 due root (question.Test e) = (None, Some (holds_of e.now root root), None)
 due root (question.Length c) = (None, None, Some (option_and_then size_of (value_at root c.now)))
 

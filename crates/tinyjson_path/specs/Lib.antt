@@ -8,6 +8,8 @@ pub mod Queries
 pub mod Strings
 pub mod Paths
 pub mod Limits
+pub mod Selections
+pub mod Asking
 -- also for public contracts: the words for a query's text, from `tinyjson_path_query`, so that callers name one
 -- crate
 pub use Rattle.tinyjson_path_query.specs.Forms

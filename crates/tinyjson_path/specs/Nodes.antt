@@ -1,5 +1,5 @@
 -- Nodes: parts of a tree with their normalized paths (RFC 9535, 2.7); children and descendants in order.
-use Rattle.std.specs.Prelude.{ℕ, ◌+◌, List, [], ◌∷◌, ◌++◌, map}
+use Rattle.std.specs.Prelude.{◌≡◌, ℕ, ◌+◌, List, [], ◌∷◌, ◌++◌, map, Option, None, Some}
 use Rattle.tinyjson.specs.Tree.{Tree, null, boolean, number, string, array, object, Items, no_items, item, Members, no_members, member}
 use Rattle.std.specs.Str.{chars}
 use Rattle.tinyjson_path.specs.declared.node.Location.{Location, fold-Location, Location-F}
@@ -72,3 +72,8 @@ part_view n = record { path = path_of n; tree = tree_of n.value }
 
 abbrev pub parts_view : List Node → List Part
 parts_view ns = map part_view ns
+
+-- Of the parts that were to come the first is the node, and the rest is still to come; or there was none.
+abbrev pub Takes : List Part → List Part → Option Node → Type 0
+Takes old new (Some n) = old ≡ part_view n ∷ new
+Takes old new None = (old ≡ []) × (new ≡ [])

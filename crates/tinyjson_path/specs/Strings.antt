@@ -1,5 +1,7 @@
 -- The strings of a value and of a query: those from which an error of a regular expression can come.
-use Rattle.std.specs.Prelude.{◌≡◌, ℕ, List, [], ◌∷◌, ◌++◌, map, Option, Some, None, Err, flat_map, Any}
+use Rattle.std.specs.Prelude.{◌≡◌, ℕ, Bool, true, ◌&&◌, List, [], ◌∷◌, ◌++◌, map, Option, Some, None, Err, flat_map, Any, Contains}
+use Rattle.std.specs.List.{list_any}
+use Rattle.std.specs.Str.{bytes_eq}
 use Rattle.i_regexp.specs.Regexps.{ReadsRegexp}
 use Rattle.i_regexp.specs.declared.error.IRegexpError.{IRegexpError}
 use Rattle.i_regexp.specs.declared.error.IRegexpErrorKind.{IRegexpErrorKind}
@@ -145,3 +147,12 @@ strings_of ps = flat_map (λ p. strings_in p.tree) ps
 -- of a part of the query, of the root, and of the nodes below which it selects
 abbrev pub IsFromAny : Texts → Tree → Texts → FindError → Type 0
 IsFromAny query root here = IsFrom (query ++ (strings_in root ++ here))
+
+-- each of the first is one of the second
+abbrev pub Within : Texts → Texts → Type 0
+Within xs ys = (x : List ℕ) → Contains xs x → Contains ys x
+
+-- whether that is so
+abbrev pub are_among : Texts → Texts → Bool
+are_among [] ys = true
+are_among (x ∷ xs) ys = list_any (bytes_eq x) ys && are_among xs ys

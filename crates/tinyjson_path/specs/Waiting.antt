@@ -4,6 +4,7 @@ use Rattle.tinyjson.specs.Tree.{Tree, array, object}
 use Rattle.tinyjson_path.specs.Nodes.{Part, part_view}
 use Rattle.tinyjson_path.specs.Queries.{one_by_one, segment_parts}
 use Rattle.tinyjson_path.specs.Selecting.{from_each}
+use Rattle.tinyjson_path.specs.Strings.{Texts, strings_of}
 use Rattle.tinyjson_path.specs.declared.children.Wanted.{Wanted}
 use Rattle.tinyjson_path.specs.declared.children.Wanted.TheVariants.{All, Containers}
 use Rattle.tinyjson_path.specs.declared.select.Waiting.{Waiting}
@@ -26,6 +27,13 @@ rest_of ss root w = one_by_one root (map segment_parts (drop w.0 ss)) (w.1 ∷ [
 -- of those that wait the last one is the next
 abbrev pub waits_left : List Segment → Tree → List Wait → List Part
 waits_left ss root ws = from_each (rest_of ss root) (reverse ws)
+
+abbrev pub waits_parts : List Wait → List Part
+waits_parts ws = map (λ w. w.1) ws
+
+-- the strings of those that wait
+abbrev pub waits_strings : List Wait → Texts
+waits_strings ws = strings_of (waits_parts ws)
 
 -- ---- the children that wait
 

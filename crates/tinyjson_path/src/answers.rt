@@ -1,12 +1,11 @@
 //! What filters ask that is the same for each node, and what is kept of it.
-ghost use Rattle.std.specs.Prelude.{◌≡◌, ◌≤◌, IfSome, length, true};
+ghost use Rattle.std.specs.Prelude.{◌≡◌, ◌≤◌, ◌++◌, ◌∷◌, [], IfOk, IfSome, List, length, true};
 ghost use Rattle.tinyjson.specs.Tree.{Tree};
 ghost use Rattle.tinyjson_path.specs.Answers.{AreKnown, answer_of, due, found_view, reply_view};
-ghost use Rattle.tinyjson_path.specs.Nodes.{parts_view};
+ghost use Rattle.tinyjson_path.specs.Nodes.{Part};
+ghost use Rattle.tinyjson_view.specs.Views.{tree_of};
 
 use crate::key::key_of;
-use crate::node::Node;
-use crate::operand::only_value;
 use crate::same::{are_same, is_comparable_same, is_expression_same};
 use std::alloc::AllocError;
 use tinyjson_path_query::{Comparable, Expression, Segment};
@@ -17,6 +16,8 @@ use tinyjson_view::ValueView;
 pub(crate) enum Question<'v> {
     /// What the segments select from the root.
     Query(&'v [Segment]),
+    /// Whether they select something from the root.
+    Any(&'v [Segment]),
     /// Whether the expression holds of the root.
     Test(&'v Expression),
     /// How long the value is.
@@ -45,12 +46,23 @@ pub(crate) struct Answer<'v> {
     reply: Reply<'v>,
 }
 
-pub(crate) fn found_of<'v>(nodes: &[Node<'v>]) -> Found<'v>
-    ensures { found_view result ≡ answer_of (parts_view nodes.now) }
-{
-    Found {
-        count: nodes.len(),
-        only: only_value(nodes),
+impl<'v> Found<'v> {
+    /// The same with one node more, which has this value. Memory is out if they are too many to be counted.
+    pub(crate) fn with(self, value: ValueView<'v>) -> Result<Found<'v>, AllocError>
+        ensures { (ps : List Part) (p : Part) → found_view self.entry ≡ answer_of ps
+            → tree_of value.entry ≡ p.tree
+            → IfOk result (λ f. found_view f ≡ answer_of (ps ++ p ∷ [])) }
+    {
+        let Some(count) = self.count.checked_add(1) else {
+            return Err(AllocError);
+        };
+        if self.count > 0 {
+            return Ok(Found { count, only: None });
+        }
+        Ok(Found {
+            count,
+            only: Some(value),
+        })
     }
 }
 
@@ -60,6 +72,7 @@ fn is_question_same(left: Question, right: Question) -> bool
 {
     match (left, right) {
         (Question::Query(left), Question::Query(right)) => are_same(left, right),
+        (Question::Any(left), Question::Any(right)) => are_same(left, right),
         (Question::Test(left), Question::Test(right)) => is_expression_same(left, right),
         (Question::Length(left), Question::Length(right)) => is_comparable_same(left, right),
         _ => false,

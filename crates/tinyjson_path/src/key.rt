@@ -10,6 +10,10 @@ pub(crate) fn key_of(question: Question) -> u64 {
     let mut key = DefaultHasher::new();
     match question {
         Question::Query(segments) => add_segments(&mut key, segments),
+        Question::Any(segments) => {
+            key.write_u8(26);
+            add_segments(&mut key, segments);
+        }
         Question::Test(expression) => add_expression(&mut key, expression),
         Question::Length(argument) => {
             key.write_u8(2);

@@ -4,10 +4,12 @@
 //! let query = Query::parse(alloc, "$.a[?@ > 1]")?;
 //! let nodes = find(&query, alloc, &value)?;
 //! let nodes = find_in(&query, alloc, document.root())?;
+//! let selection = Selection::in_document(&query, alloc, document.root())?; // the same nodes, one by one
 //! ```
 #![tactic(auto)]
 
 mod answers;
+mod asking;
 mod children;
 mod key;
 mod node;
@@ -19,9 +21,10 @@ mod select;
 mod slice;
 mod steady;
 
+pub use asking::has_pattern;
 pub use node::{Location, Node};
 pub use path::path_text;
 pub use patterns::{FindError, PatternLimit};
-pub use select::{find, find_in};
+pub use select::{Selection, find, find_in};
 pub use tinyjson_path_query::{ParseError, ParseErrorKind, Query};
 pub use tinyjson_view::ValueView;

@@ -4,14 +4,12 @@ ghost use Rattle.std.specs.Str.{chars};
 ghost use Rattle.tinyjson_document.specs.Numbers.{decimal_of};
 ghost use Rattle.tinyjson_path.specs.Comparing.{compares, is_same, is_below, is_tree_less, literal_tree};
 ghost use Rattle.tinyjson_path.specs.Comparing.{one_at, one_tree, origin_tree};
-ghost use Rattle.tinyjson_path.specs.Comparing.{length_of, value_of, size_of, whole};
-ghost use Rattle.tinyjson_path.specs.Nodes.{parts_view};
+ghost use Rattle.tinyjson_path.specs.Comparing.{length_of, size_of, whole};
 ghost use Rattle.tinyjson_view.specs.Views.{tree_of};
 ghost use Rattle.tinyjson_path.specs.declared.patterns.FindError.{FindError};
 ghost use Rattle.tinyjson_path.specs.Seen.{numbers_less, operand_tree, texts_less, value_tree};
 
 use crate::children::one_child;
-use crate::node::Node;
 use crate::patterns::FindError;
 use std::alloc::{AllocError, Global};
 use tinyjson::{JsonKind, JsonNumber, JsonValue};
@@ -261,14 +259,4 @@ pub(crate) fn whole<'v>(alloc: Global, value: usize) -> Result<Option<Operand<'v
 {
     let number = JsonValue::Number(JsonNumber::from_u64(alloc, value as u64)?);
     Ok(Some(Operand::Own(Box::new(alloc, number)?)))
-}
-
-/// `value` (RFC 9535, 2.4.8) of the nodes.
-pub(crate) fn only_value<'v>(nodes: &[Node<'v>]) -> Option<ValueView<'v>>
-    ensures { value_tree result ≡ value_of (parts_view nodes.now) }
-{
-    match nodes {
-        [node] => Some(node.value),
-        _ => None,
-    }
 }

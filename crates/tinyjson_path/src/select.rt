@@ -1,12 +1,12 @@
-//! The nodes that a query selects.
+//! The nodes that a query selects, all at once or one by one.
 ghost use Rattle.std.proofs.Props.{props};
-ghost use Rattle.std.specs.Prelude.{◌≡◌, ◌++◌, ◌∷◌, [], reverse, OnOk, IfOk, IfErr};
+ghost use Rattle.std.specs.Prelude.{◌≡◌, ◌++◌, ◌∷◌, [], reverse, true, OnOk, OnErr, IfOk, IfErr};
 ghost use Rattle.std.specs.Prelude.{option_and_then, option_map};
+ghost use Rattle.tinyjson_document.specs.Known.{Tree_set};
 ghost use Rattle.tinyjson.specs.View.{view};
 ghost use Rattle.tinyjson_document.specs.Document.{tree};
-ghost use Rattle.tinyjson_document.specs.Known.{Tree_set};
 ghost use Rattle.tinyjson_path.specs.Answers.{AreKnown, answer_of, found_view, value_at};
-ghost use Rattle.tinyjson_path.specs.Nodes.{path_of, part_view, parts_view, root_part, children};
+ghost use Rattle.tinyjson_path.specs.Nodes.{Takes, path_of, part_view, parts_view, root_part, children};
 ghost use Rattle.tinyjson_view.specs.Views.{tree_of};
 ghost use Rattle.tinyjson_path.specs.Queries.{query_parts, selector_parts, selected_by};
 ghost use Rattle.tinyjson_path.specs.Queries.{found_by, holds_of, kept, comparable_value};
@@ -14,14 +14,14 @@ ghost use Rattle.tinyjson_path.specs.Queries.{filter_parts, is_some_part};
 ghost use Rattle.tinyjson_path.specs.Comparing.{compares, length_of, count_of, size_of, value_of};
 ghost use Rattle.tinyjson_path.specs.Patterns.{judged, pattern_holds};
 ghost use Rattle.tinyjson_path.specs.Seen.{operand_tree};
-ghost use Rattle.tinyjson_path.specs.Strings.{query_strings, strings_in, IsFrom, IsFromAny};
+ghost use Rattle.tinyjson_path.specs.Strings.{query_strings, strings_in, are_among, IsFrom, IsFromAny, Within};
 ghost use Rattle.tinyjson_path.specs.Strings.{segments_strings, selectors_strings};
 ghost use Rattle.tinyjson_path.specs.Strings.{selector_strings, expression_strings, comparable_strings};
 ghost use Rattle.tinyjson_path.specs.Strings.{filter_strings};
-ghost use Rattle.tinyjson_path.specs.Waiting.{waits_view, waits_at, wants};
+ghost use Rattle.tinyjson_path.specs.Waiting.{waits_view, waits_at, waits_left, waits_strings, wants};
 ghost use Rattle.tinyjson_path.specs.declared.children.Wanted.TheVariants.{Containers};
 
-use crate::answers::{Answer, Found, Question, Reply, found_of, keep, reply_to};
+use crate::answers::{Answer, Found, Question, Reply, keep, reply_to};
 use crate::children::{children, containers, push_children, push_indexed, push_named, push_slice};
 use crate::node::Node;
 use crate::operand::{
@@ -31,6 +31,7 @@ use crate::operand::{
 use crate::patterns::{FindError, Patterns};
 use crate::steady::{is_steady, is_test_steady};
 use std::alloc::{AllocError, Global};
+use std::mem;
 use tinyjson::JsonValue;
 use tinyjson_path_query::{
     Comparable, ComparisonOperator, Expression, FilterQuery, FunctionExpression, Origin,
@@ -66,7 +67,7 @@ pub fn find<'v>(
         ≡ query_parts judged query.now (view value.now)) }
     ensures err { IfErr result (IsFrom (query_strings query.now ++ strings_in (view value.now))) }
 {
-    find_below(query, alloc, ValueView::InValue(value))
+    Selection::in_value(query, alloc, value)?.collect()
 }
 
 /// Returns the nodes that the query selects in a value of a document, as [`find`] does in a `JsonValue`.
@@ -86,26 +87,124 @@ pub fn find_in<'v>(
         ≡ query_parts judged query.now (tree value.entry)) }
     ensures err { IfErr result (IsFrom (query_strings query.now ++ strings_in (tree value.entry))) }
 {
-    find_below(query, alloc, ValueView::InDocument(value))
+    Selection::in_document(query, alloc, value)?.collect()
 }
 
-fn find_below<'v>(
-    query: &'v Query,
-    alloc: Global,
-    root: ValueView<'v>,
-) -> Result<Vec<Node<'v>>, FindError>
-    ensures ok { IfOk result (λ v. parts_view v.items
-        ≡ query_parts judged query.now (tree_of root.entry)) }
-    ensures err { IfErr result (IsFrom (query_strings query.now
-        ++ strings_in (tree_of root.entry))) }
-{
-    let mut finder = Finder {
-        alloc,
-        root,
-        answers: Vec::new(alloc),
-        patterns: Patterns::new(alloc),
-    };
-    finder.find_from(query.segments.as_slice(), root)
+/// The nodes that a query selects and that are still to come, in the order of [`find`]. Each is found when it is asked
+/// for: a selection keeps none that came, however many there are, and of those to come only what is beside the way to
+/// the next one.
+///
+/// ```
+/// let value = JsonValue::from_str(alloc, r#"{"a": [{"b": 1}, {"b": 2.50}]}"#)?;
+/// let query = Query::parse(alloc, "$.a[*].b")?;
+/// let mut selection = Selection::in_value(&query, alloc, &value)?;
+/// while let Some(node) = selection.next()? {
+///     node.value.stringify(alloc)?; // 1, then 2.5
+/// }
+/// ```
+#[derive(Drop)]
+pub struct Selection<'v> {
+    finder: Finder<'v>,
+    segments: &'v [Segment],
+    waiting: Vec<Waiting<'v>>,
+    ghost within: { are_among (waits_strings (waits_view waiting.items)) (strings_in (tree_of finder.root)) ≡ true },
+}
+
+impl<'v> Selection<'v> {
+    ghost use Rattle.tinyjson_path.specs.Selections.{left, sources};
+
+    /// What the query selects in the value. The only error is out of memory.
+    ///
+    /// ```
+    /// let mut selection = Selection::in_value(&query, alloc, &value)?;
+    /// ```
+    pub fn in_value(
+        query: &'v Query,
+        alloc: Global,
+        value: &'v JsonValue,
+    ) -> Result<Selection<'v>, AllocError>
+        ensures left { IfOk result (λ s. left s ≡ query_parts judged query.now (view value.now)) }
+        ensures sources { IfOk result (λ s. sources s
+            ≡ query_strings query.now ++ strings_in (view value.now)) }
+    {
+        Selection::below(query, alloc, ValueView::InValue(value))
+    }
+
+    /// What the query selects in a value of a document. The only error is out of memory.
+    ///
+    /// ```
+    /// let document = Document::read(alloc, "[[1, 2], [3]]")?;
+    /// let query = Query::parse(alloc, "$[*][0]")?;
+    /// let mut selection = Selection::in_document(&query, alloc, document.root())?;
+    /// let first = selection.next()?; // the node of 1
+    /// ```
+    pub fn in_document(
+        query: &'v Query,
+        alloc: Global,
+        value: tinyjson_document::Node<'v>,
+    ) -> Result<Selection<'v>, AllocError>
+        ensures left { IfOk result (λ s. left s ≡ query_parts judged query.now (tree value.entry)) }
+        ensures sources { IfOk result (λ s. sources s
+            ≡ query_strings query.now ++ strings_in (tree value.entry)) }
+    {
+        Selection::below(query, alloc, ValueView::InDocument(value))
+    }
+
+    fn below(
+        query: &'v Query,
+        alloc: Global,
+        root: ValueView<'v>,
+    ) -> Result<Selection<'v>, AllocError>
+        ensures left { IfOk result (λ s. left s
+            ≡ query_parts judged query.now (tree_of root.entry)) }
+        ensures sources { IfOk result (λ s. sources s
+            ≡ query_strings query.now ++ strings_in (tree_of root.entry)) }
+    {
+        let waiting = first(alloc, root)?;
+        let finder = Finder {
+            alloc,
+            root,
+            answers: Vec::new(alloc),
+            patterns: Patterns::new(alloc),
+        };
+        Ok(Selection {
+            finder,
+            segments: query.segments.as_slice(),
+            waiting,
+        })
+    }
+
+    /// The next node, or `None` if no more is selected. The errors are those of [`find`]. After an error `None`
+    /// follows.
+    ///
+    /// ```
+    /// while let Some(node) = selection.next()? {
+    ///     node.value.write_to(alloc, &mut output)?;
+    /// }
+    /// ```
+    pub fn next(&mut self) -> Result<Option<Node<'v>>, FindError>
+        ensures next { IfOk result (Takes (left self.old) (left self.new)) }
+        ensures sources { sources self.new ≡ sources self.old }
+        ensures err { IfErr result (IsFrom (sources self.old)) }
+        ensures ends { OnErr result (left self.new ≡ []) }
+    {
+        let nothing = Vec::new(self.finder.alloc);
+        let mut waiting = mem::replace(&mut self.waiting, nothing);
+        let next = self.finder.next_found(self.segments, &mut waiting)?;
+        self.waiting = waiting;
+        Ok(next)
+    }
+
+    fn collect(mut self) -> Result<Vec<Node<'v>>, FindError>
+        ensures ok { IfOk result (λ v. parts_view v.items ≡ left self.entry) }
+        ensures err { IfErr result (IsFrom (sources self.entry)) }
+    {
+        let mut nodes = Vec::new(self.finder.alloc);
+        while let Some(node) = self.next()? {
+            nodes.push(node)?;
+        }
+        Ok(nodes)
+    }
 }
 
 /// The state of an evaluation.
@@ -121,38 +220,38 @@ struct Finder<'v> {
 }
 
 impl<'v> Finder<'v> {
-    /// What the segments select, one after the other, from a value. Nodes that wait are on a stack, the next one last:
-    /// a node goes through all segments before the next one does. A scalar waits for no descendants.
+    /// The next node of those that the segments select from the nodes that wait, which are on a stack, the next one
+    /// last: a node goes through all segments before the next one does. A scalar waits for no descendants.
     #[cycle(selecting)]
-    fn find_from(
+    fn next_found(
         &mut self,
         segments: &'v [Segment],
-        value: ValueView<'v>,
-    ) -> Result<Vec<Node<'v>>, FindError>
+        waiting: &mut Vec<Waiting<'v>>,
+    ) -> Result<Option<Node<'v>>, FindError>
         ensures root { self.new.root ≡ self.old.root }
-        ensures ok { IfOk result (λ v. parts_view v.items
-            ≡ found_by segments.now (tree_of self.old.root) (tree_of value.entry)) }
+        ensures next { IfOk result (Takes
+            (waits_left segments.now (tree_of self.old.root) (waits_view waiting.old.items))
+            (waits_left segments.now (tree_of self.old.root) (waits_view waiting.new.items))) }
+        ensures within { OnOk result (Within (waits_strings (waits_view waiting.new.items))
+            (waits_strings (waits_view waiting.old.items))) }
         ensures err { IfErr result (IsFromAny (segments_strings segments.now)
-            (tree_of self.old.root) (strings_in (tree_of value.entry))) }
+            (tree_of self.old.root) (waits_strings (waits_view waiting.old.items))) }
     {
-        let mut found = Vec::new(self.alloc);
-        let mut waiting = first(self.alloc, value)?;
         while let Some(Waiting { node, segment }) = waiting.pop() {
             if segment >= segments.len() {
-                found.push(node)?;
-                continue;
+                return Ok(Some(node));
             }
             match &segments[segment] {
                 Segment::Child(selectors) => {
-                    self.push_selected(selectors.as_slice(), &node, segment + 1, &mut waiting)?;
+                    self.push_selected(selectors.as_slice(), &node, segment + 1, waiting)?;
                 }
                 Segment::Descendant(selectors) => {
-                    push_containers(self.alloc, &node, segment, &mut waiting)?;
-                    self.push_selected(selectors.as_slice(), &node, segment + 1, &mut waiting)?;
+                    push_containers(self.alloc, &node, segment, waiting)?;
+                    self.push_selected(selectors.as_slice(), &node, segment + 1, waiting)?;
                 }
             }
         }
-        Ok(found)
+        Ok(None)
     }
 
     /// Puts what the selectors select from the node behind the nodes that wait.
@@ -484,7 +583,7 @@ impl<'v> Finder<'v> {
         Ok(part(found.only))
     }
 
-    /// Whether the query selects a node.
+    /// Whether the query selects a node. For one from the root that is found once, and kept.
     #[cycle(selecting)]
     #[inline(never)]
     fn is_found(&mut self, query: &'v FilterQuery, here: &ValueView<'v>) -> Result<bool, FindError>
@@ -494,8 +593,46 @@ impl<'v> Finder<'v> {
         ensures err { IfErr result (IsFromAny (filter_strings query.now)
             (tree_of self.old.root) (strings_in (tree_of here.now))) }
     {
-        let found = self.found(query, here)?;
-        Ok(found.count > 0)
+        match query.origin {
+            Origin::Root => self.is_any_once(query.segments.as_slice()),
+            Origin::CurrentNode => self.is_any_from(query.segments.as_slice(), *here),
+        }
+    }
+
+    #[cycle(selecting)]
+    fn is_any_once(&mut self, segments: &'v [Segment]) -> Result<bool, FindError>
+        ensures root { self.new.root ≡ self.old.root }
+        ensures ok { IfOk result (λ b. b ≡ is_some_part
+            (found_by segments.now (tree_of self.old.root) (tree_of self.old.root))) }
+        ensures err { IfErr result (IsFromAny (segments_strings segments.now)
+            (tree_of self.old.root) (strings_in (tree_of self.old.root))) }
+    {
+        let question = Question::Any(segments);
+        if let Some(Reply::Holds(is_any)) = reply_to(self.answers.as_slice(), question) {
+            return Ok(is_any);
+        }
+        let root = self.root;
+        let is_any = self.is_any_from(segments, root)?;
+        keep(&mut self.answers, question, Reply::Holds(is_any))?;
+        Ok(is_any)
+    }
+
+    /// Whether the segments select a node from the value. None is looked for behind the first one.
+    #[cycle(selecting)]
+    fn is_any_from(
+        &mut self,
+        segments: &'v [Segment],
+        value: ValueView<'v>,
+    ) -> Result<bool, FindError>
+        ensures root { self.new.root ≡ self.old.root }
+        ensures ok { IfOk result (λ b. b ≡ is_some_part
+            (found_by segments.now (tree_of self.old.root) (tree_of value.entry))) }
+        ensures err { IfErr result (IsFromAny (segments_strings segments.now)
+            (tree_of self.old.root) (strings_in (tree_of value.entry))) }
+    {
+        let mut waiting = first(self.alloc, value)?;
+        let next = self.next_found(segments, &mut waiting)?;
+        Ok(next.is_some())
     }
 
     /// What the query selects. For one from the root that is found once, and kept.
@@ -547,8 +684,15 @@ impl<'v> Finder<'v> {
         ensures err { IfErr result (IsFromAny (segments_strings segments.now)
             (tree_of self.old.root) (strings_in (tree_of value.entry))) }
     {
-        let nodes = self.find_from(segments, value)?;
-        Ok(found_of(nodes.as_slice()))
+        let mut waiting = first(self.alloc, value)?;
+        let mut found = Found {
+            count: 0,
+            only: None,
+        };
+        while let Some(node) = self.next_found(segments, &mut waiting)? {
+            found = found.with(node.value)?;
+        }
+        Ok(found)
     }
 }
 

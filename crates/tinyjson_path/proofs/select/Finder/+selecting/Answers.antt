@@ -1,30 +1,30 @@
-use Rattle.std.proofs.Common.{◌≡◌, ◌∙◌, ◌++◌, ◌+◌, [], ◌∷◌, drop, map, reverse, ap, sym, subst, refl, option_map}
+use Rattle.std.proofs.Common.{◌≡◌, ◌∙◌, ◌++◌, ◌+◌, [], ◌∷◌, drop, map, reverse, ap, sym, subst, refl, option_map, Some}
 use Rattle.std.specs.Prelude.{IfOk, IfErr}
 use Rattle.std.proofs.lemmas.List.{map-append}
 use Rattle.std.specs.Box.{box_value}
 use Rattle.tinyjson_path.proofs.Errors.{is_whole, is_left, is_right, is_one, node_in, node_within, error_of, error_from, error_of_pattern}
-use Rattle.tinyjson_path.proofs.Errors.{same_result, part_result, answered, error_at}
+use Rattle.tinyjson_path.proofs.Errors.{same_result, part_result, answered, some_answered, error_at}
 use Rattle.tinyjson_view.proofs.Callers.{drop_past}
-use Rattle.tinyjson_path.proofs.Selected.{AreWithin, are_children, are_in}
+use Rattle.tinyjson_path.proofs.Selected.{AreWithin, are_children, are_in, are_within, are_from}
 use Rattle.tinyjson_path.proofs.Stated.{are_kept, child_strings, descendant_strings, filter_strings_are, or_strings, and_strings}
 use Rattle.tinyjson_path.proofs.Stated.{not_strings, comparison_strings, test_strings, pattern_strings, length_strings, count_strings, value_strings, segments_of_query}
-use Rattle.tinyjson_path.proofs.Waits.{waits_popped, less_child, less_descendant, less_whole, left_child, left_descendant}
-use Rattle.tinyjson_path.proofs.Waits.{goes_on, takes_one, are_popped, are_pushed, chosen_within}
-use Rattle.tinyjson_path.proofs.Within.{Within, within_self, of_query, from_same}
+use Rattle.tinyjson_path.proofs.Waits.{waits_popped, less_child, less_descendant, left_child, left_descendant, left_whole}
+use Rattle.tinyjson_path.proofs.Waits.{one_more, one_less, next_at, first_strings, are_popped, are_pushed, chosen_within}
+use Rattle.tinyjson_path.proofs.Within.{Within, within_self, within_trans, within_same, of_query, from_same}
 use Rattle.tinyjson_path.specs.Answers.{answer_of, found_view}
 use Rattle.tinyjson_path.specs.Comparing.{length_of, origin_tree}
-use Rattle.tinyjson_path.specs.Nodes.{path_of, part_view, parts_view, children}
+use Rattle.tinyjson_path.specs.Nodes.{Takes, path_of, part_view, parts_view, children}
 use Rattle.tinyjson_view.specs.Views.{tree_of}
-use Rattle.tinyjson_path.specs.Queries.{selected_by, found_by, kept}
+use Rattle.tinyjson_path.specs.Queries.{selected_by, found_by, is_some_part, kept}
 use Rattle.tinyjson_path.specs.Seen.{operand_tree}
 use Rattle.tinyjson_path.specs.Strings.{strings_in, segment_strings, selector_strings, expression_strings, comparable_strings}
 use Rattle.tinyjson_path.specs.Strings.{segments_strings, selectors_strings, filter_strings, IsFromAny}
-use Rattle.tinyjson_path.specs.Waiting.{waits_view, waits_at, wants}
+use Rattle.tinyjson_path.specs.Waiting.{waits_view, waits_at, waits_left, waits_parts, waits_strings, wants}
 use Rattle.tinyjson_path.specs.declared.children.Wanted.TheVariants.{Containers}
 use Rattle.tinyjson_path_query.specs.declared.query.Origin.TheVariants.{Root}
 use Rattle.tinyjson_path.proofs.select.Finder.+selecting.Goals as goal
-use Rattle.tinyjson_path.proofs.select.Finder.+selecting.Goals.{find_from-in-Child+in_ok-push_selected-in-Child}
-use Rattle.tinyjson_path.proofs.select.Finder.+selecting.Goals.{find_from-in-Descendant+in_ok-push_containers-in-Descendant+in_ok-push_selected-in-Descendant}
+use Rattle.tinyjson_path.proofs.select.Finder.+selecting.Goals.{next_found-in-Child+in_ok-push_selected-in-Child}
+use Rattle.tinyjson_path.proofs.select.Finder.+selecting.Goals.{next_found-in-Descendant+in_ok-push_containers-in-Descendant+in_ok-push_selected-in-Descendant}
 
 pub select_each-returns-in_err-select-clause-err : goal.select_each-returns-in_err-select-clause-err
 select_each-returns-in_err-select-clause-err t c =
@@ -203,10 +203,41 @@ only_value-returns-in_err-found-clause-err t c =
     from_same (filter_strings c.args.query.now ++ (strings_in (tree_of c.args.self.now.root) ++ strings_in (tree_of c.args.here.now)))
     c.in_err-found.field-0.0 c.from_residual.result c.from_residual.ensures.1 c.in_err-found.ensures.err
 
-pub is_found-returns-in_err-found-clause-err : goal.is_found-returns-in_err-found-clause-err
-is_found-returns-in_err-found-clause-err t c =
-    from_same (filter_strings c.args.query.now ++ (strings_in (tree_of c.args.self.now.root) ++ strings_in (tree_of c.args.here.now)))
-    c.in_err-found.field-0.0 c.from_residual.result c.from_residual.ensures.1 c.in_err-found.ensures.err
+pub is_found-returns-in-Root-clause-err : goal.is_found-returns-in-Root-clause-err
+is_found-returns-in-Root-clause-err t c =
+    let q = c.args.query.now in
+    let root = tree_of c.args.self.now.root in
+    let here = tree_of c.args.here.now in
+    error_from (filter_strings q) (segments_strings c.as_slice.result.now) q.origin root here root c.is_any_once.result
+    (segments_of_query q ∙ ap segments_strings (sym c.as_slice.ensures.value)) (sym (ap (λ o. origin_tree o root here) c.in-Root.is))
+    c.is_any_once.ensures.err
+
+pub is_found-returns-in-CurrentNode-clause-err : goal.is_found-returns-in-CurrentNode-clause-err
+is_found-returns-in-CurrentNode-clause-err t c =
+    let q = c.args.query.now in
+    let root = tree_of c.args.self.now.root in
+    let here = tree_of c.args.here.now in
+    error_from (filter_strings q) (segments_strings c.as_slice-in-CurrentNode.result.now) q.origin root here here c.is_any_from.result
+    (segments_of_query q ∙ ap segments_strings (sym c.as_slice-in-CurrentNode.ensures.value))
+    (sym (ap (λ o. origin_tree o root here) c.in-CurrentNode.is)) c.is_any_from.ensures.err
+
+pub is_found-returns-in-Root-clause-ok : goal.is_found-returns-in-Root-clause-ok
+is_found-returns-in-Root-clause-ok t c =
+    let q = c.args.query.now in
+    let root = tree_of c.args.self.now.root in
+    let here = tree_of c.args.here.now in
+    some_answered q root here root c.is_any_once.result (sym (ap (λ o. origin_tree o root here) c.in-Root.is))
+    (subst (λ ss. IfOk c.is_any_once.result (λ b. b ≡ is_some_part (found_by ss root root))) c.as_slice.ensures.value
+    c.is_any_once.ensures.ok)
+
+pub is_found-returns-in-CurrentNode-clause-ok : goal.is_found-returns-in-CurrentNode-clause-ok
+is_found-returns-in-CurrentNode-clause-ok t c =
+    let q = c.args.query.now in
+    let root = tree_of c.args.self.now.root in
+    let here = tree_of c.args.here.now in
+    some_answered q root here here c.is_any_from.result (sym (ap (λ o. origin_tree o root here) c.in-CurrentNode.is))
+    (subst (λ ss. IfOk c.is_any_from.result (λ b. b ≡ is_some_part (found_by ss root here)))
+    c.as_slice-in-CurrentNode.ensures.value c.is_any_from.ensures.ok)
 
 pub found-returns-in-Root-clause-err : goal.found-returns-in-Root-clause-err
 found-returns-in-Root-clause-err t c =
@@ -244,11 +275,19 @@ found-returns-in-CurrentNode-clause-ok t c =
     (subst (λ ss. IfOk c.found_from.result (λ f. found_view f ≡ answer_of (found_by ss root here)))
     c.as_slice-in-CurrentNode.ensures.value c.found_from.ensures.ok)
 
-pub find_from-loop-node-smaller : goal.find_from-loop-node-smaller
-find_from-loop-node-smaller t c =
+pub next_found-loop-node-init : goal.next_found-loop-node-init
+next_found-loop-node-init t c =
+    let ws = waits_view c.args.waiting.now.items in record {
+      root = refl;
+      left = refl;
+      within = are_from (waits_strings ws) (waits_parts ws) (within_self (waits_strings ws));
+    }
+
+pub next_found-loop-node-smaller : goal.next_found-loop-node-smaller
+next_found-loop-node-smaller t c =
     let ss = c.args.segments.now in
     let root = tree_of c.args.self.now.root in
-    let zs = strings_in (tree_of c.args.value) in
+    let zs = waits_strings (waits_view c.args.waiting.now.items) in
     let i = c.in-Some.field-0.segment in
     let n = c.in-Some.field-0.node in
     let ws = waits_view c.loop-node.waiting.items in
@@ -259,7 +298,7 @@ find_from-loop-node-smaller t c =
     let at = c.index-segments-segment.is in
     let new = waits_view c.match-segments-segment.waiting.items in
     elim c.match-segments-segment.branch [
-      | find_from-in-Child+in_ok-push_selected-in-Child w ↦
+      | next_found-in-Child+in_ok-push_selected-in-Child w ↦
           let sels = w.in-Child.selectors in
           let chosen = selected_by sels.items root (part_view n) in
           let pushed : new ≡ mid ++ reverse (waits_at (i + 1) chosen) = ap (λ v. waits_view v.items) w.waiting-is
@@ -268,7 +307,7 @@ find_from-loop-node-smaller t c =
           (ap (λ r. selected_by w.as_slice.result.now (tree_of r) (part_view n)) c.loop-node.invariant.root
           ∙ ap (λ xs. selected_by xs root (part_view n)) w.as_slice.ensures.value)) in
           less_child ss root i s l at sels (part_view n) ws mid new w.in-Child.is popped pushed
-      | find_from-in-Descendant+in_ok-push_containers-in-Descendant+in_ok-push_selected-in-Descendant w ↦
+      | next_found-in-Descendant+in_ok-push_containers-in-Descendant+in_ok-push_selected-in-Descendant w ↦
           let sels = w.in-Descendant.selectors in
           let chosen = selected_by sels.items root (part_view n) in
           let below = children (path_of n) (tree_of n.value) in
@@ -283,11 +322,11 @@ find_from-loop-node-smaller t c =
           less_descendant ss root i s l at sels (part_view n) ws mid low new w.in-Descendant.is popped lower pushed
     ]
 
-pub find_from-loop-node-preserved : goal.find_from-loop-node-preserved
-find_from-loop-node-preserved t c =
+pub next_found-loop-node-preserved : goal.next_found-loop-node-preserved
+next_found-loop-node-preserved t c =
     let ss = c.args.segments.now in
     let root = tree_of c.args.self.now.root in
-    let zs = strings_in (tree_of c.args.value) in
+    let zs = waits_strings (waits_view c.args.waiting.now.items) in
     let i = c.in-Some.field-0.segment in
     let n = c.in-Some.field-0.node in
     let ws = waits_view c.loop-node.waiting.items in
@@ -299,7 +338,7 @@ find_from-loop-node-preserved t c =
     let new = waits_view c.match-segments-segment.waiting.items in
     let here = are_popped zs ws mid (i, part_view n) popped c.loop-node.invariant.within in
     elim c.match-segments-segment.branch [
-      | find_from-in-Child+in_ok-push_selected-in-Child w ↦
+      | next_found-in-Child+in_ok-push_selected-in-Child w ↦
           let sels = w.in-Child.selectors in
           let chosen = selected_by sels.items root (part_view n) in
           let pushed : new ≡ mid ++ reverse (waits_at (i + 1) chosen) = ap (λ v. waits_view v.items) w.waiting-is
@@ -309,12 +348,11 @@ find_from-loop-node-preserved t c =
           ∙ ap (λ xs. selected_by xs root (part_view n)) w.as_slice.ensures.value)) in
           record {
             root = ap (λ v. v.root) w.self-is ∙ (w.push_selected.ensures.root ∙ c.loop-node.invariant.root);
-            left = goes_on ss root (parts_view c.loop-node.found.items) (found_by ss root (tree_of c.args.value)) new ws
-                (left_child ss root i s l at sels (part_view n) ws mid new w.in-Child.is popped pushed) c.loop-node.invariant.left;
+            left = left_child ss root i s l at sels (part_view n) ws mid new w.in-Child.is popped pushed ∙ c.loop-node.invariant.left;
             within = are_pushed zs mid new (i + 1) chosen pushed here.0
                 (are_in (strings_in (tree_of n.value)) zs chosen here.1 (chosen_within sels root (part_view n)));
           }
-      | find_from-in-Descendant+in_ok-push_containers-in-Descendant+in_ok-push_selected-in-Descendant w ↦
+      | next_found-in-Descendant+in_ok-push_containers-in-Descendant+in_ok-push_selected-in-Descendant w ↦
           let sels = w.in-Descendant.selectors in
           let chosen = selected_by sels.items root (part_view n) in
           let below = children (path_of n) (tree_of n.value) in
@@ -328,9 +366,8 @@ find_from-loop-node-preserved t c =
           ∙ ap (λ xs. selected_by xs root (part_view n)) w.as_slice-in-Descendant.ensures.value)) in
           record {
             root = ap (λ v. v.root) w.self-is ∙ (w.push_selected-in-Descendant.ensures.root ∙ c.loop-node.invariant.root);
-            left = goes_on ss root (parts_view c.loop-node.found.items) (found_by ss root (tree_of c.args.value)) new ws
-                (left_descendant ss root i s l at sels (part_view n) ws mid low new w.in-Descendant.is popped lower pushed)
-                c.loop-node.invariant.left;
+            left = left_descendant ss root i s l at sels (part_view n) ws mid low new w.in-Descendant.is popped lower pushed
+                ∙ c.loop-node.invariant.left;
             within = are_pushed zs low new (i + 1) chosen pushed
                 (are_pushed zs mid low i inner lower here.0
                 (are_kept zs (wants Containers) below
@@ -339,42 +376,32 @@ find_from-loop-node-preserved t c =
           }
     ]
 
-pub find_from-loop-node-smaller-then-segment-segments : goal.find_from-loop-node-smaller-then-segment-segments
-find_from-loop-node-smaller-then-segment-segments t c =
+pub next_found-returns-then-segment-segments-clause-next : goal.next_found-returns-then-segment-segments-clause-next
+next_found-returns-then-segment-segments-clause-next t c =
     let ss = c.args.segments.now in
     let root = tree_of c.args.self.now.root in
-    let zs = strings_in (tree_of c.args.value) in
     let i = c.in-Some.field-0.segment in
     let n = c.in-Some.field-0.node in
     let ws = waits_view c.loop-node.waiting.items in
     let mid = waits_view c.pop.new.self.items in
     let popped = waits_popped c.loop-node.waiting.items c.pop.new.self.items c.in-Some.field-0 c.in-Some.ensures.items in
-    less_whole ss root ws mid i (part_view n) popped (drop_past ss i c.if-segment-segments.true)
+    sym c.loop-node.invariant.left ∙ left_whole ss root ws mid i (part_view n) popped (drop_past ss i c.if-segment-segments.true)
 
-pub find_from-loop-node-preserved-then-segment-segments : goal.find_from-loop-node-preserved-then-segment-segments
-find_from-loop-node-preserved-then-segment-segments t c =
-    let ss = c.args.segments.now in
-    let root = tree_of c.args.self.now.root in
-    let zs = strings_in (tree_of c.args.value) in
+pub next_found-returns-then-segment-segments-clause-within : goal.next_found-returns-then-segment-segments-clause-within
+next_found-returns-then-segment-segments-clause-within t c =
+    let zs = waits_strings (waits_view c.args.waiting.now.items) in
     let i = c.in-Some.field-0.segment in
     let n = c.in-Some.field-0.node in
     let ws = waits_view c.loop-node.waiting.items in
     let mid = waits_view c.pop.new.self.items in
     let popped = waits_popped c.loop-node.waiting.items c.pop.new.self.items c.in-Some.field-0 c.in-Some.ensures.items in
-    let more : parts_view c.push.new.self.items ≡ parts_view c.loop-node.found.items ++ part_view n ∷ []
-    = ap parts_view c.in_ok-push.ensures.items ∙ map-append part_view c.loop-node.found.items (n ∷ []) in record {
-      root = c.loop-node.invariant.root;
-      left = takes_one ss root (parts_view c.loop-node.found.items) (parts_view c.push.new.self.items)
-          (found_by ss root (tree_of c.args.value)) ws mid i (part_view n) popped (drop_past ss i c.if-segment-segments.true) more
-          c.loop-node.invariant.left;
-      within = (are_popped zs ws mid (i, part_view n) popped c.loop-node.invariant.within).0;
-    }
+    are_within zs (waits_parts mid) (are_popped zs ws mid (i, part_view n) popped c.loop-node.invariant.within).0
 
-pub find_from-returns-in_err-push_selected-in-Child-clause-err : goal.find_from-returns-in_err-push_selected-in-Child-clause-err
-find_from-returns-in_err-push_selected-in-Child-clause-err t c =
+pub next_found-returns-in_err-push_selected-in-Child-clause-err : goal.next_found-returns-in_err-push_selected-in-Child-clause-err
+next_found-returns-in_err-push_selected-in-Child-clause-err t c =
     let ss = c.args.segments.now in
     let root = tree_of c.args.self.now.root in
-    let zs = strings_in (tree_of c.args.value) in
+    let zs = waits_strings (waits_view c.args.waiting.now.items) in
     let i = c.in-Some.field-0.segment in
     let n = c.in-Some.field-0.node in
     let ws = waits_view c.loop-node.waiting.items in
@@ -383,19 +410,19 @@ find_from-returns-in_err-push_selected-in-Child-clause-err t c =
     let s = c.index-segments-segment.result in
     let sels = c.in-Child.selectors in
     error_of (segments_strings ss) (selectors_strings c.as_slice.result.now) zs (strings_in (tree_of n.value)) root
-    c.in_err-push_selected-in-Child.field-0.0 c.from_residual-in_err-push_selected-in-Child.result
-    c.from_residual-in_err-push_selected-in-Child.ensures.1
+    c.in_err-push_selected-in-Child.field-0.0 c.from_residual.result
+    c.from_residual.ensures.1
     (subst (λ ts. Within ts (segments_strings ss ++ (strings_in root ++ zs)))
     (child_strings s sels c.in-Child.is ∙ ap selectors_strings (sym c.as_slice.ensures.value))
     (is_one segment_strings ss ss i s (segments_strings ss) zs root refl refl c.if-segment-segments.false c.index-segments-segment.is))
     (are_popped zs ws mid (i, part_view n) popped c.loop-node.invariant.within).1
     (error_at _ _ _ c.loop-node.invariant.root c.in_err-push_selected-in-Child.ensures.err)
 
-pub find_from-returns-in_err-push_selected-in-Descendant-clause-err : goal.find_from-returns-in_err-push_selected-in-Descendant-clause-err
-find_from-returns-in_err-push_selected-in-Descendant-clause-err t c =
+pub next_found-returns-in_err-push_selected-in-Descendant-clause-err : goal.next_found-returns-in_err-push_selected-in-Descendant-clause-err
+next_found-returns-in_err-push_selected-in-Descendant-clause-err t c =
     let ss = c.args.segments.now in
     let root = tree_of c.args.self.now.root in
-    let zs = strings_in (tree_of c.args.value) in
+    let zs = waits_strings (waits_view c.args.waiting.now.items) in
     let i = c.in-Some.field-0.segment in
     let n = c.in-Some.field-0.node in
     let ws = waits_view c.loop-node.waiting.items in
@@ -411,6 +438,60 @@ find_from-returns-in_err-push_selected-in-Descendant-clause-err t c =
     (is_one segment_strings ss ss i s (segments_strings ss) zs root refl refl c.if-segment-segments.false c.index-segments-segment.is))
     (are_popped zs ws mid (i, part_view n) popped c.loop-node.invariant.within).1
     (error_at _ _ _ c.loop-node.invariant.root c.in_err-push_selected-in-Descendant.ensures.err)
+
+pub found_from-loop-waiting-smaller : goal.found_from-loop-waiting-smaller
+found_from-loop-waiting-smaller t c =
+    let ss = c.args.segments.now in
+    let root = tree_of c.args.self.now.root in
+    let n = c.in-Some.node in
+    let ws = waits_view c.loop-waiting.waiting.items in
+    let vs = waits_view c.next_found.new.waiting.items in
+    one_less (waits_left ss root ws) (waits_left ss root vs) (part_view n)
+    (next_at ss ws vs (Some n) c.loop-waiting.invariant.root
+    (subst (λ o. Takes (waits_left ss (tree_of c.loop-waiting.self.root) ws) (waits_left ss (tree_of c.loop-waiting.self.root) vs) o) c.in-Some.is
+    c.in_ok-node.ensures.next))
+
+pub found_from-loop-waiting-preserved : goal.found_from-loop-waiting-preserved
+found_from-loop-waiting-preserved t c =
+    let ss = c.args.segments.now in
+    let root = tree_of c.args.self.now.root in
+    let n = c.in-Some.node in
+    let ps = c.loop-waiting.invariant.left.0 in
+    let ws = waits_view c.loop-waiting.waiting.items in
+    let vs = waits_view c.next_found.new.waiting.items in
+    record {
+      root = c.next_found.ensures.root ∙ c.loop-waiting.invariant.root;
+      left = (
+        ps ++ part_view n ∷ [],
+        c.in_ok-found.ensures ps (part_view n) c.loop-waiting.invariant.left.1 refl,
+        one_more ps (waits_left ss root ws) (waits_left ss root vs) (found_by ss root (tree_of c.args.value)) (part_view n)
+            (next_at ss ws vs (Some n) c.loop-waiting.invariant.root
+            (subst (λ o. Takes (waits_left ss (tree_of c.loop-waiting.self.root) ws) (waits_left ss (tree_of c.loop-waiting.self.root) vs) o)
+            c.in-Some.is c.in_ok-node.ensures.next))
+            c.loop-waiting.invariant.left.2,
+      );
+      within = within_trans (waits_strings vs) (waits_strings ws) (strings_in (tree_of c.args.value)) c.in_ok-node.ensures.within
+          c.loop-waiting.invariant.within;
+    }
+
+pub found_from-returns-in_err-node-clause-err : goal.found_from-returns-in_err-node-clause-err
+found_from-returns-in_err-node-clause-err t c =
+    let q = segments_strings c.args.segments.now in
+    let root = tree_of c.args.self.now.root in
+    let here = strings_in (tree_of c.args.value) in
+    error_of q q here (waits_strings (waits_view c.loop-waiting.waiting.items)) root c.in_err-node.field-0.0
+    c.from_residual-in_err-node.result c.from_residual-in_err-node.ensures.1 (of_query q here root)
+    c.loop-waiting.invariant.within (error_at _ _ _ c.loop-waiting.invariant.root c.in_err-node.ensures.err)
+
+pub is_any_from-returns-in_err-next-clause-err : goal.is_any_from-returns-in_err-next-clause-err
+is_any_from-returns-in_err-next-clause-err t c =
+    let q = segments_strings c.args.segments.now in
+    let root = tree_of c.args.self.now.root in
+    let here = strings_in (tree_of c.args.value) in
+    let ws = waits_view c.in_ok-waiting.waiting.items in
+    error_of q q here (waits_strings ws) root c.in_err-next.field-0.0 c.from_residual-in_err-next.result
+    c.from_residual-in_err-next.ensures.1 (of_query q here root)
+    (within_same (waits_strings ws) here (first_strings ws (tree_of c.args.value) c.in_ok-waiting.ensures)) c.in_err-next.ensures.err
 
 pub holds-returns-then-is_test_steady-clause-ok : goal.holds-returns-then-is_test_steady-clause-ok
 holds-returns-then-is_test_steady-clause-ok t c =

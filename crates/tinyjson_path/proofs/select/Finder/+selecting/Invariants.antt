@@ -1,24 +1,38 @@
-use Rattle.std.proofs.Common.{◌≡◌, ◌++◌, length, map, drop}
-use Rattle.tinyjson_path.specs.Nodes.{path_of, part_view, parts_view, children}
+use Rattle.std.proofs.Common.{◌≡◌, ◌++◌, List, length, map, drop}
+use Rattle.tinyjson_path.specs.Answers.{answer_of, found_view}
+use Rattle.tinyjson_path.specs.Nodes.{Part, path_of, part_view, parts_view, children}
 use Rattle.tinyjson_view.specs.Views.{tree_of}
 use Rattle.tinyjson_path.specs.Queries.{found_by, union, selector_parts, selected_by, holds_of, kept, some_hold, all_hold}
-use Rattle.tinyjson_path.specs.Strings.{strings_in}
-use Rattle.tinyjson_path.proofs.Waits.{pops_of, waits_parts}
-use Rattle.tinyjson_path.specs.Waiting.{waits_view, waits_left}
+use Rattle.tinyjson_path.specs.Strings.{strings_in, Within}
+use Rattle.tinyjson_path.proofs.Waits.{pops_of}
+use Rattle.tinyjson_path.specs.Waiting.{waits_view, waits_left, waits_parts, waits_strings}
 use Rattle.tinyjson_path.proofs.Selected.{AreWithin}
 use Rattle.tinyjson_path.proofs.select.Finder.+selecting.Given as goal
 
-abbrev pub invariant-find_from-loop-node : goal.invariant-find_from-loop-node
-invariant-find_from-loop-node l = record {
+abbrev pub invariant-next_found-loop-node : goal.invariant-next_found-loop-node
+invariant-next_found-loop-node l = record {
   root : l.self.root ≡ l.fn.self.root;
   left :
-      parts_view l.found.items ++ waits_left l.segments (tree_of l.fn.self.root) (waits_view l.waiting.items)
-      ≡ found_by l.segments (tree_of l.fn.self.root) (tree_of l.value);
-  within : AreWithin (strings_in (tree_of l.value)) (waits_parts (waits_view l.waiting.items));
+      waits_left l.segments (tree_of l.fn.self.root) (waits_view l.waiting.items)
+      ≡ waits_left l.segments (tree_of l.fn.self.root) (waits_view l.fn.waiting.items);
+  within : AreWithin (waits_strings (waits_view l.fn.waiting.items)) (waits_parts (waits_view l.waiting.items));
 }
 
-abbrev pub decreases-find_from-loop-node : goal.decreases-find_from-loop-node
-decreases-find_from-loop-node l = pops_of l.segments (tree_of l.fn.self.root) (waits_view l.waiting.items)
+abbrev pub decreases-next_found-loop-node : goal.decreases-next_found-loop-node
+decreases-next_found-loop-node l = pops_of l.segments (tree_of l.fn.self.root) (waits_view l.waiting.items)
+
+abbrev pub invariant-found_from-loop-waiting : goal.invariant-found_from-loop-waiting
+invariant-found_from-loop-waiting l = record {
+  root : l.self.root ≡ l.fn.self.root;
+  left :
+      (ps : List Part) × (found_view l.found ≡ answer_of ps)
+      × (ps ++ waits_left l.segments (tree_of l.fn.self.root) (waits_view l.waiting.items)
+      ≡ found_by l.segments (tree_of l.fn.self.root) (tree_of l.value));
+  within : Within (waits_strings (waits_view l.waiting.items)) (strings_in (tree_of l.value));
+}
+
+abbrev pub decreases-found_from-loop-waiting : goal.decreases-found_from-loop-waiting
+decreases-found_from-loop-waiting l = length (waits_left l.segments (tree_of l.fn.self.root) (waits_view l.waiting.items))
 
 abbrev pub invariant-select_each-loop-selector : goal.invariant-select_each-loop-selector
 invariant-select_each-loop-selector l = record {
