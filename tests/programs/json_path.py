@@ -7,6 +7,7 @@ import ast
 import itertools
 import json
 import re
+import resource
 
 import whole
 from checks import shared
@@ -712,6 +713,20 @@ STREAMS_OF_LINES = [(["-l", "$.a"], MANY_LINES, (1, "line 1: not UTF-8"), (4, FO
 FAILING_LINES = [(["-l", "$.a"], MANY_LINES, MANY_ARRAYS, (4, BROKEN), (4, BROKEN))]
 INTERRUPTED_LINES = [(["-l", "$.a"], MANY_LINES * 3, MANY_ARRAYS * 3)]
 
+# Where a part is selected 2 ** 20 times and none of its nodes is kept: the arguments and the answer, in 64 MB.
+MEMORY = 64 * 1_048_576
+AGAIN = "[0,0]" * 20
+IN_ARRAYS = b"[" * 21 + b"7" + b"]" * 21
+REPEATED = [
+    ([f"$[?count(@{AGAIN}) == 1048576]"], printed(IN_ARRAYS[1:-1])),
+    ([f"$[?count(${AGAIN}) == 1048576]"], printed(IN_ARRAYS[1:-1])),
+    ([f"$[?@{AGAIN * 2} || @{AGAIN}]"], printed(IN_ARRAYS[1:-1])),
+    ([f"$[?value(@{AGAIN}) == 7]"], NO_NODE),
+    ([f"${AGAIN}"], printed(*[b"[7]"] * 1_048_576)),
+    (["-l", f"${AGAIN}"], printed(b"[" + b"[7]," * 1_048_575 + b"[7]]")),
+    (["-v", f"${AGAIN}"], printed(b"[" * 20 + b"]" * 20)),
+]
+
 # Where each request for memory is refused: a value in which queries select, queries with each selector, and one that selects nothing.
 SOME = b'{"a\\n":[1.5,{"b":["x",{"a":{}}]}],"c":[[2,3],4]}'
 REFUSED_MEMORY = [
@@ -895,6 +910,16 @@ def check_faults(checks):
     FAULTS.interrupted(checks, INTERRUPTED_LINES)
 
 
+def check_repeated(checks):
+    """What is selected many times, in little memory."""
+    limited = lambda: resource.setrlimit(resource.RLIMIT_AS, (MEMORY, MEMORY))
+    for row in REPEATED:
+        words, expected = row
+        name = f"json_path: repeated {words[0][:20]} {len(words[-1])}"
+        if checks.needs_memory(name):
+            checks.check(name, run_of(program("json_path"), words, IN_ARRAYS, preexec_fn=limited), expected, at=row)
+
+
 def check_memory(checks):
     FAULTS.refusing(checks, REFUSED_MEMORY)
 
@@ -916,6 +941,7 @@ PARTS = (
     check_padded,
     check_deep,
     check_faults,
+    check_repeated,
     *shared(check_memory),
     *shared(DOCUMENT_READER.check_inputs),
     DOCUMENT_READER.check_padded,

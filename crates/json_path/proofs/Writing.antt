@@ -1,6 +1,6 @@
 -- What is printed of nodes is what is printed of a text.
 use Rattle.std.proofs.Common.{◌≡◌, ◌==◌, ℕ, true, false, not, List, [], ◌∷◌, ◌++◌, length, Bool, subst, Option, None}
-use Rattle.std.proofs.Common.{Some, Result, Ok, Err, inl, inr, refl, sym, ap, ◌∙◌, ⊎_elim, arith, suc, encode_utf8_all}
+use Rattle.std.proofs.Common.{Some, ◌||◌, Result, Ok, Err, inl, inr, refl, sym, ap, ◌∙◌, ⊎_elim, arith, suc, encode_utf8_all}
 use Rattle.std.proofs.lemmas.Bool.Decides.{nat_tests}
 use Rattle.std.proofs.KnownBytes.{Keeps-refl}
 use Rattle.std.proofs.Math.Path.{fun_ext}
@@ -16,14 +16,14 @@ use Rattle.tinyjson.specs.Text.{compact}
 use Rattle.tinyjson.specs.Written.{Written, WrittenPart}
 use Rattle.tinyjson_document.specs.Parts.{string_in}
 use Rattle.tinyjson_path.specs.Query.{Query}
-use Rattle.tinyjson_path.specs.Nodes.{Part, Step, parts_view}
+use Rattle.tinyjson_path.specs.Nodes.{Part, Step, Takes, parts_view}
 use Rattle.tinyjson_path.specs.Patterns.{judged}
 use Rattle.tinyjson_path.specs.Queries.{is_some_part, query_parts}
 use Rattle.tinyjson_path.specs.declared.node.Node.{Node}
 use Rattle.tinyjson_path.specs.declared.patterns.PatternLimit.{PatternLimit}
 use Rattle.json_path.specs.Selected.{Answers, GivesNodes, GivesParts, GivesRest, GivesSelected, GivesText, is_answer, printed}
 use Rattle.json_path.specs.Places.{has_path}
-use Rattle.json_path.specs.Shapes.{layout_text, raw_text}
+use Rattle.json_path.specs.Shapes.{begun, layout_text, raw_text}
 use Rattle.json_path.specs.Without.{is_at, path_bytes, without}
 use Rattle.json_path.specs.declared.places.Places.{Places}
 use Rattle.json_path.specs.declared.selected.Form.{Form}
@@ -38,6 +38,26 @@ some_parts [] n e = ap (λ k. not (k == 0)) e
 some_parts (m ∷ ns) n e =
     let none : (suc (length ns) == 0) ≡ false = grind (arith, nat_tests) in
     ap (λ k. not (k == 0)) e ∙ ap not none
+
+-- ---- nodes one by one
+
+pub took : (old new : List Part) (o : Option Node) → Takes old new o → old ≡ begun o new
+took old new (Some n) t = t
+took old new None t = t.0
+
+or_true : (b : Bool) → true ≡ (b || true)
+or_true true = refl
+or_true false = refl
+
+or_false : (b : Bool) → b ≡ (b || false)
+or_false true = refl
+or_false false = refl
+
+pub begun_some : (form : Form) (o : Option Node) (n : Node) (ps : List Part) → o ≡ Some n → true ≡ is_answer form (begun o ps)
+begun_some form o n ps e = or_true form.or_none ∙ ap (λ q. is_answer form (begun q ps)) (sym e)
+
+pub begun_none : (form : Form) (o : Option Node) (ps : List Part) → o ≡ None → form.or_none ≡ is_answer form (begun o ps)
+begun_none form o ps e = or_false form.or_none ∙ ap (λ q. is_answer form (begun q ps)) (sym e)
 
 -- ---- a string
 

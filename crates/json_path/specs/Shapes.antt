@@ -1,10 +1,11 @@
 -- What is written of the parts that a query selects.
-use Rattle.std.specs.Prelude.{ℕ, Bool, true, false, List, [], ◌∷◌, ◌++◌, codes, encode_utf8_all}
+use Rattle.std.specs.Prelude.{ℕ, Bool, true, false, List, [], ◌∷◌, ◌++◌, Option, None, Some, codes, encode_utf8_all}
 use Rattle.tinyjson.specs.Characters.{line_feed}
 use Rattle.tinyjson.specs.Text.{compact, indented}
 use Rattle.tinyjson.specs.Tree.{Tree, string}
-use Rattle.tinyjson_path.specs.Nodes.{Part}
+use Rattle.tinyjson_path.specs.Nodes.{Part, part_view}
 use Rattle.tinyjson_path.specs.Paths.{path_text}
+use Rattle.tinyjson_path.specs.declared.node.Node.{Node}
 use Rattle.json_path.specs.declared.selected.Layout.{Layout}
 use Rattle.json_path.specs.declared.selected.Layout.TheVariants.{Compact, Indented}
 use Rattle.json_path.specs.declared.selected.Shape.{Shape}
@@ -53,3 +54,10 @@ items_text s is_first (p ∷ ps) = next_text s is_first p ++ items_text s false 
 
 abbrev pub array_line : Shape → List Part → List ℕ
 array_line s ps = codes "[" ++ (items_text s true ps ++ (codes "]" ++ line_feed ∷ []))
+
+-- ---- for private contracts
+
+-- the part of the first node, if there is one, and those that come behind it
+abbrev pub begun : Option Node → List Part → List Part
+begun None ps = []
+begun (Some n) ps = part_view n ∷ ps

@@ -1,18 +1,19 @@
 //! Writes a line for each node.
-ghost use Rattle.std.specs.Prelude.{◌≡◌, ◌∷◌, [], encode_utf8_all};
+ghost use Rattle.std.specs.Prelude.{◌≡◌, ◌∷◌, [], encode_utf8_all, IfOk};
 ghost use Rattle.std.specs.Str.{chars};
 ghost use Rattle.tinyjson.specs.Written.{WritesPrefix};
-ghost use Rattle.json_path.specs.Shapes.{layout_text, line_of, lines_of, raw_text, shape_text};
-ghost use Rattle.tinyjson_path.specs.Nodes.{path_view, part_view, parts_view};
+ghost use Rattle.json_path.specs.Shapes.{begun, layout_text, line_of, lines_of, raw_text, shape_text};
+ghost use Rattle.tinyjson_path.specs.Nodes.{Takes, path_view, part_view, parts_view};
+ghost use Rattle.tinyjson_path.specs.Selections.{left};
 ghost use Rattle.tinyjson_path.specs.Views.{tree_of};
 ghost use Rattle.tinyjson_path.specs.Paths.{path_text};
 
 use crate::selected::{Layout, Shape};
 use std::alloc::Global;
-use std::io::{self, Write};
+use std::io::{self, ErrorKind, Write};
 use tinyjson_document::JsonView;
 use tinyjson_lines::write_all;
-use tinyjson_path::{Location, Node, ValueView, path_text};
+use tinyjson_path::{FindError, Location, Node, Selection, ValueView, path_text};
 
 /// Writes a line for each node.
 pub fn write_lines<W: Write>(
@@ -28,6 +29,36 @@ pub fn write_lines<W: Write>(
         write_line(alloc, node, shape, output)?;
     }
     Ok(())
+}
+
+/// Writes a line for the first node, if there is one, and for each that comes behind it.
+pub fn write_lines_begun<'v, W: Write>(
+    alloc: Global,
+    first: Option<Node<'v>>,
+    rest: &mut Selection<'v>,
+    shape: Shape,
+    output: &mut W,
+) -> io::Result<()>
+    ensures { WritesPrefix (W.contents output.old) (W.contents output.new)
+        (lines_of shape (begun first.entry (left rest.old))) result }
+{
+    let mut next = first;
+    while let Some(node) = next {
+        write_line(alloc, &node, shape, output)?;
+        next = next_of(rest)?;
+    }
+    Ok(())
+}
+
+/// The next node. An error of a pattern is one of the output, which ends within the answer.
+pub fn next_of<'v>(selection: &mut Selection<'v>) -> io::Result<Option<Node<'v>>>
+    ensures { IfOk result (Takes (left selection.old) (left selection.new)) }
+{
+    match selection.next() {
+        Ok(next) => Ok(next),
+        Err(FindError::OutOfMemory) => Err(io::Error::from(ErrorKind::OutOfMemory)),
+        Err(FindError::Pattern(_)) => Err(io::Error::from(ErrorKind::InvalidData)),
+    }
 }
 
 fn write_line<W: Write>(alloc: Global, node: &Node, shape: Shape, output: &mut W) -> io::Result<()>

@@ -1,18 +1,20 @@
 //! Places in a value, by the texts of their normalized paths.
 ghost use Rattle.std.specs.Prelude.{◌≡◌, ◌≤◌, ℕ, List, nat_lt};
-ghost use Rattle.std.specs.Prelude.{cond, true, IfOk, OnOk, string_bytes};
+ghost use Rattle.std.specs.Prelude.{cond, true, IfErr, IfOk, OnOk, string_bytes};
 ghost use Rattle.std.specs.HashSet.{contains_text};
 ghost use Rattle.std.specs.Str.{bytes_eq};
 ghost use Rattle.tinyjson.specs.View.{text};
-ghost use Rattle.tinyjson_path.specs.Nodes.{Step, parts_view, path_view};
+ghost use Rattle.tinyjson_path.specs.Nodes.{Step, path_view};
 ghost use Rattle.tinyjson_path.specs.Paths.{path_text};
+ghost use Rattle.tinyjson_path.specs.Selections.{left, sources};
+ghost use Rattle.tinyjson_path.specs.Strings.{IsFrom};
 ghost use Rattle.json_path.specs.Places.{has_path, IsBounded};
 ghost use Rattle.json_path.specs.Without.{is_at};
 
 use std::alloc::{AllocError, Global};
 use std::collections::HashSet;
 use std::rc::Rc;
-use tinyjson_path::{Location, Node, path_text};
+use tinyjson_path::{FindError, Location, Selection, path_text};
 
 /// A set of places. Each has one normalized path (RFC 9535, 2.7).
 #[derive(Drop)]
@@ -23,17 +25,18 @@ pub struct Places {
 }
 
 impl Places {
-    /// The places of the nodes.
-    pub fn of_nodes(alloc: Global, nodes: &[Node]) -> Result<Places, AllocError>
+    /// The places of the nodes that are still to come.
+    pub fn of_selection(alloc: Global, selection: &mut Selection<'_>) -> Result<Places, FindError>
         ensures paths { IfOk result (λ p. (path : List Step) →
-            has_path p path ≡ is_at (parts_view nodes.now) path) }
+            has_path p path ≡ is_at (left selection.old) path) }
         ensures bounded { IfOk result IsBounded }
+        ensures err { IfErr result (IsFrom (sources selection.old)) }
     {
         let mut places = Places {
             paths: HashSet::new(alloc),
             longest: 0,
         };
-        for node in nodes {
+        while let Some(node) = selection.next()? {
             places.add(place_path(alloc, &node.location)?)?;
         }
         Ok(places)

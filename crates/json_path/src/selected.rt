@@ -4,13 +4,18 @@ ghost use Rattle.std.specs.Str.{chars};
 ghost use Rattle.tinyjson.specs.Events.{TellsText};
 ghost use Rattle.tinyjson.specs.Written.{WritesPrefix};
 ghost use Rattle.tinyjson_document.specs.Document.{HasTree, tree};
-ghost use Rattle.tinyjson_path.specs.Nodes.{parts_view};
+ghost use Rattle.tinyjson_path.specs.Nodes.{Part, Step, parts_view};
 ghost use Rattle.tinyjson_path.specs.Patterns.{judged};
-ghost use Rattle.json_path.specs.Selected.{Answers, AnswersWanted, GivesNodes, GivesParts, GivesText};
+ghost use Rattle.tinyjson_path.specs.Selections.{left};
+ghost use Rattle.json_path.specs.Places.{has_path, IsBounded};
+ghost use Rattle.json_path.specs.Selected.{Answers, AnswersWanted, GivesNodes, GivesText};
 ghost use Rattle.json_path.specs.Selected.{GivesSelected, GivesRest, is_answer, printed, unanswered_message};
+ghost use Rattle.json_path.specs.Shapes.{begun};
+ghost use Rattle.json_path.specs.Without.{is_at};
+ghost use Rattle.json_path.specs.declared.selected.Wanted.TheVariants.{Rest, Selected};
 
-use crate::array::write_array;
-use crate::lines::write_lines;
+use crate::array::{write_array, write_array_begun};
+use crate::lines::{write_lines, write_lines_begun};
 use crate::places::Places;
 use crate::rest::write_without;
 use std::alloc::Global;
@@ -20,7 +25,7 @@ use tinyjson::JsonParseError;
 use tinyjson_buffers::Buffers;
 use tinyjson_document::Document;
 use tinyjson_lines::write_all;
-use tinyjson_path::{FindError, Node, PatternLimit, Query, find_in};
+use tinyjson_path::{FindError, Node, PatternLimit, Query, Selection, find_in, has_pattern};
 
 /// The form of a value's text.
 #[derive(Clone, Copy)]
@@ -194,27 +199,48 @@ fn write_found<W: Write>(
     ensures { Answers (GivesNodes judged wanted query.now (tree root.entry))
         (W.contents output.old) (W.contents output.new) result }
 {
-    match find_in(query, alloc, root) {
-        Ok(nodes) => write_wanted(alloc, root, nodes.as_slice(), wanted, output),
+    match wanted {
+        Wanted::Selected(form) => write_selection(alloc, query, root, form, output),
+        Wanted::Rest => write_rest(alloc, query, root, output),
+    }
+}
+
+/// Writes each node as it is found. A query with patterns may fail at any node, so all of its nodes are found first.
+fn write_selection<W: Write>(
+    alloc: Global,
+    query: &Query,
+    root: tinyjson_document::Node,
+    form: Form,
+    output: &mut W,
+) -> io::Result<Option<Unanswered>>
+    ensures { Answers (GivesNodes judged (Selected form) query.now (tree root.entry))
+        (W.contents output.old) (W.contents output.new) result }
+{
+    if has_pattern(query) {
+        return write_collected(alloc, query, root, form, output);
+    }
+    let mut selection = Selection::in_document(query, alloc, root)?;
+    match selection.next() {
+        Ok(first) => write_begun(alloc, first, &mut selection, form, output),
         Err(FindError::Pattern(limit)) => Ok(Some(Unanswered::Pattern(limit))),
         Err(FindError::OutOfMemory) => Err(io::Error::from(ErrorKind::OutOfMemory)),
     }
 }
 
-/// Writes what is asked for, where these nodes are selected.
-fn write_wanted<W: Write>(
+fn write_collected<W: Write>(
     alloc: Global,
+    query: &Query,
     root: tinyjson_document::Node,
-    nodes: &[Node],
-    wanted: Wanted,
+    form: Form,
     output: &mut W,
 ) -> io::Result<Option<Unanswered>>
-    ensures { Answers (GivesParts wanted (tree root.entry) (parts_view nodes.now))
+    ensures { Answers (GivesNodes judged (Selected form) query.now (tree root.entry))
         (W.contents output.old) (W.contents output.new) result }
 {
-    match wanted {
-        Wanted::Selected(form) => write_selected(alloc, nodes, form, output),
-        Wanted::Rest => write_rest(alloc, root, nodes, output),
+    match find_in(query, alloc, root) {
+        Ok(nodes) => write_selected(alloc, nodes.as_slice(), form, output),
+        Err(FindError::Pattern(limit)) => Ok(Some(Unanswered::Pattern(limit))),
+        Err(FindError::OutOfMemory) => Err(io::Error::from(ErrorKind::OutOfMemory)),
     }
 }
 
@@ -259,20 +285,82 @@ fn write_nodes<W: Write>(
     }
 }
 
-fn write_rest<W: Write>(
+/// Writes the first node, if there is one, and those that come behind it.
+fn write_begun<'v, W: Write>(
     alloc: Global,
-    root: tinyjson_document::Node,
-    nodes: &[Node],
+    first: Option<Node<'v>>,
+    rest: &mut Selection<'v>,
+    form: Form,
     output: &mut W,
 ) -> io::Result<Option<Unanswered>>
-    ensures { Answers (GivesRest (tree root.entry) (parts_view nodes.now))
+    ensures { Answers (GivesSelected form (begun first.entry (left rest.old)))
         (W.contents output.old) (W.contents output.new) result }
 {
-    let places = Places::of_nodes(alloc, nodes)?;
+    if !is_begun_answer(&first, form) {
+        return Ok(Some(Unanswered::NoNode));
+    }
+    write_nodes_begun(alloc, first, rest, form, output)?;
+    Ok(None)
+}
+
+fn is_begun_answer(first: &Option<Node>, form: Form) -> bool
+    ensures { (ps : List Part) → result ≡ is_answer form (begun first.now ps) }
+{
+    match first {
+        Some(_) => true,
+        None => form.or_none,
+    }
+}
+
+fn write_nodes_begun<'v, W: Write>(
+    alloc: Global,
+    first: Option<Node<'v>>,
+    rest: &mut Selection<'v>,
+    form: Form,
+    output: &mut W,
+) -> io::Result<()>
+    ensures { WritesPrefix (W.contents output.old) (W.contents output.new)
+        (printed form (begun first.entry (left rest.old))) result }
+{
+    if form.is_array {
+        write_array_begun(alloc, first, rest, form.shape, output)
+    } else {
+        write_lines_begun(alloc, first, rest, form.shape, output)
+    }
+}
+
+fn write_rest<W: Write>(
+    alloc: Global,
+    query: &Query,
+    root: tinyjson_document::Node,
+    output: &mut W,
+) -> io::Result<Option<Unanswered>>
+    ensures { Answers (GivesNodes judged Rest query.now (tree root.entry))
+        (W.contents output.old) (W.contents output.new) result }
+{
+    let mut selection = Selection::in_document(query, alloc, root)?;
+    match Places::of_selection(alloc, &mut selection) {
+        Ok(places) => write_left(alloc, root, &places, output),
+        Err(FindError::Pattern(limit)) => Ok(Some(Unanswered::Pattern(limit))),
+        Err(FindError::OutOfMemory) => Err(io::Error::from(ErrorKind::OutOfMemory)),
+    }
+}
+
+/// Writes the value without these places of it.
+fn write_left<W: Write>(
+    alloc: Global,
+    root: tinyjson_document::Node,
+    places: &Places,
+    output: &mut W,
+) -> io::Result<Option<Unanswered>>
+    requires { IsBounded places.now }
+    ensures { (ps : List Part) → ((path : List Step) → has_path places.now path ≡ is_at ps path)
+        → Answers (GivesRest (tree root.entry) ps) (W.contents output.old) (W.contents output.new) result }
+{
     if places.contains("$") {
         return Ok(Some(Unanswered::NothingLeft));
     }
-    write_without(alloc, root, &places, output)?;
+    write_without(alloc, root, places, output)?;
     write_all(output, b"\n")?;
     Ok(None)
 }

@@ -1,38 +1,11 @@
-use Rattle.std.proofs.Common.{[], ◌∷◌}
-use Rattle.std.proofs.KnownBytes.{Keeps-refl}
-use Rattle.tinyjson.proofs.Callers.{begins, goes, stops}
 use Rattle.tinyjson_document.specs.Document.{tree}
-use Rattle.tinyjson_path.specs.Nodes.{parts_view}
-use Rattle.json_path.proofs.Writing.{root_given, rest_begun, rest_written}
+use Rattle.tinyjson_path.specs.Selections.{left}
+use Rattle.json_path.proofs.Writing.{of_parts}
+use Rattle.json_path.specs.declared.selected.Wanted.TheVariants.{Rest}
 use Rattle.json_path.proofs.selected.write_rest.Goals as goal
 
-pub returns-then-contains : goal.returns-then-contains
-returns-then-contains g c = (
-  root_given c.in_ok-places.places (parts_view c.args.nodes.now) _ _ c.in_ok-places.ensures.paths c.contains.ensures c.if-contains.true,
-  Keeps-refl _,
-)
-
-pub returns-in_err-write_without : goal.returns-in_err-write_without
-returns-in_err-write_without g c =
-    let p = c.in_ok-places.places in
-    let ps = parts_view c.args.nodes.now in
-    let same = c.in_ok-places.ensures.paths in
-    rest_begun p ps (tree c.args.root) _ _ _ same (root_given p ps _ _ same c.contains.ensures c.if-contains.false)
-    c.from_residual-in_err-write_without.ensures.0 (stops (10 ∷ []) c.in_err-write_without.ensures begins)
-
-pub returns-in_err-write_all : goal.returns-in_err-write_all
-returns-in_err-write_all g c =
-    let p = c.in_ok-places.places in
-    let ps = parts_view c.args.nodes.now in
-    let same = c.in_ok-places.ensures.paths in
-    rest_begun p ps (tree c.args.root) _ _ _ same (root_given p ps _ _ same c.contains.ensures c.if-contains.false)
-    c.from_residual-in_err-write_all.ensures.0
-    (stops [] c.in_err-write_all.ensures (goes (10 ∷ []) c.in_ok-write_without.ensures begins))
-
-pub returns : goal.returns
-returns g c =
-    let p = c.in_ok-places.places in
-    let ps = parts_view c.args.nodes.now in
-    let same = c.in_ok-places.ensures.paths in
-    rest_written p ps (tree c.args.root) _ _ same (root_given p ps _ _ same c.contains.ensures c.if-contains.false)
-    (goes [] c.in_ok-write_all.ensures (goes (10 ∷ []) c.in_ok-write_without.ensures begins))
+pub returns-in-Ok : goal.returns-in-Ok
+returns-in-Ok g c =
+    let all = left c.in_ok-selection.selection in
+    of_parts Rest c.args.query.now _ _ (tree c.args.root) all c.write_left.result c.in_ok-selection.ensures.left
+    (c.write_left.ensures all c.in-Ok.ensures.paths)

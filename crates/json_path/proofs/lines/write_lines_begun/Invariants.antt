@@ -1,0 +1,13 @@
+use Rattle.std.proofs.Common.{length}
+use Rattle.tinyjson.specs.Written.{Written}
+use Rattle.tinyjson_path.specs.Selections.{left}
+use Rattle.json_path.specs.Shapes.{begun, lines_of}
+use Rattle.json_path.proofs.lines.write_lines_begun.Given as goal
+
+abbrev pub invariant-loop-node : goal.invariant-loop-node
+invariant-loop-node g l =
+    Written (g.W.Write.contents l.initial.output) (g.W.Write.contents l.output) (lines_of l.shape (begun l.fn.first (left l.fn.rest)))
+    (lines_of l.shape (begun l.next (left l.rest)))
+
+abbrev pub decreases-loop-node : goal.decreases-loop-node
+decreases-loop-node g l = length (begun l.next (left l.rest))
