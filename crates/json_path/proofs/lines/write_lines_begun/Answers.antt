@@ -9,24 +9,24 @@ use Rattle.json_path.proofs.lines.write_lines_begun.Goals as goal
 
 pub returns-in_err-write_line : goal.returns-in_err-write_line
 returns-in_err-write_line g c =
-    fails _ (lines_of c.args.shape (left c.loop-node.rest)) c.from_residual.ensures.0 c.in_err-write_line.ensures
-    (subst (λ o. Written (g.W.Write.contents c.args.output.now) (g.W.Write.contents c.loop-node.output)
-    (lines_of c.args.shape (begun c.args.first (left c.args.rest.now))) (lines_of c.args.shape (begun o (left c.loop-node.rest))))
-    c.in-Some.is c.loop-node.invariant)
+    fails _ (lines_of c.args.shape (left c.loop-next.rest)) c.from_residual.ensures.0 c.in_err-write_line.ensures
+    (subst (λ o. Written (g.W.Write.contents c.args.output.now) (g.W.Write.contents c.loop-next.output)
+    (lines_of c.args.shape (begun c.args.first (left c.args.rest.now))) (lines_of c.args.shape (begun o (left c.loop-next.rest))))
+    c.in-Some.is c.loop-next.invariant)
 
-pub returns-in_err-next_of : goal.returns-in_err-next_of
-returns-in_err-next_of g c = MatchResult-from_err _ _ _ c.from_residual-in_err-next_of.ensures.0 (λ _. stop
-    (goes (lines_of c.args.shape (left c.loop-node.rest)) c.in_ok-write_line.ensures
-    (subst (λ o. Written (g.W.Write.contents c.args.output.now) (g.W.Write.contents c.loop-node.output)
-    (lines_of c.args.shape (begun c.args.first (left c.args.rest.now))) (lines_of c.args.shape (begun o (left c.loop-node.rest))))
-    c.in-Some.is c.loop-node.invariant)))
+pub returns-in_err-next : goal.returns-in_err-next
+returns-in_err-next g c = MatchResult-from_err _ _ _ c.from_residual-in_err-next.ensures.0 (λ _. stop
+    (goes (lines_of c.args.shape (left c.loop-next.rest)) c.in_ok-write_line.ensures
+    (subst (λ o. Written (g.W.Write.contents c.args.output.now) (g.W.Write.contents c.loop-next.output)
+    (lines_of c.args.shape (begun c.args.first (left c.args.rest.now))) (lines_of c.args.shape (begun o (left c.loop-next.rest))))
+    c.in-Some.is c.loop-next.invariant)))
 
-pub loop-node-preserved : goal.loop-node-preserved
-loop-node-preserved g c =
+pub loop-next-preserved : goal.loop-next-preserved
+loop-next-preserved g c =
     subst (λ ps. Written (g.W.Write.contents c.args.output.now) (g.W.Write.contents c.write_line.new.output)
     (lines_of c.args.shape (begun c.args.first (left c.args.rest.now))) (lines_of c.args.shape ps))
-    (took (left c.loop-node.rest) (left c.next_of.new.selection) c.in_ok-next_of.field-0 c.in_ok-next_of.ensures)
-    (goes (lines_of c.args.shape (left c.loop-node.rest)) c.in_ok-write_line.ensures
-    (subst (λ o. Written (g.W.Write.contents c.args.output.now) (g.W.Write.contents c.loop-node.output)
-    (lines_of c.args.shape (begun c.args.first (left c.args.rest.now))) (lines_of c.args.shape (begun o (left c.loop-node.rest))))
-    c.in-Some.is c.loop-node.invariant))
+    (took (left c.loop-next.rest) (left c.next_of.new.selection) _ c.in_ok-next.ensures)
+    (goes (lines_of c.args.shape (left c.loop-next.rest)) c.in_ok-write_line.ensures
+    (subst (λ o. Written (g.W.Write.contents c.args.output.now) (g.W.Write.contents c.loop-next.output)
+    (lines_of c.args.shape (begun c.args.first (left c.args.rest.now))) (lines_of c.args.shape (begun o (left c.loop-next.rest))))
+    c.in-Some.is c.loop-next.invariant))

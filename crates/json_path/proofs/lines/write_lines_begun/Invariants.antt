@@ -4,10 +4,10 @@ use Rattle.tinyjson_path.specs.Selections.{left}
 use Rattle.json_path.specs.Shapes.{begun, lines_of}
 use Rattle.json_path.proofs.lines.write_lines_begun.Given as goal
 
-abbrev pub invariant-loop-node : goal.invariant-loop-node
-invariant-loop-node g l =
+abbrev pub invariant-loop-next : goal.invariant-loop-next
+invariant-loop-next g l =
     Written (g.W.Write.contents l.initial.output) (g.W.Write.contents l.output) (lines_of l.shape (begun l.fn.first (left l.fn.rest)))
     (lines_of l.shape (begun l.next (left l.rest)))
 
-abbrev pub decreases-loop-node : goal.decreases-loop-node
-decreases-loop-node g l = length (begun l.next (left l.rest))
+abbrev pub decreases-loop-next : goal.decreases-loop-next
+decreases-loop-next g l = length (begun l.next (left l.rest))

@@ -1,8 +1,8 @@
-use Rattle.std.proofs.Common.{◌≡◌, ◌||◌, ◌∙◌, Bool, true, cond, List, Some, ap, sym, subst}
+use Rattle.std.proofs.Common.{◌||◌, ◌∙◌, true, cond, ap, sym, subst}
 use Rattle.std.specs.Prelude.{IfErr}
 use Rattle.std.specs.Str.{bytes_eq}
 use Rattle.std.specs.HashSet.{contains_text}
-use Rattle.tinyjson_path.specs.Nodes.{Step, Takes, part_view, path_of}
+use Rattle.tinyjson_path.specs.Nodes.{Takes, part_view, path_of}
 use Rattle.tinyjson_path.specs.Selections.{left, sources}
 use Rattle.tinyjson_path.specs.Strings.{IsFrom}
 use Rattle.json_path.proofs.Leaving.{or_moves, path_is}
@@ -22,7 +22,7 @@ loop-places-preserved c = record {
       ap (λ b. b || rest) (c.in_ok-add.ensures.paths (path_bytes path)
       ∙ ap (λ bs. cond (bytes_eq bs (path_bytes path)) true old)
       (path_is c.in_ok-place_path.field-0 (path_of n) c.in_ok-place_path.ensures))
-      ∙ or_moves (bytes_eq (path_bytes (path_of n)) (path_bytes path)) old rest (is_at all path)
+      ∙ or_moves (bytes_eq (path_bytes (path_of n)) (path_bytes path)) old rest (is_at (left c.args.selection.now) path)
       (ap (λ ps. old || is_at ps path) (sym (subst (λ o. Takes all (left c.next.new.self) o) c.in-Some.is c.in_ok-node.ensures.next)) ∙ c.loop-places.invariant.paths path);
 }
 
