@@ -240,6 +240,17 @@ impl Events for Arena<'_> {
         Ok(())
     }
 
+    #[inline(always)]
+    fn takes_texts(&self) -> bool {
+        true
+    }
+
+    fn number_text(&mut self, text: &str, end: usize) -> Result<(), AllocError> {
+        let number = self.store.short_before(text, end)?;
+        self.values.push(number)?;
+        Ok(())
+    }
+
     fn literal(&mut self, value: Option<bool>) -> Result<(), AllocError> {
         self.values.push(literal_cell(value))?;
         Ok(())

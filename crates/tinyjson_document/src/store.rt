@@ -1,9 +1,11 @@
 //! The cells of a document, and the vectors that hold their parts. The vectors only grow.
 ghost use Rattle.std.specs.Prelude.{◌≡◌, ◌≤◌, ◌^◌, ◌⊎◌, ℕ, [], List, IfOk, OnOk, MatchResult, Some};
-ghost use Rattle.std.specs.Prelude.{drop, option_map, take};
+ghost use Rattle.std.specs.Prelude.{drop, length, option_map, take};
 ghost use Rattle.std.specs.Str.{chars};
 ghost use Rattle.tinyjson_document.specs.Cell.{IsBytes, IsKeptAt, IsNumber, IsRun, IsShort, IsText, Grows};
 ghost use Rattle.tinyjson_number.specs.Decimal.{Decimal};
+ghost use Rattle.tinyjson_number.specs.Number.{Canonical};
+ghost use Rattle.tinyjson_number.specs.Text.{decimal_text};
 ghost use Rattle.tinyjson_document.specs.Numbers.{decimal_of};
 ghost use Rattle.tinyjson_document.specs.declared.store.Member.{Member};
 ghost use Rattle.tinyjson_document.specs.Order.{IsOrdered, lasts};
@@ -145,6 +147,16 @@ impl<'t> Store<'t> {
         let index = place(self.kept.len())?;
         self.kept.push(number)?;
         Ok(Cell::Kept(index))
+    }
+
+    /// A number by its text, which is short, where the source has it up to `end`, or else appended.
+    #[inline(always)]
+    pub fn short_before(&mut self, text: &str, end: usize) -> Result<Cell, AllocError>
+        ensures number { (n : Canonical) → chars text.now ≡ decimal_text n.decimal →
+            length (chars text.now) ≤ 24 → IfOk result (IsNumber self.new n.decimal) }
+        ensures grows { OnOk result (Grows self.old self.new) }
+    {
+        Ok(Cell::Short(self.text_before(text, end.saturating_add(1))?))
     }
 
     /// The short number whose text is in the range.

@@ -42,7 +42,7 @@ unfolding decimal_text
 zero_put [] d h e = absurd (omega arith)
 zero_put (x ∷ xs) d h e = (omega arith, rw e refl)
 
-digits_text : (d : Decimal) → 0 < length d.digits → decimal_text d ≡ minus_text d.negative ++ magnitude_text d.digits d.power
+pub digits_text : (d : Decimal) → 0 < length d.digits → decimal_text d ≡ minus_text d.negative ++ magnitude_text d.digits d.power
     (pos (length d.digits) +ℤ d.power)
 unfolding decimal_text
 digits_text d h = let some : (length d.digits == 0) ≡ false = grind (arith, nat_tests) in rw some refl

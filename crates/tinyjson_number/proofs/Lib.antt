@@ -11,4 +11,5 @@ pub mod Integers
 pub mod Laws
 pub mod Layouts
 pub mod Buffers
+pub mod NormalTexts
 pub mod Callers

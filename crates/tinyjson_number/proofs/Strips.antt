@@ -180,7 +180,7 @@ length_leading : (xs : List ℕ) → length (strip_leading xs) ≤ length xs
 length_leading [] = omega arith
 length_leading (d ∷ xs) = length_cases (eqb d 48) d xs (length_leading xs)
 
-length_trailing : (xs : List ℕ) → length (strip_trailing xs) ≤ length xs
+pub length_trailing : (xs : List ℕ) → length (strip_trailing xs) ≤ length xs
 length_trailing [] = omega arith
 length_trailing (d ∷ xs) = omega (arith, length_before d (strip_trailing xs), length_trailing xs)
 

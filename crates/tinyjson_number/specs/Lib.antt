@@ -10,4 +10,5 @@ pub mod Error
 pub mod Integer
 pub mod Reading
 pub mod Scan
+pub mod Normal
 pub mod private

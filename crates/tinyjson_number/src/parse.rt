@@ -12,6 +12,7 @@ ghost use Rattle.tinyjson_number.specs.NumberText.{Spells};
 ghost use Rattle.tinyjson_number.specs.private.Power.{capped, exponent_cap, near_cap, shifted};
 ghost use Rattle.tinyjson_number.specs.Reading.{Reads, ReadsNumeral, exponent_of, numeral_of};
 ghost use Rattle.tinyjson_number.specs.Reading.{plain, plain_numeral};
+ghost use Rattle.tinyjson_number.specs.Normal.{IsNormal, IsReady};
 ghost use Rattle.tinyjson_number.specs.Scan.{PartsAt};
 ghost use Rattle.tinyjson_number.specs.declared.parse.NumberParts.{NumberParts};
 ghost use Rattle.tinyjson_number.specs.declared.error.LiteralError.TheVariants as literal_error;
@@ -144,22 +145,46 @@ impl JsonNumber {
 }
 
 /// The number at a place of a text, and the place after it, if one begins there, it is in range, and there is memory
-/// for it. It may find none.
+/// for it. It may find none. With `by_text` a short number whose text is normal is not made: then it is `None`.
 #[doc(hidden)]
 #[inline(always)]
-pub fn ready_number_at(alloc: Global, bytes: &[u8], at: usize) -> Option<(JsonNumber, usize)>
+pub fn ready_number_at(
+    alloc: Global,
+    bytes: &[u8],
+    at: usize,
+    by_text: bool,
+) -> Option<(Option<JsonNumber>, usize)>
     requires { at ≤ length bytes.now }
     ensures { IfSome result (λ r. (p : NumberParts) × PartsAt bytes.now at p r.1
-        × ReadsNumeral (numeral_of p) (Ok r.0)) }
+        × IsReady (numeral_of p) r.0) }
 {
     let (parts, end) = number_at(bytes, at)?;
+    if by_text && is_normal(parts) {
+        return Some((None, end));
+    }
     if let Some(number) = unpadded_at(bytes, at, parts, end) {
-        return Some((number, end));
+        return Some((Some(number), end));
     }
     match padded(alloc, parts) {
-        Ok(number) => Some((number, end)),
+        Ok(number) => Some((Some(number), end)),
         Err(_) => None,
     }
+}
+
+/// Whether the text of these parts is that of their decimal, and it has at most 24 characters. It may return `false`
+/// of some such texts, as those that begin with `0`.
+#[inline(always)]
+fn is_normal(parts: NumberParts<'_>) -> bool
+    requires { IsNumeral (numeral_of parts) }
+    ensures { IsTrue result → IsNormal (numeral_of parts.entry) }
+{
+    if parts.exponent.is_some()
+        || parts.integer.len() + parts.fraction.len() > NORMAL_DIGITS
+        || parts.integer[0] == b'0'
+    {
+        return false;
+    }
+    parts.fraction.is_empty() || parts.fraction[parts.fraction.len() - 1] != b'0'
 }
 
 /// The number of these parts, which lie between two places of a text, if it has no exponent, and few digits that
@@ -233,6 +258,9 @@ fn short(parts: NumberParts<'_>, exponent: i64) -> JsonNumber
     let power = exponent - parts.fraction.len() as i64 + kept.zeros as i64;
     JsonNumber::of_few(parts.negative, kept.integer, kept.fraction, power)
 }
+
+/// With a sign and a point these digits make 24 characters.
+const NORMAL_DIGITS: usize = 22;
 
 /// Exponents below this are near 0.
 const NEAR_CAP: u64 = 1 << 32;

@@ -8,6 +8,7 @@ ghost use Rattle.tinyjson_grammar.specs.Position.{position_at};
 ghost use Rattle.tinyjson_grammar.specs.Tree.{Tree, number, string};
 ghost use Rattle.tinyjson_tokens.specs.NumberSteps.{BeginsNumber};
 ghost use Rattle.tinyjson_tokens.specs.Source.{Takes, Whites};
+ghost use Rattle.tinyjson_tokens.specs.Numerals.{ReadsNumber};
 ghost use Rattle.tinyjson_tokens.specs.Steps.{NeedsNone, Reads, letters_left};
 ghost use Rattle.tinyjson_grammar.specs.Characters.{BeginsLiteral};
 ghost use Rattle.tinyjson_grammar.specs.Tree.{literal_tree};
@@ -127,20 +128,32 @@ impl<S: Tokens> TokenReader<S> {
         }
     }
 
-    /// Reads the number whose first character, a minus sign or a digit, comes next.
+    /// Reads the number whose first character, a minus sign or a digit, comes next. With `by_text` a short number whose
+    /// text is normal need not be made: then it is `None`, and the source lends its text.
     #[inline(always)]
-    pub fn number(&mut self) -> Result<JsonNumber, JsonParseErrorKind>
+    pub fn number(&mut self, by_text: bool) -> Result<Option<JsonNumber>, JsonParseErrorKind>
         requires begins { BeginsNumber S.sight self.old.source }
         ensures reads { (limit : Option ℕ) (fs : List Frame) →
-            Reads S.sight limit self.old.source (next fs awaited) result
-            (λ n. complete true fs (number n.decimal) true) self.new.source }
+            ReadsNumber S.sight limit self.old.source (next fs awaited) result
+            (S.lent self.new.source) fs self.new.source }
         ensures left { OnOk result (S.left self.new.source < S.left self.old.source) }
     {
-        if let Some((number, after)) = self.source.ready_number(self.alloc) {
+        if let Some((number, after)) = self.source.ready_number(self.alloc, by_text) {
             self.source = after;
             return Ok(number);
         }
-        self.gathered_number()
+        match self.gathered_number() {
+            Ok(number) => Ok(Some(number)),
+            Err(kind) => Err(kind),
+        }
+    }
+
+    /// What the source lent last: the text of a number, where it was not made.
+    #[inline(always)]
+    pub fn lent(&self) -> &str
+        ensures { chars result.now ≡ S.lent self.now.source }
+    {
+        self.source.lent()
     }
 
     /// Reads the literal that begins with this letter, which comes next: a boolean, or `None` for `null`.

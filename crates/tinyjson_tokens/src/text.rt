@@ -22,7 +22,7 @@ use tinyjson_number::{JsonNumber, ready_number_at};
 pub struct TextBytes<'a> {
     pub text: &'a str,
     pub at: usize,
-    /// The last string that was taken with its quote.
+    /// The last string that was taken with its quote, or the last number.
     pub lent: &'a str,
     pub ghost utf8: { ∥ IsUtf8 text.now ∥₁ },
     pub ghost boundary: { IsCharBoundary text.now at },
@@ -218,12 +218,12 @@ impl<'a> Tokens for TextBytes<'a> {
     }
 
     #[inline(always)]
-    fn ready_number(&self, alloc: Global) -> Option<(JsonNumber, Self)> {
-        let (number, end) = ready_number_at(alloc, self.text.as_bytes(), self.at)?;
+    fn ready_number(&self, alloc: Global, by_text: bool) -> Option<(Option<JsonNumber>, Self)> {
+        let (number, end) = ready_number_at(alloc, self.text.as_bytes(), self.at, by_text)?;
         let after = TextBytes {
             text: self.text,
             at: end,
-            lent: self.lent,
+            lent: &self.text[self.at..end],
         };
         Some((number, after))
     }

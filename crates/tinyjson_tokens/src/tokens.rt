@@ -24,9 +24,11 @@ pub trait Tokens: Source {
     }
 
     /// The number that comes next, and the source after it, if this source finds it at once, it is in range, and there
-    /// is memory for it. It may find none.
-    fn ready_number(&self, alloc: Global) -> Option<(JsonNumber, Self)>
-        ensures takes { IfSome result (λ r. TakesNumber Self.sight self.now r.0 r.1) }
+    /// is memory for it. It may find none. With `by_text` a short number whose text is normal need not be made: then it
+    /// is `None`, and its text is lent.
+    fn ready_number(&self, alloc: Global, by_text: bool) -> Option<(Option<JsonNumber>, Self)>
+        ensures takes { IfSome result
+            (λ r. TakesNumber Self.sight Self.lent self.now r.0 r.1) }
         ensures left { IfSome result (λ r. Self.left r.1 < Self.left self.now) }
     {
         None

@@ -1,7 +1,9 @@
 //! A text read event by event.
-ghost use Rattle.std.specs.Prelude.{◌≡◌, ℕ, List, [], ◌∷◌, false, IsTrue, IfErr, OnOk};
+ghost use Rattle.std.specs.Prelude.{◌≡◌, ◌≤◌, ℕ, List, [], ◌∷◌, false, length, IsTrue, IfErr, OnOk};
 ghost use Rattle.std.specs.Prelude.{None, Option, Some};
 ghost use Rattle.std.specs.Str.{chars};
+ghost use Rattle.tinyjson_number.specs.Number.{Canonical};
+ghost use Rattle.tinyjson_number.specs.Text.{decimal_text};
 ghost use Rattle.tinyjson_grammar.specs.Characters.{is_white};
 ghost use Rattle.tinyjson_grammar.specs.Machine.{awaited, next};
 ghost use Rattle.tinyjson_grammar.specs.Refusal.{begins_growth};
@@ -136,6 +138,23 @@ pub trait Events: Drop {
         self.number(value)
     }
 
+    /// Whether a number may be told by its text, by [`Events::number_text`].
+    #[inline(always)]
+    fn takes_texts(&self) -> bool {
+        false
+    }
+
+    /// As [`Events::number_before`], of a number whose text is normal and has at most 24 characters. It is called only
+    /// where the text is in memory, of events that take texts: these have to write it.
+    #[inline(always)]
+    fn number_text(&mut self, text: &str, end: usize) -> Result<(), AllocError>
+        ensures { (start : Self) (os : List Open) (n : Canonical) → chars text.now ≡ decimal_text n.decimal →
+            length (chars text.now) ≤ 24 → holds start self.old os →
+            OnOk result (Puts (holds start) (is start) os (number n.decimal) self.new) }
+    {
+        Err(AllocError)
+    }
+
     /// A boolean is complete, or `null`.
     fn literal(&mut self, value: Option<bool>) -> Result<(), AllocError>
         ensures { (start : Self) (os : List Open) → holds start self.old os →
@@ -193,6 +212,15 @@ impl<E: Events> Events for Box<E> {
 
     fn number_before(&mut self, value: JsonNumber, end: usize) -> Result<(), AllocError> {
         E::number_before(&mut **self, value, end)
+    }
+
+    #[inline(always)]
+    fn takes_texts(&self) -> bool {
+        E::takes_texts(&**self)
+    }
+
+    fn number_text(&mut self, text: &str, end: usize) -> Result<(), AllocError> {
+        E::number_text(&mut **self, text, end)
     }
 
     fn literal(&mut self, value: Option<bool>) -> Result<(), AllocError> {

@@ -1,8 +1,10 @@
 //! Events with what each open container awaits.
-ghost use Rattle.std.specs.Prelude.{◌≡◌, ◌∷◌, List, [], length, true, false, Ok, Err, OnOk};
+ghost use Rattle.std.specs.Prelude.{◌≡◌, ◌≤◌, ◌∷◌, List, [], length, true, false, Ok, Err, OnOk};
 ghost use Rattle.std.specs.Prelude.{MatchOption, MatchResult};
 ghost use Rattle.std.specs.Bool.{MatchBool};
 ghost use Rattle.std.specs.Str.{chars};
+ghost use Rattle.tinyjson_number.specs.Number.{Canonical};
+ghost use Rattle.tinyjson_number.specs.Text.{decimal_text};
 ghost use Rattle.tinyjson_grammar.specs.Kind.{kind_of};
 ghost use Rattle.tinyjson_grammar.specs.Machine.{Frame, in_array, at_key, at_value};
 ghost use Rattle.tinyjson_grammar.specs.Machine.{complete, stop};
@@ -236,6 +238,23 @@ impl<E: Events> Nest<E> {
     {
         self.refuse_key(JsonKind::Number)?;
         completed(self.events.number_before(value, end))
+    }
+
+    /// Puts a number with this text where it belongs.
+    #[inline(always)]
+    pub(super) fn number_text(
+        &mut self,
+        text: &str,
+        end: usize,
+    ) -> Result<Progress, JsonParseErrorKind>
+        ensures joins { (start : E) (fs : List Frame) (n : Canonical) → chars text.now ≡ decimal_text n.decimal →
+            length (chars text.now) ≤ 24 → IsOpen (E.holds start) self.old fs →
+            Joins (E.holds start) (E.is start)
+            (complete true fs (number n.decimal) true) result self.new }
+        ensures kept { KeepsEvents result self.old self.new }
+    {
+        self.refuse_key(JsonKind::Number)?;
+        completed(self.events.number_text(text, end))
     }
 
     /// Puts a boolean, or null, where it belongs.

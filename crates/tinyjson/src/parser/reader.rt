@@ -220,9 +220,12 @@ impl<S: Tokens> Reader<S> {
         ensures left { OnOk result (S.left self.new.tokens.source < S.left self.old.tokens.source) }
         ensures kept { KeepsEvents result nest.old nest.new }
     {
-        let number = self.tokens.number()?;
+        let number = self.tokens.number(nest.events.takes_texts())?;
         let end = self.tokens.offset();
-        nest.number(number, end)
+        match number {
+            Some(number) => nest.number(number, end),
+            None => nest.number_text(self.tokens.lent(), end),
+        }
     }
 
     /// Opens the array whose bracket comes next, or reads all of it if it is empty.

@@ -1,6 +1,6 @@
 -- Numbers that a text in memory shows at once.
 use Rattle.std.proofs.Common.{◌≡◌, ◌==◌, ℕ, ◌+◌, ◌-◌, ◌<◌, ◌≤◌, Bool, true, false, List, [], ◌∷◌, ◌++◌, length, take, drop, get_or, Option}
-use Rattle.std.proofs.Common.{Some, None, IfSome, refl, sym, ap, ◌∙◌, subst, arith, append_assoc, length-append, ⊎_elim}
+use Rattle.std.proofs.Common.{Some, None, Ok, IfSome, refl, sym, ap, ◌∙◌, subst, arith, append_assoc, length-append, ⊎_elim}
 use Rattle.std.specs.Prelude.{slice_get, encode_utf8}
 use Rattle.std.specs.Char.{is_ascii_digit, len_utf8}
 use Rattle.std.specs.List.{AllByRecursion}
@@ -9,15 +9,18 @@ use Rattle.std.proofs.lemmas.Bool.{cases_lt}
 use Rattle.std.proofs.lemmas.Bool.Decides.{nat_tests}
 use Rattle.std.proofs.lemmas.List.{take_at, length-drop, get_or-drop, get_or_append_left}
 use Rattle.std.proofs.lemmas.Str.{IsUtf8-had, byte_from_char, chars-IsAscii, IsCharBoundary-after_ascii, length-encode, len_utf8_bounds}
-use Rattle.tinyjson_number.proofs.Callers.{spelling_ascii, spelling_room}
+use Rattle.tinyjson_number.proofs.Callers.{parts_read, spelling_ascii, spelling_room, value_canonical}
+use Rattle.tinyjson_number.specs.Normal.{IsNormal, IsReady}
 use Rattle.tinyjson_number.specs.Number.{Canonical}
-use Rattle.tinyjson_number.specs.Numeral.{numeral, Numeral, Exponent, AreDigits, IsExponent, value, in_range, has_leading_zero}
+use Rattle.tinyjson_number.specs.Reading.{numeral_of, plain, plain_exponent}
+use Rattle.tinyjson_number.specs.declared.parse.NumberParts.{NumberParts}
+use Rattle.tinyjson_number.specs.Numeral.{numeral, Numeral, Exponent, AreDigits, IsExponent, IsNumeral, power_width, value, in_range, has_leading_zero}
 use Rattle.tinyjson_number.specs.Numeral.{is_exponent_letter, is_sign, minus_text, sign_text, fraction_text, exponent_text, spelling}
 use Rattle.tinyjson_grammar.specs.Position.{advance, origin}
 use Rattle.tinyjson_grammar.specs.Machine.{Frame, Next, next, stop, awaited, digits, integer, fraction, exponent, complete}
 use Rattle.tinyjson_tokens.specs.NumberSteps.{all_digits, Part}
 use Rattle.tinyjson_number.specs.Scan.{EndsNumber, IsGrammatical, NumeralAt}
-use Rattle.tinyjson_tokens.specs.Numerals.{EndsBefore, TakesNumeral}
+use Rattle.tinyjson_tokens.specs.Numerals.{EndsBefore, IsFound, IsRead, TakesNumeral}
 use Rattle.tinyjson_tokens.specs.Slice.{before, chars_after, NextChar}
 use Rattle.tinyjson_tokens.specs.Source.{Sight}
 use Rattle.tinyjson_tokens.specs.Steps.{Comes, IsNext, IsTaken, Leads, onward}
@@ -78,7 +81,7 @@ module _ (text : List ℕ) (utf8 : IsUtf8 text) (at : ℕ) (first : IsCharBounda
   numeral_bytes : take (end - at) (drop at text) ≡ spelling n
   numeral_bytes = ap (take (end - at)) x.spelled ∙ take_at (spelling n) (drop end text) (end - at) (omega (arith, count))
 
-  numeral_between : between text at end ≡ spelling n
+  pub numeral_between : between text at end ≡ spelling n
   numeral_between = ap chars numeral_bytes ∙ chars-IsAscii (spelling n) (spelling_ascii n x.grammatical.well_formed)
 
   last_byte : get_or text (at + (long - 1)) 0 < 128
@@ -286,3 +289,33 @@ module _ {S : Type 0} (sight : Sight S) (p q : S) (n : Numeral) (x : TakesNumera
       → Leads sight limit p (next fs awaited) q (complete true fs (number y.decimal) true)
   unfolding part_integer
   Leads_numeral limit fs y r = Leads_number sight limit fs p q (all_digits n) part_integer y r
+
+-- ---- a number, or its text
+
+no_plain : (e : Option Exponent) → plain_exponent e ≡ None → e ≡ None
+no_plain None h = refl
+no_plain (Some x) h = absurd (cc)
+
+plain_same : (n : Numeral) → n.exponent ≡ None → plain n ≡ n
+plain_same n h = λ i. record {
+  negative = n.negative;
+  integer = n.integer;
+  fraction = n.fraction;
+  exponent = (ap plain_exponent h ∙ sym h) i;
+}
+
+-- what was found of the parts was found of the number
+pub found_ready : (n : Numeral) (p : NumberParts) → numeral_of p ≡ plain n → (o : Option Canonical) (lent : List ℕ) → IsReady (numeral_of p) o
+    → lent ≡ spelling n → IsFound n o lent
+found_ready n p same (Some x) lent h is = parts_read n p same (Ok x) h
+found_ready n p same None lent h is =
+    let none : n.exponent ≡ None = no_plain n.exponent (sym (ap (λ (m : Numeral). m.exponent) same) ∙ h.no_exponent) in
+    (subst IsNormal (same ∙ plain_same n none) h, is)
+
+-- the decimal that reading it gives
+pub decimal_read : (n : Numeral) → IsNumeral n → (o : Option Canonical) (lent : List ℕ) → IsFound n o lent
+    → (y : Canonical) × IsRead o lent y × ((y.decimal ≡ value n) × (in_range (value n) ≡ true))
+decimal_read n is (Some x) lent h = (x, refl, h)
+decimal_read n is None lent h =
+    let y : Canonical = record { decimal = value n; canonical = value_canonical power_width n is h.0.fits } in
+    (y, (h.1 ∙ sym h.0.text, subst (λ t. length t ≤ 24) (sym h.1) h.0.short), (refl, h.0.fits))

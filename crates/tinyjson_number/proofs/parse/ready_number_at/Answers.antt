@@ -21,3 +21,8 @@ padded-requires-clause-room c =
       length-append (spelling x.0) (drop c.in_ok-parts.end c.args.bytes.now),
       length-drop c.args.at c.args.bytes.now,
     )
+
+pub is_normal-requires : goal.is_normal-requires
+is_normal-requires c =
+    let x = c.in_ok-parts.ensures in
+    parts_numeral x.0 c.in_ok-parts.parts x.1 x.2.grammatical.well_formed

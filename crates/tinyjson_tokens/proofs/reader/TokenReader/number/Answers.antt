@@ -1,7 +1,8 @@
-use Rattle.tinyjson_tokens.proofs.Reading.Numerals.{Leads_numeral}
+use Rattle.tinyjson_tokens.proofs.Reading.Numerals.{Leads_numeral, decimal_read}
 use Rattle.tinyjson_tokens.proofs.reader.TokenReader.number.Goals as goal
 
 pub returns-in-Some-clause-reads : goal.returns-in-Some-clause-reads
 returns-in-Some-clause-reads g c = λ limit fs.
     let n = c.in-Some.ensures.takes in
-    Leads_numeral g.S.Source.sight c.args.self.now.source c.in-Some.after n.0 n.2 limit fs c.in-Some.number n.1
+    let d = decimal_read n.0 n.2.grammatical.well_formed c.in-Some.number (g.S.Source.lent c.in-Some.after) n.1 in
+    (d.0, d.1, Leads_numeral g.S.Source.sight c.args.self.now.source c.in-Some.after n.0 n.2 limit fs d.0 d.2)
