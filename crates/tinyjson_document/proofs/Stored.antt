@@ -1,7 +1,7 @@
 -- The text of a short number: its bytes, and what it is read as.
-use Rattle.std.proofs.Common.{◌≡◌, ℕ, ◌≤◌, List, length, Some, option_map, refl, sym, ◌∙◌, ap, subst}
+use Rattle.std.proofs.Common.{◌≡◌, ℕ, ◌≤◌, List, length, Some, option_map, refl, sym, ◌∙◌, ap, subst, inl}
 use Rattle.std.proofs.Common.{encode_utf8_all, Result, Ok, Err, true≢false}
-use Rattle.std.proofs.lemmas.Str.{encodes-IsAscii, IsUtf8-from_ascii}
+use Rattle.std.proofs.lemmas.Str.{encodes-IsAscii, encodes-chars, IsUtf8-from_ascii}
 use Rattle.std.specs.Result.{result_ok}
 use Rattle.std.specs.Str.{IsUtf8}
 use Rattle.tinyjson_number.proofs.Callers.{decimal_ascii, one_decimal, one_numeral, text_is_number}
@@ -14,6 +14,10 @@ use Rattle.tinyjson_number.specs.Reading.{Reads}
 use Rattle.tinyjson_number.specs.Text.{decimal_text}
 use Rattle.tinyjson_number.specs.declared.error.JsonNumberError.{JsonNumberError}
 use Rattle.tinyjson_number.specs.declared.error.JsonNumberError.TheVariants.{NotANumber, OutOfRange, OutOfMemory}
+use Rattle.tinyjson_document.specs.Cell.{IsNumber, IsShort, IsText}
+use Rattle.tinyjson_document.specs.declared.store.Cell.TheVariants.{Short}
+use Rattle.tinyjson_document.specs.declared.store.Span.{Span}
+use Rattle.tinyjson_document.specs.declared.store.Store.{Store}
 
 pub number_bytes : (d : Decimal) → IsDecimal d → encode_utf8_all (decimal_text d) ≡ decimal_text d
 number_bytes d h = encodes-IsAscii (decimal_text d) (decimal_ascii d h)
@@ -35,3 +39,17 @@ read_back d text r c e h few l =
     by (Err OutOfRange) t h n =
         absurd (true≢false (sym t.3 ∙ ap in_range (sym t.2 ∙ ap value (one_numeral text t.0 h.0 t.1 h.1)) ∙ h.2))
     by (Err OutOfMemory) t h n = absurd (n refl)
+
+-- a range with the characters of a short number has its text
+pub short_at : (s : Store) (n : Canonical) (cs : List ℕ) (p : Span) → cs ≡ decimal_text n.decimal → length cs ≤ 24 → IsText s cs p
+    → IsNumber s n.decimal (Short p)
+short_at s n cs p e few h = inl (
+  p,
+  refl,
+  record {
+    within = h.within;
+    text = sym (encodes-chars _ h.utf8) ∙ (ap encode_utf8_all (sym h.characters ∙ e) ∙ number_bytes n.decimal n.canonical);
+    few = subst (λ t. length t ≤ 24) e few;
+    canonical = n.canonical;
+  },
+)
