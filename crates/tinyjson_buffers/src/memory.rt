@@ -18,7 +18,7 @@ use tinyjson_document::texts::{Source, Texts};
 #[derive(Drop)]
 pub struct Memory {
     /// The text that a document keeps.
-    source: Vec<u8>,
+    source: String,
     store: Store<'static>,
     pending: Pending,
     alloc: Global,
@@ -28,8 +28,8 @@ impl Memory {
     /// Without memory yet.
     pub fn new(alloc: Global) -> Memory {
         Memory {
-            source: Vec::new(alloc),
-            store: Store::new(alloc, Source::Lent(b"")),
+            source: String::new(alloc),
+            store: Store::new(alloc, Source::Lent("")),
             pending: Pending {
                 open: Vec::new(alloc),
                 keys: Vec::new(alloc),
@@ -46,8 +46,8 @@ impl Memory {
     pub fn read(&mut self, limit: Option<usize>, text: &str) -> Result<Document, JsonParseError>
         ensures { TellsText HasTree limit (chars text.now) result }
     {
-        let source = self.copy_of(text.as_bytes());
-        match self.build(limit, text, source.as_slice()) {
+        let source = self.copy_of(text);
+        match self.build(limit, text, source.as_str()) {
             Ok(built) => Ok(Document::over(built, source)),
             Err(error) => {
                 self.source = source;
@@ -57,21 +57,22 @@ impl Memory {
     }
 
     /// A copy of a text for a document to keep, or nothing where memory runs out.
-    fn copy_of(&mut self, text: &[u8]) -> Vec<u8> {
-        let mut copy = emptied(self.alloc, &mut self.source);
-        if copy.extend_from_slice(text).is_err() {
+    fn copy_of(&mut self, text: &str) -> String {
+        let mut copy = mem::replace(&mut self.source, String::new(self.alloc));
+        copy.clear();
+        if copy.push_str(text).is_err() {
             copy.clear();
         }
         copy
     }
 
-    /// What is built of a text over these bytes, of which its strings, keys and short numbers may be ranges. There may
-    /// be a limit on nested containers.
+    /// What is built of a text over another, of which its strings, keys and short numbers may be ranges. There may be a
+    /// limit on nested containers.
     fn build(
         &mut self,
         limit: Option<usize>,
         text: &str,
-        source: &[u8],
+        source: &str,
     ) -> Result<Built, JsonParseError>
         ensures { TellsText (IsBuilt source.now) limit (chars text.now) result }
     {
@@ -90,7 +91,7 @@ impl Memory {
     }
 
     /// An empty arena over a text, in this memory.
-    fn arena<'t>(&mut self, text: &'t [u8]) -> Arena<'t>
+    fn arena<'t>(&mut self, text: &'t str) -> Arena<'t>
         ensures holds { Holds result [] }
         ensures text { source_bytes result.store.texts.source ≡ text.now }
     {
@@ -147,7 +148,7 @@ impl Memory {
         }
         self.store = Store {
             texts: Texts {
-                source: Source::Lent(b""),
+                source: Source::Lent(""),
                 added,
             },
             kept,

@@ -1,5 +1,5 @@
 -- Ranges of texts: of the text that is read, or of what is appended to it. For private contracts.
-use Rattle.std.specs.Prelude.{◌≡◌, ◌≤◌, ℕ, ◌+◌, ◌-◌, nat_le, cond, min, List, ◌++◌, length}
+use Rattle.std.specs.Prelude.{◌≡◌, ◌≤◌, ℕ, ◌+◌, ◌-◌, nat_le, cond, min, List, ◌++◌, length, string_bytes}
 use Rattle.std.specs.List.{slice_range}
 use Rattle.tinyjson_number.specs.Number.{Canonical}
 use Rattle.tinyjson_number.specs.Text.{decimal_text}
@@ -13,8 +13,8 @@ abbrev pub part : {A : Type 0} → List A → Span → List A
 part xs p = slice_range xs (min p.from (min p.to (length xs))) (min p.to (length xs))
 
 abbrev pub source_bytes : Source → List ℕ
-source_bytes (Lent b) = b.now
-source_bytes (Kept v) = v.items
+source_bytes (Lent s) = s.now
+source_bytes (Kept s) = string_bytes s
 
 -- the range without its first n places
 abbrev pub behind : ℕ → Span → Span

@@ -65,12 +65,12 @@ impl<'t> Arena<'t> {
     pub fn new(alloc: Global) -> Self
         ensures { Holds result [] }
     {
-        Arena::over(alloc, b"")
+        Arena::over(alloc, "")
     }
 
     /// An empty arena for the events of a text. Strings and keys without escapes, and short numbers in normal form,
     /// are ranges of that text.
-    pub fn over(alloc: Global, text: &'t [u8]) -> Self
+    pub fn over(alloc: Global, text: &'t str) -> Self
         ensures holds { Holds result [] }
         ensures text { source_bytes result.store.texts.source ≡ text.now }
     {
@@ -102,7 +102,7 @@ impl<'t> Arena<'t> {
             alloc,
         } = self.store;
         let texts = Texts {
-            source: Source::Lent(b""),
+            source: Source::Lent(""),
             added: texts.added,
         };
         let built = Built {

@@ -83,19 +83,19 @@ impl Document {
     pub fn of_text(alloc: Global, text: String) -> Result<Document, JsonParseError>
         ensures { TellsText HasTree None (chars (string_bytes text)) result }
     {
-        let arena = Arena::over(alloc, text.as_bytes());
+        let arena = Arena::over(alloc, text.as_str());
         let (built, _) = match read_events(alloc, text.as_str(), arena) {
             Ok(arena) => arena.built(),
             Err((error, _)) => return Err(error),
         };
-        Ok(Document::over(built, text.into_bytes()))
+        Ok(Document::over(built, text))
     }
 
     /// The document of what was built over this text.
     #[doc(hidden)]
-    pub fn over(built: Built, text: Vec<u8>) -> Document
-        requires { (t : Tree) × IsBuilt text.items built t × ∥ sound.IsTree t ∥₁ }
-        ensures { (t : Tree) → IsBuilt text.items built t → HasTree result t }
+    pub fn over(built: Built, text: String) -> Document
+        requires { (t : Tree) × IsBuilt (string_bytes text) built t × ∥ sound.IsTree t ∥₁ }
+        ensures { (t : Tree) → IsBuilt (string_bytes text) built t → HasTree result t }
     {
         let Store {
             texts,

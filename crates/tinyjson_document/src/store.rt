@@ -16,7 +16,7 @@ use crate::ranking::keep_ordered;
 use crate::sorting::rise;
 use crate::texts::{Source, Texts};
 use std::alloc::{AllocError, Global};
-use std::{mem, str};
+use std::mem;
 use tinyjson_number::JsonNumber;
 
 /// A range of indices: from `from` up to `to`, without `to`. Indices have 32 bits, so that a cell takes 12 bytes.
@@ -63,10 +63,7 @@ pub fn text_at<'a>(texts: &'a Texts<'_>, span: Span) -> Option<&'a str>
     ensures { (cs : List ℕ) → IsBytes cs (part_of texts.now span) →
         option_map (λ s. chars s.now) result ≡ Some cs }
 {
-    match str::from_utf8(texts.part(span)) {
-        Ok(text) => Some(text),
-        Err(_) => None,
-    }
+    texts.text(span)
 }
 
 /// A value. Its text, its number, its items or its members are in the store.
@@ -164,9 +161,7 @@ impl<'t> Store<'t> {
         ensures { (d : Decimal) → IsShort self.now d span →
             option_map decimal_of result ≡ Some d }
     {
-        let Ok(text) = str::from_utf8(self.texts.part(span)) else {
-            return None;
-        };
+        let text = self.texts.text(span)?;
         match JsonNumber::from_text(self.alloc, text) {
             Ok(number) => Some(NumberView::Made(number)),
             Err(_) => None,

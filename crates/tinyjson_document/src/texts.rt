@@ -1,34 +1,44 @@
 //! The characters of strings, keys and short numbers, in UTF-8. They are ranges of the text that is read, where it
 //! has them, or they are appended.
-ghost use Rattle.std.specs.Prelude.{◌≡◌, ◌+◌, [], IfOk, IfSome, OnOk, length};
+ghost use Rattle.std.specs.Prelude.{◌≡◌, ◌+◌, [], IfOk, IfSome, IsSome, OnOk, length};
+ghost use Rattle.std.specs.Str.{IsUtf8};
 ghost use Rattle.tinyjson_document.specs.Texts.{IsAt, IsNumberAt, TextsGrow, part_of, source_bytes};
 
 use crate::append::{ROOM, append};
 use crate::store::{Span, part};
 use std::alloc::{AllocError, Global};
+use std::str;
 use tinyjson_bytes::are_equal;
 use tinyjson_number::JsonNumber;
 
 /// How many bytes the text of a short number has at most: a number is then made of it without memory.
 const SHORT: usize = 24;
 
-/// The bytes of the text that is read: lent while it is read, and kept afterwards.
+/// The text that is read: lent while it is read, and kept afterwards.
 #[derive(Drop)]
 pub enum Source<'t> {
-    Lent(&'t [u8]),
-    Kept(Vec<u8>),
+    Lent(&'t str),
+    Kept(String),
 }
 
 impl Source<'_> {
+    /// The text.
+    #[inline(always)]
+    fn text(&self) -> &str
+        ensures { result.now ≡ source_bytes self.now }
+    {
+        match self {
+            Source::Lent(text) => *text,
+            Source::Kept(text) => text.as_str(),
+        }
+    }
+
     /// The bytes.
     #[inline(always)]
     pub fn bytes(&self) -> &[u8]
         ensures { result.now ≡ source_bytes self.now }
     {
-        match self {
-            Source::Lent(bytes) => *bytes,
-            Source::Kept(bytes) => bytes.as_slice(),
-        }
+        self.text().as_bytes()
     }
 }
 
@@ -62,6 +72,22 @@ impl<'t> Texts<'t> {
         let to = (span.to as usize - source.len()).min(self.added.len());
         let from = (span.from as usize).saturating_sub(source.len()).min(to);
         &self.added.as_slice()[from..to]
+    }
+
+    /// The text in the range, if its bytes are UTF-8. They are checked only where the source does not have them.
+    #[inline(always)]
+    pub fn text(&self, span: Span) -> Option<&str>
+        ensures bytes { IfSome result (λ text. text.now ≡ part_of self.now span) }
+        ensures some { IsUtf8 (part_of self.now span) → IsSome result }
+    {
+        let source = self.source.text();
+        if let Some(text) = source.get(span.from as usize..span.to as usize) {
+            return Some(text);
+        }
+        match str::from_utf8(self.part(span)) {
+            Ok(text) => Some(text),
+            Err(_) => None,
+        }
     }
 
     /// The length of all, if it can be counted.

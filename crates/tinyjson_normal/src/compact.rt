@@ -80,7 +80,7 @@ impl Compact {
         ensures { Holds result [] }
     {
         Compact {
-            store: Store::new(alloc, Source::Lent(b"")),
+            store: Store::new(alloc, Source::Lent("")),
             text: Vec::new(alloc),
             opened: Vec::new(alloc),
             begun: Vec::new(alloc),

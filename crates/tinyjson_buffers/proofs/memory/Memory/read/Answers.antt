@@ -7,14 +7,14 @@ pub over-requires : goal.over-requires
 over-requires c =
     let h = c.in-Ok.ensures in (
       h.answer.1,
-      subst (λ z. IsBuilt z c.in-Ok.built h.answer.1) c.as_slice.ensures.value h.answer.3,
+      subst (λ z. IsBuilt z c.in-Ok.built h.answer.1) c.as_str.ensures.value h.answer.3,
       ∣ text_sound _ _ _ h.answer.2 ∣₁,
     )
 
 pub returns-in-Ok : goal.returns-in-Ok
 returns-in-Ok c =
     let h = c.in-Ok.ensures in
-    let built = subst (λ z. IsBuilt z c.in-Ok.built h.answer.1) c.as_slice.ensures.value h.answer.3 in
+    let built = subst (λ z. IsBuilt z c.in-Ok.built h.answer.1) c.as_str.ensures.value h.answer.3 in
     record {
       consumed = h.consumed;
       rest = h.rest;

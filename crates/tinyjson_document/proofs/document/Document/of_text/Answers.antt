@@ -1,4 +1,5 @@
 use Rattle.std.proofs.Common.{◌≡◌, ◌∙◌, None, Ok, sym, ap, subst}
+use Rattle.std.specs.Prelude.{string_bytes}
 use Rattle.std.specs.Str.{chars}
 use Rattle.tinyjson_grammar.proofs.Callers.{text_sound}
 use Rattle.tinyjson.specs.Events.{TellsText}
@@ -10,8 +11,8 @@ use Rattle.tinyjson_document.proofs.document.Document.of_text.Goals as goal
 pub over-requires : goal.over-requires
 over-requires c =
     let h = c.in-Ok.ensures.tells in
-    let same : source_bytes c.in-Ok.arena.store.texts.source ≡ c.into_bytes.result.items
-    = sym h.answer.3.1 ∙ (c.over-arena.ensures.text ∙ (c.as_bytes.ensures.value ∙ ap (λ v. v.items) (sym c.into_bytes.ensures.value))) in (
+    let same : source_bytes c.in-Ok.arena.store.texts.source ≡ string_bytes c.args.text
+    = sym h.answer.3.1 ∙ (c.over-arena.ensures.text ∙ c.as_str.ensures.value) in (
       h.answer.1,
       subst (λ z. IsBuilt z c.built.result.0 h.answer.1) same (c.built.ensures h.answer.1 h.answer.3.0),
       ∣ text_sound _ _ _ h.answer.2 ∣₁,
@@ -20,10 +21,10 @@ over-requires c =
 pub returns : goal.returns
 returns c =
     let h = c.in-Ok.ensures.tells in
-    let same : source_bytes c.in-Ok.arena.store.texts.source ≡ c.into_bytes.result.items
-    = sym h.answer.3.1 ∙ (c.over-arena.ensures.text ∙ (c.as_bytes.ensures.value ∙ ap (λ v. v.items) (sym c.into_bytes.ensures.value))) in
+    let same : source_bytes c.in-Ok.arena.store.texts.source ≡ string_bytes c.args.text
+    = sym h.answer.3.1 ∙ (c.over-arena.ensures.text ∙ c.as_str.ensures.value) in
     let built = subst (λ z. IsBuilt z c.built.result.0 h.answer.1) same (c.built.ensures h.answer.1 h.answer.3.0) in
-    subst (λ bs. TellsText HasTree None (chars bs) (Ok c.over.result)) c.as_str.ensures.value (record {
+    subst (λ bs. TellsText HasTree None (chars bs) (Ok c.over.result)) c.as_str-2.ensures.value (record {
       consumed = h.consumed;
       rest = h.rest;
       whole = h.whole;

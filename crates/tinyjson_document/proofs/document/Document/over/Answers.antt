@@ -1,4 +1,5 @@
 use Rattle.std.proofs.Common.{refl}
+use Rattle.std.specs.Prelude.{string_bytes}
 use Rattle.tinyjson_document.specs.Known.{known_is}
 use Rattle.tinyjson_document.proofs.Waiting.{built_over}
 use Rattle.tinyjson_document.proofs.document.Document.over.Goals as goal
@@ -9,11 +10,11 @@ invariant_of-result c =
     record {
       known = record {
         tree = t;
-        is = ∣ built_over c.args.built c.args.text.items _ t c.requires.1 refl refl refl refl refl ∣₁;
+        is = ∣ built_over c.args.built (string_bytes c.args.text) _ t c.requires.1 refl refl refl refl refl ∣₁;
         sound = c.requires.2;
       };
     }
 
 pub returns : goal.returns
 returns c = λ t h.
-    known_is _ c.args.built.root c.result-1.given.0 t (built_over c.args.built c.args.text.items _ t h refl refl refl refl refl)
+    known_is _ c.args.built.root c.result-1.given.0 t (built_over c.args.built (string_bytes c.args.text) _ t h refl refl refl refl refl)
