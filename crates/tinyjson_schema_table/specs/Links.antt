@@ -3,10 +3,10 @@ use Rattle.std.specs.Prelude.{◌≡◌, ℕ, Bool, true, false, ◌&&◌, List,
 use Rattle.std.specs.Str.{chars}
 use Rattle.std.specs.declared.alloc.Global.{Global}
 use Rattle.tinyjson.specs.Equality.{tree_eq}
-use Rattle.tinyjson.specs.Index.{tree_at_key}
+use Rattle.tinyjson.specs.Index.{nth, tree_at_key}
 use Rattle.tinyjson.specs.Tree.{Tree}
 use Rattle.tinyjson.specs.View.{view}
-use Rattle.tinyjson_schema_keywords.specs.Applied.{schema_at}
+use Rattle.tinyjson_schema_keywords.specs.Applied.{schema_at, schemas_at}
 use Rattle.tinyjson_schema_keywords.specs.declared.keyword.Keyword.TheVariants as kw
 use Rattle.tinyjson_schema_table.specs.Givens.{is_at}
 use Rattle.tinyjson_schema_table.specs.declared.link.Link.{Link}
@@ -22,6 +22,8 @@ property s k = option_and_then (λ p. tree_at_key p k) (schema_at s kw.Propertie
 abbrev pub led_by : Tree → Way → Option Tree
 led_by s way.Items = schema_at s kw.Items
 led_by s (way.Property k) = property s (chars k.now)
+led_by s (way.AnyOf i) = nth (schemas_at s kw.AnyOf) i
+led_by s (way.OneOf i) = nth (schemas_at s kw.OneOf) i
 
 -- the schema at a place of the table
 abbrev pub tree_in : List Shape → ℕ → Option Tree
@@ -62,10 +64,10 @@ pub record AddsNext (xs ys : List Shape) (lss mss : List (Vec Link Global)) : Ty
   pub keeps : Keeps xs ys
   pub linked : AreLinked xs lss → AreLinked ys mss
 
--- the place is that to which one of the links leads for the property
-pub record IsPlaceOf (ls : List Link) (k : List ℕ) (at : ℕ) : Type 0 where
+-- the place is that to which one of the links leads, that of the subschema f
+pub record IsPlaceOf (ls : List Link) (f : Tree → Option Tree) (at : ℕ) : Type 0 where
   pub index : ℕ
   pub link : Link
   pub there : slice_get ls index ≡ Some link
-  pub leads : (s : Tree) → led_by s link.way ≡ property s k
+  pub leads : (s : Tree) → led_by s link.way ≡ f s
   pub place : at ≡ link.at

@@ -14,7 +14,7 @@ mod shape;
 mod table;
 
 pub use given::{Given, assertions, unmet_given};
-pub use known::{known_item, known_property};
+pub use known::{known_item, known_listed, known_property};
 pub use marks::{mark_of, marks_of};
 pub use shape::Shape;
 pub use table::{Known, Table};

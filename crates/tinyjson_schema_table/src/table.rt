@@ -1,24 +1,25 @@
 //! A table of subschemas. From each of them links lead to others.
 ghost use Rattle.std.specs.Prelude.{◌≡◌, true, IfOk, OnOk, IfSome, Some};
 ghost use Rattle.std.specs.Str.{chars};
+ghost use Rattle.tinyjson.specs.Index.{nth};
 ghost use Rattle.tinyjson.specs.Tree.{Tree};
 ghost use Rattle.tinyjson.specs.View.{view};
-ghost use Rattle.tinyjson_schema_keywords.specs.Applied.{schema_at};
+ghost use Rattle.tinyjson_schema_keywords.specs.Applied.{schema_at, schemas_at};
 ghost use Rattle.tinyjson_schema_keywords.specs.declared.keyword.Keyword.TheVariants as kw;
 ghost use Rattle.tinyjson_schema_table.specs.Givens.{is_at};
 ghost use Rattle.tinyjson_schema_table.specs.Links.{property, led_by, tree_in, AreLinked};
 ghost use Rattle.tinyjson_schema_table.specs.Links.{AddsLinks, AddsNext};
 
-use crate::link::{Link, Way, found};
+use crate::link::{Link, Way, found, found_listed, way_of};
 use crate::shape::{Shape, shape_of};
 use std::alloc::{AllocError, Global};
 use tinyjson::JsonValue;
-use tinyjson_schema_keywords::{Keyword, operand, schema_at, schema_map_at};
+use tinyjson_schema_keywords::{Keyword, operand, schema_at, schema_map_at, schemas_at};
 
 /// How many subschemas a table has at most.
 const MOST: usize = 256;
 
-/// A schema and its subschemas at `items` and `properties`, up to 256 of them.
+/// A schema and its subschemas at `items`, `properties`, `anyOf` and `oneOf`, up to 256 of them.
 #[derive(Drop)]
 pub struct Table<'s> {
     pub schema: &'s JsonValue,
@@ -93,7 +94,7 @@ impl<'s> Known<'s> {
         };
         match link.way {
             Way::Items => self.over(link.at),
-            Way::Property(_) => None,
+            _ => None,
         }
     }
 
@@ -106,6 +107,20 @@ impl<'s> Known<'s> {
             return None;
         };
         let Some(at) = found(links.as_slice(), key, near) else {
+            return None;
+        };
+        self.over(at)
+    }
+
+    /// The subschema that the list of `anyOf` or `oneOf` has at the index, if it is in the table.
+    pub fn listed(self, keyword: Keyword, index: usize) -> Option<Known<'s>>
+        ensures { LeadsTo (nth (schemas_at (view self.entry.shape.now.schema.now) keyword) index)
+            result }
+    {
+        let Some(links) = self.table.links.get(self.at) else {
+            return None;
+        };
+        let Some(at) = found_listed(links.as_slice(), keyword, index) else {
             return None;
         };
         self.over(at)
@@ -142,6 +157,8 @@ fn add_links<'s>(
     let mut found = Vec::new(alloc);
     add_items(schema, shapes, &mut found, alloc)?;
     add_properties(schema, shapes, &mut found, alloc)?;
+    add_listed(Keyword::AnyOf, schema, shapes, &mut found, alloc)?;
+    add_listed(Keyword::OneOf, schema, shapes, &mut found, alloc)?;
     links.push(found)?;
     Ok(())
 }
@@ -199,6 +216,27 @@ fn add_property<'s>(
         return Ok(());
     };
     add_link(Way::Property(name), part, shapes, links, alloc)?;
+    Ok(())
+}
+
+/// Adds the links by the list of `anyOf` or `oneOf`, in its order.
+fn add_listed<'s>(
+    keyword: Keyword,
+    schema: &'s JsonValue,
+    shapes: &mut Vec<Shape<'s>>,
+    links: &mut Vec<Link<'s>>,
+    alloc: Global,
+) -> Result<(), AllocError>
+    ensures { OnOk result (AddsLinks (view schema.now)
+        shapes.old.items shapes.new.items links.old.items links.new.items) }
+{
+    let listed = schemas_at(schema, keyword);
+    for (index, part) in listed.iter().enumerate() {
+        let Some(way) = way_of(keyword, index) else {
+            return Ok(());
+        };
+        add_link(way, part, shapes, links, alloc)?;
+    }
     Ok(())
 }
 

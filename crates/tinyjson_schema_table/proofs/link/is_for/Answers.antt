@@ -4,8 +4,8 @@ use Rattle.std.specs.Str.{chars}
 use Rattle.tinyjson_schema_table.specs.Links.{led_by, property}
 use Rattle.tinyjson_schema_table.proofs.link.is_for.Goals as goal
 
-pub returns-in-Items : goal.returns-in-Items
-returns-in-Items c h s = absurd (true≢false (sym h))
+pub returns-in_default : goal.returns-in_default
+returns-in_default c h s = absurd (true≢false (sym h))
 
 pub returns-in-Property : goal.returns-in-Property
 returns-in-Property c h s =

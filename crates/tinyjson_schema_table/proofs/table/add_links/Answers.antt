@@ -18,8 +18,9 @@ returns c =
     let i = c.len.result in
     let last : i ≡ length lss = omega (arith, c.args.links.now.ok.0, c.len.ensures) in
     let some : slice_get c.deref.result.now i ≡ Some x = grind (arith, common_steps, slice_get_cases c.deref.result.now i) in
-    next_added xs c.add_properties.new.shapes.items lss _ c.add_properties.new.links s
+    next_added xs c.add_listed-2.new.shapes.items lss _ c.add_listed-2.new.links s
     (tree_got xs (length lss) x (sym (ap (λ ys. slice_get ys (length lss)) (sym c.deref.ensures.value)
     ∙ subst (λ j. slice_get c.deref.result.now j ≡ Some x) last some)))
-    (subst (λ ns. AddsLinks s xs c.add_properties.new.shapes.items ns c.add_properties.new.links.items) c.new-found.ensures.items
-    (both_added s xs _ _ _ _ _ c.in_ok-add_items.ensures c.in_ok-add_properties.ensures)) c.in_ok-push.ensures.items
+    (subst (λ ns. AddsLinks s xs c.add_listed-2.new.shapes.items ns c.add_listed-2.new.links.items) c.new-found.ensures.items
+    (both_added s xs _ _ _ _ _ (both_added s xs _ _ _ _ _ (both_added s xs _ _ _ _ _ c.in_ok-add_items.ensures c.in_ok-add_properties.ensures)
+    c.in_ok-add_listed.ensures) c.in_ok-add_listed-2.ensures)) c.in_ok-push.ensures.items
