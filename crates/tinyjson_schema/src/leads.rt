@@ -6,6 +6,7 @@ ghost use Rattle.tinyjson_schema.specs.Leads.{are_led, led};
 use crate::lead::Lead;
 use std::alloc::{AllocError, Global};
 use tinyjson::JsonValue;
+use tinyjson_bytes::are_equal;
 use tinyjson_schema_keywords::{Keyword, SchemaMember, Walk, Whole, schema_members, target};
 use tinyjson_schema_table::Table;
 
@@ -65,7 +66,7 @@ pub fn led<'d, 's>(leads: &'d [Lead<'s>], reference: &str) -> Option<&'d Lead<'s
     ensures { option_map (λ x. view x.now.schema.now) result ≡ led leads.now reference.now }
 {
     for lead in leads {
-        if lead.reference.as_str() == reference {
+        if are_equal(lead.reference.as_bytes(), reference.as_bytes()) {
             return Some(lead);
         }
     }

@@ -1,5 +1,5 @@
 //! Assertions: the keywords that constrain a value itself, not its parts.
-ghost use Rattle.std.specs.Prelude.{◌≡◌, ◌<◌, ◌^◌, IfOk, IfSome, int_le, is_some, length, pos};
+ghost use Rattle.std.specs.Prelude.{◌≡◌, ◌<◌, ◌^◌, IfOk, IfSome, int_le, is_some, length, pos, true, Some};
 ghost use Rattle.std.specs.Str.{chars};
 ghost use Rattle.tinyjson.specs.Kind.{kind_of, kind_name};
 ghost use Rattle.tinyjson.specs.Tree.{find, number, string};
@@ -52,8 +52,8 @@ pub fn accepts(
         Keyword::ExclusiveMaximum => Ok(are_apart(value, &limit)),
         Keyword::Minimum => Ok(are_ordered(&limit, value)),
         Keyword::ExclusiveMinimum => Ok(are_apart(&limit, value)),
-        Keyword::MaxLength => is_count_at_most(length(value), operand, alloc),
-        Keyword::MinLength => is_count_at_least(length(value), operand, alloc),
+        Keyword::MaxLength => is_length_at_most(value, operand, alloc),
+        Keyword::MinLength => is_length_at_least(value, operand, alloc),
         Keyword::Pattern => has_pattern(operand, value, walk),
         Keyword::MaxItems => is_count_at_most(item_count(value), operand, alloc),
         Keyword::MinItems => is_count_at_least(item_count(value), operand, alloc),
@@ -179,13 +179,61 @@ fn are_apart(number: &ValueView<'_>, other: &ValueView<'_>) -> bool
     !is_at_most(other.as_number(), number.as_number())
 }
 
-/// The number of characters of a string; `None` for another value.
-fn length(value: &ValueView<'_>) -> Option<usize>
-    ensures { result ≡ length_of (tree_of value.now) }
+/// Whether the string has at most as many characters as the limit; true for other values.
+fn is_length_at_most(
+    value: &ValueView<'_>,
+    limit: &JsonValue,
+    alloc: Global,
+) -> Result<bool, AllocError>
+    ensures { IfOk result
+        (λ is. is ≡ is_count_at_most (length_of (tree_of value.now)) (view limit.now)) }
 {
-    match value.string() {
-        Some(text) => Some(character_count(text)),
-        None => None,
+    let Some(text) = value.string() else {
+        return Ok(true);
+    };
+    if is_surely_at_most(text, limit) {
+        return Ok(true);
+    }
+    is_count_at_most(Some(character_count(text)), limit, alloc)
+}
+
+/// Whether even the number of bytes is at most the limit. There are no more characters.
+fn is_surely_at_most(text: &str, limit: &JsonValue) -> bool
+    ensures { result ≡ true
+        → true ≡ is_count_at_most (Some (length (chars text.now))) (view limit.now) }
+{
+    match count_in(limit) {
+        Some(most) => text.len() as u64 <= most,
+        None => false,
+    }
+}
+
+/// Whether the string has at least as many characters as the limit; true for other values.
+fn is_length_at_least(
+    value: &ValueView<'_>,
+    limit: &JsonValue,
+    alloc: Global,
+) -> Result<bool, AllocError>
+    ensures { IfOk result
+        (λ is. is ≡ is_count_at_least (length_of (tree_of value.now)) (view limit.now)) }
+{
+    let Some(text) = value.string() else {
+        return Ok(true);
+    };
+    if is_surely_at_least(text, limit) {
+        return Ok(true);
+    }
+    is_count_at_least(Some(character_count(text)), limit, alloc)
+}
+
+/// Whether even a quarter of the number of bytes is at least the limit. No character takes more than four.
+fn is_surely_at_least(text: &str, limit: &JsonValue) -> bool
+    ensures { result ≡ true
+        → true ≡ is_count_at_least (Some (length (chars text.now))) (view limit.now) }
+{
+    match count_in(limit) {
+        Some(least) => least <= str::len(text) as u64 / 4,
+        None => false,
     }
 }
 
