@@ -6,6 +6,7 @@ With the query of all of it, it reads a value and writes all of it: so the texts
 import ast
 import itertools
 import json
+import os
 import re
 import resource
 
@@ -138,6 +139,25 @@ SELECTED = [
         ("$[0,0][0,1]", [("1", "$[0][0]"), ("[2]", "$[0][1]")] * 2),
         ("$[0,0]..[0]", [("1", "$[0][0]"), ("2", "$[0][1][0]")] * 2),
         ("$[0,0][1,0][0,0]", [("2", "$[0][1][0]")] * 4),
+        ("$[0,0][0,0]", [("1", "$[0][0]")] * 4),
+        ("$..[0,0]", [("[1,[2]]", "$[0]")] * 2 + [("1", "$[0][0]")] * 2 + [("2", "$[0][1][0]")] * 2),
+    ]),
+    # So it does where it has nothing, and where one beside it has something.
+    ('[[{"y":1},{"x":2}],[{"x":3}]]', [
+        ("$[0][0,1,0].x", [("2", "$[0][1]['x']")]),
+        ("$[0][1,0,1].x", [("2", "$[0][1]['x']")] * 2),
+        ("$[0][0,0,1,1,-1,0,-2].x", [("2", "$[0][1]['x']")] * 3),
+        ("$[0][*,*].x", [("2", "$[0][1]['x']")] * 2),
+        ("$[0][?@.x,:2,?@.y].x", [("2", "$[0][1]['x']")] * 2),
+        ("$[0,1,0][0,1,0].x", [("2", "$[0][1]['x']"), *[("3", "$[1][0]['x']")] * 2, ("2", "$[0][1]['x']")]),
+        ("$[0,1,0]..['x','x','y']", [("1", "$[0][0]['y']"), *[("2", "$[0][1]['x']")] * 2, *[("3", "$[1][0]['x']")] * 2] + [
+            ("1", "$[0][0]['y']"), *[("2", "$[0][1]['x']")] * 2,
+        ]),
+        ("$[0,1,0][0,1,0].z", []),
+    ]),
+    ('{"a":{"y":1},"b":{"x":2},"bb":{"x":3}}', [
+        ("$['a','b','a','bb','b'].x", [("2", "$['b']['x']"), ("3", "$['bb']['x']"), ("2", "$['b']['x']")]),
+        ("$['a','a',*,'a']['x','x']", [*[("2", "$['b']['x']")] * 2, *[("3", "$['bb']['x']")] * 2]),
     ]),
     # 2.5.2.3
     ('{"o": {"j": 1, "k": 2}, "a": [5, 3, [{"j": 4}, {"k": 6}]]}', [
@@ -727,6 +747,28 @@ REPEATED = [
     (["-v", f"${AGAIN}"], printed(b"[" * 20 + b"]" * 20)),
 ]
 
+# Where a node that is selected twice has nothing, so that it is gone through once: the arguments, an input, and the answer, in so
+# many seconds of processor.
+SECONDS = 1
+ARRAYS, OBJECTS = b"[" * 25 + b"]" * 25, b'{"a":' * 25 + b"1" + b"}" * 25
+BESIDE = b'{"x":1}'
+for depth in range(1, 25):
+    BESIDE = b"[" + b"[" * depth + b"]" * depth + b"," + BESIDE + b"]"
+GONE_THROUGH_ONCE = [
+    (["$" + "[0,0]" * 24 + ".x"], ARRAYS, NO_NODE),
+    (["$" + "[0,-1]" * 24 + ".x"], ARRAYS, NO_NODE),
+    (["$" + "[*,0]" * 24 + ".x"], ARRAYS, NO_NODE),
+    (["$" + "[:1,?@[0]]" * 23 + ".x"], ARRAYS, NO_NODE),
+    (["$" + "['a','a']" * 24 + ".x"], OBJECTS, NO_NODE),
+    (["$" + "['b','a','b','c','a']" * 24 + ".x"], OBJECTS, NO_NODE),
+    (["$.." + "[0,0]" * 24 + ".x"], ARRAYS, NO_NODE),
+    (["$[?@" + "[0,0]" * 23 + ".x]"], ARRAYS, NO_NODE),
+    (["$[?count(@" + "[0,0]" * 23 + ".x) == 0]"], ARRAYS, printed(ARRAYS[1:-1])),
+    (["-le", "$" + "[0,0]" * 24 + ".x"], ARRAYS, printed(b"[]")),
+    # Beside one that has something, on each level.
+    (["$" + "[0,1,0]" * 24 + ".x"], BESIDE, printed(b"1")),
+]
+
 # Where each request for memory is refused: a value in which queries select, queries with each selector, and one that selects nothing.
 SOME = b'{"a\\n":[1.5,{"b":["x",{"a":{}}]}],"c":[[2,3],4]}'
 REFUSED_MEMORY = [
@@ -920,6 +962,17 @@ def check_repeated(checks):
             checks.check(name, run_of(program("json_path"), words, IN_ARRAYS, preexec_fn=limited), expected, at=row)
 
 
+def check_gone_through_once(checks):
+    """What has nothing is not gone through again."""
+    for row in GONE_THROUGH_ONCE:
+        words, given, expected = row
+        name, begun = f"json_path: once {words[-1][:24]} {len(words)}", os.times().children_user
+        if checks.wants(name, words, given):
+            checks.check(name, run_of(program("json_path"), words, given), expected, at=row)
+            seconds = os.times().children_user - begun
+            checks.check(f"{name}, {seconds:.1f} s", seconds < SECONDS, True, at=row)
+
+
 def check_memory(checks):
     FAULTS.refusing(checks, REFUSED_MEMORY)
 
@@ -942,6 +995,7 @@ PARTS = (
     check_deep,
     check_faults,
     check_repeated,
+    check_gone_through_once,
     *shared(check_memory),
     *shared(DOCUMENT_READER.check_inputs),
     DOCUMENT_READER.check_padded,

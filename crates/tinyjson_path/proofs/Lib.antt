@@ -8,6 +8,8 @@ pub mod Selected
 pub mod Stated
 pub mod Wanting
 pub mod Waits
+pub mod Chosen
+pub mod Repeating
 pub mod Sameness
 pub mod Errors
 pub mod Callers

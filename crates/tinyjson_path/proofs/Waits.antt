@@ -1,16 +1,16 @@
 -- What waits on a stack, the first one last: what it selects, how long that takes, and whose strings it has.
-use Rattle.std.proofs.Common.{◌≡◌, ℕ, suc, ◌+◌, ◌<◌, ◌≤◌, List, [], ◌∷◌, ◌++◌, reverse, map, drop, length, get_or, refl, sym, ap, ◌∙◌, subst}
+use Rattle.std.proofs.Common.{◌≡◌, ℕ, suc, ◌+◌, ◌<◌, ◌≤◌, Bool, List, [], ◌∷◌, ◌++◌, reverse, map, drop, length, get_or, refl, sym, ap, ◌∙◌, subst}
 use Rattle.std.proofs.Common.{arith, append_assoc, append-nil, rules, Vec, Global, Option, None, Some, is_some}
 use Rattle.std.proofs.lemmas.List.{map-append, reverse-append, reverse-reverse, length-append}
 use Rattle.tinyjson.specs.Tree.{Tree}
-use Rattle.tinyjson_path.specs.Nodes.{Part, Takes, part_view, parts_view, children, visited, root_part}
+use Rattle.tinyjson_path.specs.Nodes.{Part, Takes, part_view, parts_view, children, root_part}
 use Rattle.tinyjson_path.specs.Queries.{Selects, one_by_one, segment_parts, selected_by, found_by, is_some_part, kept}
 use Rattle.tinyjson_path.specs.Selecting.{from_each}
 use Rattle.tinyjson_path.specs.Strings.{Texts, strings_in}
-use Rattle.tinyjson_path.specs.Waiting.{Wait, waits_view, rest_of, waits_at, waits_left, waits_parts, waits_strings, wants}
+use Rattle.tinyjson_path.specs.Waiting.{Wait, wait_view, waits_view, rest_of, waits_at, waits_left, waits_parts, waits_strings, wants}
 use Rattle.tinyjson_path.specs.declared.children.Wanted.TheVariants.{Containers}
 use Rattle.tinyjson_path.specs.declared.node.Node.{Node}
-use Rattle.tinyjson_path.specs.declared.select.Waiting.{Waiting}
+use Rattle.tinyjson_path.specs.declared.waiting.Waiting.{Waiting}
 use Rattle.tinyjson_view.proofs.Callers.{drop_at}
 use Rattle.tinyjson_path.proofs.Parts.{each_append, each_of_each, visited_of, visited_is}
 use Rattle.tinyjson_path.proofs.Selected.{AreWithin, are_both, are_first, are_last}
@@ -25,19 +25,19 @@ use Rattle.tinyjson_path_query.specs.declared.query.Selector.{Selector}
 
 pub waits_popped : (old mid : List Waiting) (w : Waiting) → old ≡ mid ++ w ∷ []
     → waits_view old ≡ waits_view mid ++ (w.segment, part_view w.node) ∷ []
-waits_popped old mid w e = ap waits_view e ∙ map-append (λ (v : Waiting). (v.segment, part_view v.node)) mid (w ∷ [])
+waits_popped old mid w e = ap waits_view e ∙ map-append wait_view mid (w ∷ [])
 
 -- a node that is taken off the end of a list, and put behind those that wait
-pub put_behind : (nodes front : List Node) (n : Node) (old new : List Waiting) (i : ℕ) (goal : List Wait) → nodes ≡ front ++ n ∷ []
-    → new ≡ old ++ record { node = n; segment = i } ∷ [] → waits_view old ++ reverse (waits_at i (parts_view nodes)) ≡ goal
+pub put_behind : (nodes front : List Node) (n : Node) (old new : List Waiting) (i : ℕ) (b : Bool) (goal : List Wait)
+    → nodes ≡ front ++ n ∷ [] → new ≡ old ++ record { node = n; segment = i; repeats = b } ∷ [] → waits_view old ++ reverse (waits_at i (parts_view nodes)) ≡ goal
     → waits_view new ++ reverse (waits_at i (parts_view front)) ≡ goal
-put_behind nodes front n old new i goal e m h =
+put_behind nodes front n old new i b goal e m h =
     let split : parts_view nodes ≡ parts_view front ++ part_view n ∷ [] = ap parts_view e ∙ map-append part_view front (n ∷ []) in
     let turned : reverse (waits_at i (parts_view nodes)) ≡ (i, part_view n) ∷ reverse (waits_at i (parts_view front))
     = ap (λ z. reverse (waits_at i z)) split
     ∙ (ap reverse (map-append (λ (p : Part). (i, p)) (parts_view front) (part_view n ∷ []))
     ∙ reverse-append (waits_at i (parts_view front)) ((i, part_view n) ∷ [])) in
-    ap (λ z. z ++ reverse (waits_at i (parts_view front))) (waits_popped new old (record { node = n; segment = i }) m)
+    ap (λ z. z ++ reverse (waits_at i (parts_view front))) (waits_popped new old (record { node = n; segment = i; repeats = b }) m)
     ∙ (append_assoc (waits_view old) ((i, part_view n) ∷ []) (reverse (waits_at i (parts_view front)))
     ∙ (ap (λ z. waits_view old ++ z) (sym turned) ∙ h))
 
@@ -96,6 +96,20 @@ module _ (ss : List Segment) (root : Tree) where
       let whole : pops root (segments_from i) (p ∷ ps) ≡ pops root (segments_from i) (p ∷ []) + pops root (segments_from i) ps
       = pops_append root (segments_from i) (p ∷ []) ps in
       omega (arith, front, split, whole)
+
+  -- whoever is taken off
+  pops_some : (fs : List Selects) (p : Part) → 0 < pops root fs (p ∷ [])
+  pops_some [] p = omega arith
+  pops_some (f ∷ fs) p =
+      let some : length (from_each visited_of (p ∷ [])) ≡ suc (length (from_each visited_of (children p.path p.tree)))
+      = ap length (append-nil (visited_of p) ∙ visited_is p.path p.tree) in
+      omega (arith, some)
+
+  pub less_popped : (ws mid : List Wait) (w : Wait) → ws ≡ mid ++ w ∷ [] → pops_of mid < pops_of ws
+  less_popped ws mid w e =
+      let was : pops_of ws ≡ pops_of mid + pops_of (w ∷ []) = ap pops_of e ∙ pops_of_append mid (w ∷ []) in
+      let some : 0 < pops root (segments_from w.0) (w.1 ∷ []) = pops_some (segments_from w.0) w.1 in
+      omega (arith, was, some)
 
   each_rest : (i : ℕ) (ps : List Part) → from_each (rest_of ss root) (waits_at i ps) ≡ one_by_one root (segments_from i) ps
   each_rest i [] = sym (obo_none root (segments_from i))

@@ -20,6 +20,7 @@ mod same;
 mod select;
 mod slice;
 mod steady;
+mod waiting;
 
 pub use asking::has_pattern;
 pub use node::{Location, Node};

@@ -6,7 +6,7 @@ ghost use Rattle.tinyjson_document.specs.Known.{Tree_set};
 ghost use Rattle.tinyjson.specs.View.{view};
 ghost use Rattle.tinyjson_document.specs.Document.{tree};
 ghost use Rattle.tinyjson_path.specs.Answers.{AreKnown, answer_of, found_view, value_at};
-ghost use Rattle.tinyjson_path.specs.Nodes.{Takes, path_of, part_view, parts_view, root_part, children};
+ghost use Rattle.tinyjson_path.specs.Nodes.{Takes, path_of, part_view, parts_view, children};
 ghost use Rattle.tinyjson_view.specs.Views.{tree_of};
 ghost use Rattle.tinyjson_path.specs.Queries.{query_parts, selector_parts, selected_by};
 ghost use Rattle.tinyjson_path.specs.Queries.{found_by, holds_of, kept, comparable_value};
@@ -18,11 +18,10 @@ ghost use Rattle.tinyjson_path.specs.Strings.{query_strings, strings_in, are_amo
 ghost use Rattle.tinyjson_path.specs.Strings.{segments_strings, selectors_strings};
 ghost use Rattle.tinyjson_path.specs.Strings.{selector_strings, expression_strings, comparable_strings};
 ghost use Rattle.tinyjson_path.specs.Strings.{filter_strings};
-ghost use Rattle.tinyjson_path.specs.Waiting.{waits_view, waits_at, waits_left, waits_strings, wants};
-ghost use Rattle.tinyjson_path.specs.declared.children.Wanted.TheVariants.{Containers};
+ghost use Rattle.tinyjson_path.specs.Waiting.{Puts, waits_view, waits_at, waits_left, waits_strings};
 
 use crate::answers::{Answer, Found, Question, Reply, keep, reply_to};
-use crate::children::{children, containers, push_children, push_indexed, push_named, push_slice};
+use crate::children::{children, push_children, push_indexed, push_named, push_slice};
 use crate::node::Node;
 use crate::operand::{
     self, Operand, compare, length_of, literal_value, part, release, singular_value, whole,
@@ -30,6 +29,7 @@ use crate::operand::{
 };
 use crate::patterns::{FindError, Patterns};
 use crate::steady::{is_steady, is_test_steady};
+use crate::waiting::{Waiting, first, push_containers, push_reversed, window};
 use std::alloc::{AllocError, Global};
 use std::mem;
 use tinyjson::JsonValue;
@@ -222,6 +222,9 @@ struct Finder<'v> {
 impl<'v> Finder<'v> {
     /// The next node of those that the segments select from the nodes that wait, which are on a stack, the next one
     /// last: a node goes through all segments before the next one does. A scalar waits for no descendants.
+    ///
+    /// What this call has gone through selected nothing. So a node that repeats another one, and came onto the stack
+    /// in this call, as those above the lowest height of the stack did, is left out: the other one selected nothing.
     #[cycle(selecting)]
     fn next_found(
         &mut self,
@@ -237,7 +240,19 @@ impl<'v> Finder<'v> {
         ensures err { IfErr result (IsFromAny (segments_strings segments.now)
             (tree_of self.old.root) (waits_strings (waits_view waiting.old.items))) }
     {
-        while let Some(Waiting { node, segment }) = waiting.pop() {
+        let mut low = waiting.len();
+        while let Some(
+            Waiting {
+                node,
+                segment,
+                repeats,
+            },
+        ) = waiting.pop()
+        {
+            if repeats && waiting.len() >= low {
+                continue;
+            }
+            low = low.min(waiting.len());
             if segment >= segments.len() {
                 return Ok(Some(node));
             }
@@ -267,12 +282,13 @@ impl<'v> Finder<'v> {
         ensures ok { OnOk result (waits_view waiting.new.items ≡ waits_view waiting.old.items
             ++ reverse (waits_at segment
             (selected_by selectors.now (tree_of self.old.root) (part_view node.now)))) }
+        ensures marked { OnOk result (Puts waiting.old.items waiting.new.items) }
         ensures err { IfErr result (IsFromAny (selectors_strings selectors.now)
             (tree_of self.old.root) (strings_in (tree_of node.now.value))) }
     {
         let mut selected = Vec::new(self.alloc);
         self.select_each(selectors, node, &mut selected)?;
-        Ok(push_reversed(selected, segment, waiting)?)
+        Ok(push_reversed(selected, segment, window(selectors), waiting)?)
     }
 
     #[cycle(selecting)]
@@ -694,50 +710,4 @@ impl<'v> Finder<'v> {
         }
         Ok(found)
     }
-}
-
-/// A node, and the index of the first segment that is left for it.
-#[derive(Drop)]
-struct Waiting<'v> {
-    node: Node<'v>,
-    segment: usize,
-}
-
-/// What waits at first: the node of the value, for all segments.
-fn first<'v>(alloc: Global, value: ValueView<'v>) -> Result<Vec<Waiting<'v>>, AllocError>
-    ensures { IfOk result (λ v. waits_view v.items ≡ (0, root_part (tree_of value.entry)) ∷ []) }
-{
-    let mut waiting = Vec::new(alloc);
-    let node = Node::root(alloc, value)?;
-    waiting.push(Waiting { node, segment: 0 })?;
-    Ok(waiting)
-}
-
-/// Puts the children of a node that may have children behind the nodes that wait, the last one first.
-fn push_containers<'v>(
-    alloc: Global,
-    node: &Node<'v>,
-    segment: usize,
-    waiting: &mut Vec<Waiting<'v>>,
-) -> Result<(), AllocError>
-    ensures { OnOk result (waits_view waiting.new.items ≡ waits_view waiting.old.items
-        ++ reverse (waits_at segment
-        (kept (wants Containers) (children (path_of node.now) (tree_of node.now.value))))) }
-{
-    push_reversed(containers(alloc, node)?, segment, waiting)
-}
-
-/// Puts the nodes behind those that wait, the last one first.
-fn push_reversed<'v>(
-    mut nodes: Vec<Node<'v>>,
-    segment: usize,
-    waiting: &mut Vec<Waiting<'v>>,
-) -> Result<(), AllocError>
-    ensures { OnOk result (waits_view waiting.new.items ≡ waits_view waiting.old.items
-        ++ reverse (waits_at segment (parts_view nodes.entry.items))) }
-{
-    while let Some(node) = nodes.pop() {
-        waiting.push(Waiting { node, segment })?;
-    }
-    Ok(())
 }

@@ -1,13 +1,16 @@
-use Rattle.std.proofs.Common.{◌≡◌, ◌∙◌, ◌++◌, ◌+◌, [], ◌∷◌, drop, map, reverse, ap, sym, subst, refl, option_map, Some}
+use Rattle.std.proofs.Common.{◌≡◌, ◌≤◌, ◌∙◌, ◌++◌, ◌+◌, [], ◌∷◌, arith, rules, length, min, drop, reverse, ap, sym, subst, refl, option_map, Some}
 use Rattle.std.specs.Prelude.{IfOk, IfErr}
-use Rattle.std.proofs.lemmas.List.{map-append}
 use Rattle.std.specs.Box.{box_value}
-use Rattle.tinyjson_path.proofs.Errors.{is_whole, is_left, is_right, is_one, node_in, node_within, error_of, error_from, error_of_pattern}
+use Rattle.tinyjson_path.proofs.Errors.{is_whole, is_left, is_right, is_one, node_within, error_of, error_from, error_of_pattern}
 use Rattle.tinyjson_path.proofs.Errors.{same_result, part_result, answered, some_answered, error_at}
 use Rattle.tinyjson_view.proofs.Callers.{drop_past}
-use Rattle.tinyjson_path.proofs.Selected.{AreWithin, are_children, are_in, are_within, are_from}
+use Rattle.tinyjson_path.proofs.Selected.{are_children, are_in, are_within, are_from}
 use Rattle.tinyjson_path.proofs.Stated.{are_kept, child_strings, descendant_strings, filter_strings_are, or_strings, and_strings}
 use Rattle.tinyjson_path.proofs.Stated.{not_strings, comparison_strings, test_strings, pattern_strings, length_strings, count_strings, value_strings, segments_of_query}
+use Rattle.tinyjson_path.proofs.Chosen.{chosen_children}
+use Rattle.tinyjson_view.proofs.Callers.{sorted_in, value_sound}
+use Rattle.tinyjson_path.proofs.Repeating.{AreSound, puts_both, sound_none, sound_next, sound_skip, left_skip}
+use Rattle.tinyjson_path.proofs.Waits.{less_popped}
 use Rattle.tinyjson_path.proofs.Waits.{waits_popped, less_child, less_descendant, left_child, left_descendant, left_whole}
 use Rattle.tinyjson_path.proofs.Waits.{one_more, one_less, next_at, first_strings, are_popped, are_pushed, chosen_within}
 use Rattle.tinyjson_path.proofs.Within.{Within, within_self, within_trans, within_same, of_query, from_same}
@@ -19,7 +22,7 @@ use Rattle.tinyjson_path.specs.Queries.{selected_by, found_by, is_some_part, kep
 use Rattle.tinyjson_path.specs.Seen.{operand_tree}
 use Rattle.tinyjson_path.specs.Strings.{strings_in, segment_strings, selector_strings, expression_strings, comparable_strings}
 use Rattle.tinyjson_path.specs.Strings.{segments_strings, selectors_strings, filter_strings, IsFromAny}
-use Rattle.tinyjson_path.specs.Waiting.{waits_view, waits_at, waits_left, waits_parts, waits_strings, wants}
+use Rattle.tinyjson_path.specs.Waiting.{AreChildren, Puts, wait_view, waits_view, waits_at, waits_left, waits_parts, waits_strings, wants}
 use Rattle.tinyjson_path.specs.declared.children.Wanted.TheVariants.{Containers}
 use Rattle.tinyjson_path_query.specs.declared.query.Origin.TheVariants.{Root}
 use Rattle.tinyjson_path.proofs.select.Finder.+selecting.Goals as goal
@@ -275,12 +278,23 @@ found-returns-in-CurrentNode-clause-ok t c =
     (subst (λ ss. IfOk c.found_from.result (λ f. found_view f ≡ answer_of (found_by ss root here)))
     c.as_slice-in-CurrentNode.ensures.value c.found_from.ensures.ok)
 
+pub push_selected-returns-clause-marked : goal.push_selected-returns-clause-marked
+push_selected-returns-clause-marked t c =
+    let n = c.args.node.now in
+    let p = part_view n in
+    let root = tree_of c.args.self.now.root in
+    let chosen = selected_by c.args.selectors.now root p in
+    c.in_ok-push_reversed.ensures.marked p
+    (subst (AreChildren p) (sym (c.in_ok-select_each.ensures.ok ∙ ap (λ ns. parts_view ns ++ chosen) c.new-selected.ensures.items))
+    (chosen_children c.args.selectors.now root p (sorted_in (tree_of n.value) (value_sound n.value))))
+
 pub next_found-loop-node-init : goal.next_found-loop-node-init
 next_found-loop-node-init t c =
     let ws = waits_view c.args.waiting.now.items in record {
       root = refl;
       left = refl;
       within = are_from (waits_strings ws) (waits_parts ws) (within_self (waits_strings ws));
+      sound = sound_none c.args.segments.now (tree_of c.args.self.now.root) c.len-low.result c.args.waiting.now.items (search rules);
     }
 
 pub next_found-loop-node-smaller : goal.next_found-loop-node-smaller
@@ -313,7 +327,7 @@ next_found-loop-node-smaller t c =
           let below = children (path_of n) (tree_of n.value) in
           let inner = kept (wants Containers) below in
           let low = waits_view w.push_containers.new.waiting.items in
-          let lower : low ≡ mid ++ reverse (waits_at i inner) = w.in_ok-push_containers-in-Descendant.ensures in
+          let lower : low ≡ mid ++ reverse (waits_at i inner) = w.in_ok-push_containers-in-Descendant.ensures.view in
           let pushed : new ≡ low ++ reverse (waits_at (i + 1) chosen) = ap (λ v. waits_view v.items) w.waiting-is
           ∙ (w.in_ok-push_selected-in-Descendant.ensures.ok
           ∙ ap (λ z. low ++ reverse (waits_at (i + 1) z))
@@ -321,6 +335,31 @@ next_found-loop-node-smaller t c =
           ∙ ap (λ xs. selected_by xs root (part_view n)) w.as_slice-in-Descendant.ensures.value)) in
           less_descendant ss root i s l at sels (part_view n) ws mid low new w.in-Descendant.is popped lower pushed
     ]
+
+-- one that repeats is left out
+pub next_found-loop-node-smaller-then-len-low : goal.next_found-loop-node-smaller-then-len-low
+next_found-loop-node-smaller-then-len-low t c =
+    let w = c.in-Some.field-0 in
+    less_popped c.args.segments.now (tree_of c.args.self.now.root) (waits_view c.loop-node.waiting.items) (waits_view c.pop.new.self.items)
+    (wait_view w) (waits_popped c.loop-node.waiting.items c.pop.new.self.items w c.in-Some.ensures.items)
+
+pub next_found-loop-node-preserved-then-len-low : goal.next_found-loop-node-preserved-then-len-low
+next_found-loop-node-preserved-then-len-low t c =
+    let ss = c.args.segments.now in
+    let root = tree_of c.args.self.now.root in
+    let zs = waits_strings (waits_view c.args.waiting.now.items) in
+    let waited = c.loop-node.waiting.items in
+    let rest = c.pop.new.self.items in
+    let w = c.in-Some.field-0 in
+    let e = c.in-Some.ensures.items in
+    let count : c.len.result ≡ length rest = search rules in
+    let l : c.loop-node.low ≤ length rest = omega (arith, count, c.if-len-low.true) in record {
+      root = c.loop-node.invariant.root;
+      left = left_skip ss root waited rest w c.loop-node.low e l c.if-repeats.true c.loop-node.invariant.sound ∙ c.loop-node.invariant.left;
+      within = (are_popped zs (waits_view waited) (waits_view rest) (wait_view w) (waits_popped waited rest w e)
+          c.loop-node.invariant.within).0;
+      sound = sound_skip ss root waited rest w c.loop-node.low e l c.if-repeats.true c.loop-node.invariant.sound;
+    }
 
 pub next_found-loop-node-preserved : goal.next_found-loop-node-preserved
 next_found-loop-node-preserved t c =
@@ -335,22 +374,32 @@ next_found-loop-node-preserved t c =
     let s = c.index-segments-segment.result in
     let l = c.if-segment-segments.false in
     let at = c.index-segments-segment.is in
-    let new = waits_view c.match-segments-segment.waiting.items in
+    let waited = c.loop-node.waiting.items in
+    let rest = c.pop.new.self.items in
+    let count : c.len-in-Some.result ≡ length rest = search rules in
+    let lowest : c.min-low.result ≡ min c.loop-node.low (length rest) = c.min-low.ensures ∙ ap (min c.loop-node.low) count in
+    let newer = c.match-segments-segment.waiting.items in
+    let new = waits_view newer in
     let here = are_popped zs ws mid (i, part_view n) popped c.loop-node.invariant.within in
     elim c.match-segments-segment.branch [
       | next_found-in-Child+in_ok-push_selected-in-Child w ↦
           let sels = w.in-Child.selectors in
           let chosen = selected_by sels.items root (part_view n) in
+          let puts : Puts rest newer = subst (λ v. Puts rest v.items) (sym w.waiting-is) w.in_ok-push_selected-in-Child.ensures.marked in
           let pushed : new ≡ mid ++ reverse (waits_at (i + 1) chosen) = ap (λ v. waits_view v.items) w.waiting-is
           ∙ (w.in_ok-push_selected-in-Child.ensures.ok
           ∙ ap (λ z. mid ++ reverse (waits_at (i + 1) z))
           (ap (λ r. selected_by w.as_slice.result.now (tree_of r) (part_view n)) c.loop-node.invariant.root
           ∙ ap (λ xs. selected_by xs root (part_view n)) w.as_slice.ensures.value)) in
+          let same = left_child ss root i s l at sels (part_view n) ws mid new w.in-Child.is popped pushed in
           record {
             root = ap (λ v. v.root) w.self-is ∙ (w.push_selected.ensures.root ∙ c.loop-node.invariant.root);
-            left = left_child ss root i s l at sels (part_view n) ws mid new w.in-Child.is popped pushed ∙ c.loop-node.invariant.left;
+            left = same ∙ c.loop-node.invariant.left;
             within = are_pushed zs mid new (i + 1) chosen pushed here.0
                 (are_in (strings_in (tree_of n.value)) zs chosen here.1 (chosen_within sels root (part_view n)));
+            sound = subst (λ n. AreSound ss root (drop n newer)) (sym lowest)
+                (sound_next ss root waited rest newer c.in-Some.field-0 c.loop-node.low c.in-Some.ensures.items puts same
+                c.loop-node.invariant.sound);
           }
       | next_found-in-Descendant+in_ok-push_containers-in-Descendant+in_ok-push_selected-in-Descendant w ↦
           let sels = w.in-Descendant.selectors in
@@ -358,21 +407,27 @@ next_found-loop-node-preserved t c =
           let below = children (path_of n) (tree_of n.value) in
           let inner = kept (wants Containers) below in
           let low = waits_view w.push_containers.new.waiting.items in
-          let lower : low ≡ mid ++ reverse (waits_at i inner) = w.in_ok-push_containers-in-Descendant.ensures in
+          let puts : Puts rest newer = puts_both rest w.push_containers.new.waiting.items newer
+          w.in_ok-push_containers-in-Descendant.ensures.marked
+          (subst (λ v. Puts w.push_containers.new.waiting.items v.items) (sym w.waiting-is) w.in_ok-push_selected-in-Descendant.ensures.marked) in
+          let lower : low ≡ mid ++ reverse (waits_at i inner) = w.in_ok-push_containers-in-Descendant.ensures.view in
           let pushed : new ≡ low ++ reverse (waits_at (i + 1) chosen) = ap (λ v. waits_view v.items) w.waiting-is
           ∙ (w.in_ok-push_selected-in-Descendant.ensures.ok
           ∙ ap (λ z. low ++ reverse (waits_at (i + 1) z))
           (ap (λ r. selected_by w.as_slice-in-Descendant.result.now (tree_of r) (part_view n)) c.loop-node.invariant.root
           ∙ ap (λ xs. selected_by xs root (part_view n)) w.as_slice-in-Descendant.ensures.value)) in
+          let same = left_descendant ss root i s l at sels (part_view n) ws mid low new w.in-Descendant.is popped lower pushed in
           record {
             root = ap (λ v. v.root) w.self-is ∙ (w.push_selected-in-Descendant.ensures.root ∙ c.loop-node.invariant.root);
-            left = left_descendant ss root i s l at sels (part_view n) ws mid low new w.in-Descendant.is popped lower pushed
-                ∙ c.loop-node.invariant.left;
+            left = same ∙ c.loop-node.invariant.left;
             within = are_pushed zs low new (i + 1) chosen pushed
                 (are_pushed zs mid low i inner lower here.0
                 (are_kept zs (wants Containers) below
                 (are_in (strings_in (tree_of n.value)) zs below here.1 (are_children (path_of n) (tree_of n.value)))))
                 (are_in (strings_in (tree_of n.value)) zs chosen here.1 (chosen_within sels root (part_view n)));
+            sound = subst (λ n. AreSound ss root (drop n newer)) (sym lowest)
+                (sound_next ss root waited rest newer c.in-Some.field-0 c.loop-node.low c.in-Some.ensures.items puts same
+                c.loop-node.invariant.sound);
           }
     ]
 

@@ -4,6 +4,7 @@ use Rattle.tinyjson_path.specs.Nodes.{Part, path_of, part_view, parts_view, chil
 use Rattle.tinyjson_view.specs.Views.{tree_of}
 use Rattle.tinyjson_path.specs.Queries.{found_by, union, selector_parts, selected_by, holds_of, kept, some_hold, all_hold}
 use Rattle.tinyjson_path.specs.Strings.{strings_in, Within}
+use Rattle.tinyjson_path.proofs.Repeating.{AreSound}
 use Rattle.tinyjson_path.proofs.Waits.{pops_of}
 use Rattle.tinyjson_path.specs.Waiting.{waits_view, waits_left, waits_parts, waits_strings}
 use Rattle.tinyjson_path.proofs.Selected.{AreWithin}
@@ -16,6 +17,7 @@ invariant-next_found-loop-node l = record {
       waits_left l.segments (tree_of l.fn.self.root) (waits_view l.waiting.items)
       ≡ waits_left l.segments (tree_of l.fn.self.root) (waits_view l.fn.waiting.items);
   within : AreWithin (waits_strings (waits_view l.fn.waiting.items)) (waits_parts (waits_view l.waiting.items));
+  sound : AreSound l.segments (tree_of l.fn.self.root) (drop l.low l.waiting.items);
 }
 
 abbrev pub decreases-next_found-loop-node : goal.decreases-next_found-loop-node
