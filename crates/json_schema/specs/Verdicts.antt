@@ -11,7 +11,7 @@ use Rattle.tinyjson_lines.specs.Lines.{content}
 use Rattle.tinyjson_lines.specs.Within.{IsLonger, IsWithin}
 use Rattle.tinyjson_schema.specs.Reading.{root_in}
 use Rattle.tinyjson_schema.specs.Valid.{Root}
-use Rattle.tinyjson_schema_keywords.specs.declared.walk.CheckError.TheVariants as check
+use Rattle.tinyjson_schema.specs.declared.walk.CheckError.TheVariants as check
 use Rattle.tinyjson_schema_report.specs.Finds.{FindsIn}
 use Rattle.tinyjson_schema_report.specs.Located.{IsLocated}
 use Rattle.json_schema.specs.declared.verdict.Cause.TheVariants as cause

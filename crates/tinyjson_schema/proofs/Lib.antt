@@ -1,4 +1,6 @@
 pub mod Adding
+pub mod Applying
+pub mod Deep
 pub mod Emptied
 pub mod Forms
 pub mod Leading

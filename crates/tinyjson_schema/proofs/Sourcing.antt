@@ -14,20 +14,22 @@ use Rattle.tinyjson_schema_keywords.specs.Names.{name}
 use Rattle.tinyjson_schema_keywords.specs.References.{referenced}
 use Rattle.tinyjson_schema_keywords.specs.declared.keyword.Keyword.{Keyword}
 use Rattle.tinyjson_schema_keywords.specs.declared.keyword.Keyword.TheVariants as kw
-use Rattle.tinyjson_schema_keywords.specs.declared.walk.CheckError.{CheckError}
+use Rattle.tinyjson_schema.specs.declared.walk.CheckError.{CheckError}
 use Rattle.tinyjson_schema_keywords.proofs.Callers.{drop_item, drop_end, drop_suc}
+use Rattle.tinyjson_schema.specs.Deep.{root_tree}
 use Rattle.tinyjson_schema.specs.Evaluated.{Child, member_at, item_at, value_of, Answers, rest_keyword, applies_to, branch_evaluates}
 use Rattle.tinyjson_schema.specs.Evaluated.{inner_evaluate, others_evaluate, rest_accepts, rest_accepted, members_pass, items_pass}
 use Rattle.tinyjson_schema.specs.Evaluated.{some_evaluate, accepting_evaluate, dependents_evaluate, reference_evaluates, target_evaluates}
 use Rattle.tinyjson_schema.specs.Parts.{member_schema, item_schema}
 use Rattle.tinyjson_schema.specs.Places.{IsMemberPart, IsItemPart}
-use Rattle.tinyjson_schema.specs.Sources.{source_evaluates, sources_evaluate, AreWithin, Adds, InRest, FindsLeft}
+use Rattle.tinyjson_schema.specs.Sources.{source_evaluates, sources_evaluate, AreWithin, AreReached, Adds, InRest, FindsLeft}
 use Rattle.tinyjson_schema.specs.Valid.{answers, answers_in, root_of, by_rules, says, Follows, FindsRest, in_rest}
 use Rattle.tinyjson_schema.specs.declared.part.Part.{Part}
 use Rattle.tinyjson_schema.specs.declared.validate.unevaluated.Source.{Source}
 use Rattle.tinyjson_schema.specs.Walks.{IsDeeper}
 use Rattle.tinyjson_schema.specs.declared.violation.Violation.{Violation}
 use Rattle.tinyjson_schema.specs.declared.walk.Walk.{Walk}
+use Rattle.tinyjson_schema.proofs.Deep.{if_deep}
 use Rattle.tinyjson_schema.proofs.Validity.{reported, same_root}
 
 or_assoc : (a b c : Bool) → ((a || b) || c) ≡ (a || (b || c))
@@ -250,24 +252,24 @@ rest_place w s t r xs a v sources e h =
 
 pub members_found : (w : Walk) (s r : Tree) (ms : Members) (xs : List Source) (x : Result (Option Violation) CheckError)
     → ((g : Answers) (c : Child) → sources_evaluate g xs c ≡ others_evaluate (view w.ground.now.whole.now.root.now) (answers_in w g) s (object ms) c)
-    → Some r ≡ schema_at s kw.UnevaluatedProperties → FindsLeft w kw.UnevaluatedProperties xs r (object ms) x → FindsRest w s (object ms) x
-members_found w s r ms xs (Ok None) sources e h = λ g.
+    → AreReached (root_tree w) (suc w.steps) s (object ms) xs → Some r ≡ schema_at s kw.UnevaluatedProperties → FindsLeft w kw.UnevaluatedProperties xs r (object ms) x → FindsRest w s (object ms) x
+members_found w s r ms xs (Ok None) sources reached e h = λ g.
     members_same (rest_accepts (view w.ground.now.whole.now.root.now) (answers_in w g) s (object ms))
     (λ c. sources_evaluate g xs c || says w g r (value_of c))
     (λ k u. ap (λ o. option_map_or (λ q. others_evaluate (view w.ground.now.whole.now.root.now) (answers_in w g) s (object ms) (member_at k u)
     || says w g q u) o
     true) (sym e) ∙ ap (λ b. b || says w g r u) (sym (sources g (member_at k u)))) ms ∙ h g
-members_found w s r ms xs (Ok (Some v)) sources e h = rest_place w s (object ms) r xs kw.UnevaluatedProperties v sources e h
-members_found w s r ms xs (Err x) sources e h = tt
+members_found w s r ms xs (Ok (Some v)) sources reached e h = rest_place w s (object ms) r xs kw.UnevaluatedProperties v sources e h
+members_found w s r ms xs (Err x) sources reached e h = if_deep x (λ f. f s (sym e) reached) h
 
 pub items_found : (w : Walk) (s r : Tree) (us : Items) (xs : List Source) (x : Result (Option Violation) CheckError)
     → ((g : Answers) (c : Child) → sources_evaluate g xs c ≡ others_evaluate (view w.ground.now.whole.now.root.now) (answers_in w g) s (array us) c)
-    → Some r ≡ schema_at s kw.UnevaluatedItems → FindsLeft w kw.UnevaluatedItems xs r (array us) x → FindsRest w s (array us) x
-items_found w s r us xs (Ok None) sources e h = λ g.
+    → AreReached (root_tree w) (suc w.steps) s (array us) xs → Some r ≡ schema_at s kw.UnevaluatedItems → FindsLeft w kw.UnevaluatedItems xs r (array us) x → FindsRest w s (array us) x
+items_found w s r us xs (Ok None) sources reached e h = λ g.
     items_same (rest_accepts (view w.ground.now.whole.now.root.now) (answers_in w g) s (array us))
     (λ c. sources_evaluate g xs c || says w g r (value_of c))
     (λ i u. ap (λ o. option_map_or (λ q. others_evaluate (view w.ground.now.whole.now.root.now) (answers_in w g) s (array us) (item_at i u)
     || says w g q u) o
     true) (sym e) ∙ ap (λ b. b || says w g r u) (sym (sources g (item_at i u)))) 0 us ∙ h g
-items_found w s r us xs (Ok (Some v)) sources e h = rest_place w s (array us) r xs kw.UnevaluatedItems v sources e h
-items_found w s r us xs (Err x) sources e h = tt
+items_found w s r us xs (Ok (Some v)) sources reached e h = rest_place w s (array us) r xs kw.UnevaluatedItems v sources e h
+items_found w s r us xs (Err x) sources reached e h = if_deep x (λ f. f s (sym e) reached) h

@@ -5,7 +5,7 @@ use Rattle.std.proofs.Common.{IsSome, IsSomeAnd, is_some, cond, bytes_eq, Result
 use Rattle.std.proofs.lemmas.Bool.{and_parts}
 use Rattle.std.proofs.lemmas.Slice.Eq.{bytes_eq-Decides}
 use Rattle.std.specs.Option.{option_map_or}
-use Rattle.std.specs.Prelude.{option_and_then, IfOk}
+use Rattle.std.specs.Prelude.{option_and_then, IfOk, MatchResult}
 use Rattle.tinyjson.specs.Index.{tree_at_key, nth}
 use Rattle.tinyjson.specs.Tree.{Tree, array, object, Items, no_items, item, Members, no_members, member, find}
 use Rattle.tinyjson.specs.View.{view}
@@ -18,16 +18,19 @@ use Rattle.tinyjson_schema_keywords.specs.Names.{name}
 use Rattle.tinyjson_schema_keywords.specs.References.{referenced}
 use Rattle.tinyjson_schema_keywords.specs.declared.keyword.Keyword.{Keyword}
 use Rattle.tinyjson_schema_keywords.specs.declared.keyword.Keyword.TheVariants as kw
-use Rattle.tinyjson_schema_keywords.specs.declared.walk.CheckError.{CheckError}
+use Rattle.tinyjson_schema.specs.declared.walk.CheckError.{CheckError}
+use Rattle.tinyjson_schema.proofs.Deep.{not_deep}
 use Rattle.tinyjson_schema.specs.Applicators.{Judge, all_accept, branch_accepts, dependents_accept, applies, apply_all, counts, tests}
 use Rattle.tinyjson_schema.specs.Applicators.{demands, member_accepted, members_accepted, item_accepted, items_accepted, found_pass}
 use Rattle.tinyjson_schema.specs.Applicators.{patterns_accept, parts_accepted}
 use Rattle.tinyjson_schema.specs.Evaluated.{Child, member_at, item_at, value_of, IsChild, Answers, rest_keyword, others_evaluate}
 use Rattle.tinyjson_schema.specs.Evaluated.{rest_accepts, rest_accepted, members_pass, items_pass, children_pass}
 use Rattle.tinyjson_schema_assertions.specs.Assertions.{meets_all, assertions}
+use Rattle.tinyjson_schema.specs.Deep.{IsDeep, IsShallow}
+use Rattle.tinyjson_schema.specs.Nested.{is_reference}
 use Rattle.tinyjson_schema.specs.Parts.{item_schema, part_schema}
 use Rattle.tinyjson_schema.specs.Places.{IsAt}
-use Rattle.tinyjson_schema.specs.Valid.{is_reference, target_accepts, refuses_all, judge, reference_accepts, accepts_by, Root, IsValidIn}
+use Rattle.tinyjson_schema.specs.Valid.{target_accepts, refuses_all, judge, reference_accepts, accepts_by, Root, IsValidIn}
 use Rattle.tinyjson_schema.specs.Valid.{MeetsRules, IsInvalidAt, ValidatesIn, by_rules, answers, answers_in, root_of, FindsRest, in_rest}
 use Rattle.tinyjson_schema.specs.Valid.{AgreesIn, says}
 use Rattle.tinyjson_schema.specs.Valid.{Follows, Decides, Judges, Finds, IsUnapplied, refused, unmet, not_applied, in_all_of, in_branch}
@@ -391,10 +394,10 @@ reported root n s t v ks js at h = at_tokens root n s t v ks js at h
 
 -- a violation that is there, with its reasons
 pub reported_there : (root : Root) (n : ℕ) (s t : Tree) (x : Result (Option Violation) CheckError) (ks js : List (List ℕ))
-    → IfOk x (λ o. IsSomeAnd o (IsAt ks js)) → IsInvalidAt root n s t ks js → Decides root n s t x
+    → MatchResult x (λ o. IsSomeAnd o (IsAt ks js)) IsShallow → IsInvalidAt root n s t ks js → Decides root n s t x
 reported_there root n s t (Ok None) ks js at h = elim at [ ]
 reported_there root n s t (Ok (Some v)) ks js at h = reported root n s t v ks js at h
-reported_there root n s t (Err e) ks js at h = tt
+reported_there root n s t (Err e) ks js at h = not_deep _ e at
 
 -- the same at its tokens
 pub placed : (w : Walk) (q : Judge → Bool) (s t : Tree) (v : Violation) (ks js : List (List ℕ)) → IsAt ks js v
@@ -412,7 +415,7 @@ pub answered : (n : ℕ) (root : Root) (t : Tree) (x : Result (Option Violation)
     → ValidatesIn n root t x
 answered n root t (Ok None) h = (n, h)
 answered n root t (Ok (Some v)) h = (h, there h, not_valid h)
-answered n root t (Err e) h = tt
+answered n root t (Err e) h = h
 
 pub agreed : (n : ℕ) (root : Root) (t : Tree) (x : Result (Option Violation) CheckError) → Decides root n root.tree t x
     → IfOk x (λ o. AgreesIn root t o)
@@ -423,10 +426,10 @@ agreed n root t (Err e) h = tt
 pub last_tested : (w : Walk) (s t : Tree) (x : Result (Option Keyword) CheckError)
     → ((g : Answers) → (applies (says w g) kw.AnyOf s t ≡ true) × (applies (says w g) kw.OneOf s t ≡ true)
     × (applies (says w g) kw.Not s t ≡ true) × (applies (says w g) kw.PropertyNames s t ≡ true))
-    → IfOk x (λ o. IsUnapplied w counts s t o) → IfOk x (λ o. IsUnapplied w tests s t o)
+    → MatchResult x (λ o. IsUnapplied w counts s t o) (IsDeep w s t) → MatchResult x (λ o. IsUnapplied w tests s t o) (IsDeep w s t)
 last_tested w s t (Ok None) a h = λ g i. (a g).0 i && ((a g).1 i && ((a g).2 i && ((a g).3 i && h g i)))
 last_tested w s t (Ok (Some k)) a h = h
-last_tested w s t (Err e) a h = tt
+last_tested w s t (Err e) a h = h
 
 -- the last step of the check
 pub last_found : (w : Walk) (s t : Tree) (x : Result (Option Violation) CheckError)
@@ -447,7 +450,7 @@ last_found w s t (Ok None) a b c d e k p r l h = λ g. valid_from (root_of w) (a
   rest = h g;
 })
 last_found w s t (Ok (Some v)) a b c d e k p r l h = h
-last_found w s t (Err x) a b c d e k p r l h = tt
+last_found w s t (Err x) a b c d e k p r l h = h
 
 pub same_root : (w inner : Walk) → IsDeeper w inner → root_of inner ≡ root_of w
 same_root w inner d = λ i. record { tree = view (d.0 i).now.whole.now.root.now; formats = (d.0 i).now.formats }
@@ -498,4 +501,4 @@ pub both_met : (w : Walk) (s t : Tree) (x : Result (Option Violation) CheckError
     → Finds w (λ f. reference_accepts (view w.ground.now.whole.now.root.now) f s t) s t x
 both_met w s t (Ok None) a h = λ g i. a g i && h g i
 both_met w s t (Ok (Some v)) a h = h
-both_met w s t (Err e) a h = tt
+both_met w s t (Err e) a h = h

@@ -1,9 +1,11 @@
 pub mod Applicators
 pub mod Circles
+pub mod Deep
 pub mod Evaluated
 pub mod Every
 pub mod Leads
 pub mod Marks
+pub mod Nested
 pub mod Operands
 pub mod Parts
 pub mod Places

@@ -1,12 +1,15 @@
 -- For private contracts: the schemas that are still to be applied, and lists of violations up to a limit.
 use Rattle.std.specs.Prelude.{◌≡◌, ℕ, List, [], ◌∷◌, ◌++◌, cond, map, take, Option, Some, None}
+use Rattle.std.specs.List.{AllByRecursion}
 use Rattle.std.specs.Str.{chars}
 use Rattle.tinyjson.specs.Tree.{Tree}
 use Rattle.tinyjson.specs.View.{view}
 use Rattle.tinyjson_schema_keywords.specs.declared.keyword.Keyword.{Keyword}
 use Rattle.tinyjson_schema_keywords.specs.declared.keyword.Keyword.TheVariants as kw
+use Rattle.tinyjson_schema.specs.Deep.{root_tree, DescendsIn}
 use Rattle.tinyjson_schema.specs.Evaluated.{Answers}
 use Rattle.tinyjson_schema.specs.Every.{Token, index, token, word, Spot, spot_of, here, at_keyword, Use, every}
+use Rattle.tinyjson_schema.specs.Nested.{Applies}
 use Rattle.tinyjson_schema.specs.Parts.{is_by_part}
 use Rattle.tinyjson_schema.specs.Valid.{root_of}
 use Rattle.tinyjson_schema.specs.declared.validate.uses.Pending.{Pending}
@@ -65,3 +68,11 @@ AddsEvery limit w ps s t old new = (g : Answers) → AddsFirst limit (map (place
 
 abbrev pub AddsUses : List Use → List Pending → List Pending → Type 0
 AddsUses us old new = map use_of new ≡ map use_of old ++ us
+
+-- the schema s applies each of these
+abbrev pub AreApplied : Tree → Tree → Tree → List Use → Type 0
+AreApplied root s t us = AllByRecursion (λ u. Applies root s t u.schema u.value) us
+
+-- Too many are nested from one of these on.
+abbrev pub DescendsUsing : Walk → List Use → Type 0
+DescendsUsing w us = (s t : Tree) → AreApplied (root_tree w) s t us → DescendsIn w s t

@@ -14,10 +14,12 @@ use Rattle.tinyjson_schema_keywords.specs.Names.{name}
 use Rattle.tinyjson_schema_keywords.specs.References.{referenced}
 use Rattle.tinyjson_schema_keywords.specs.declared.keyword.Keyword.{Keyword}
 use Rattle.tinyjson_schema_keywords.specs.declared.keyword.Keyword.TheVariants as kw
-use Rattle.tinyjson_schema_keywords.specs.declared.walk.CheckError.{CheckError}
+use Rattle.tinyjson_schema.specs.Deep.{IsDeep, IsDeepFound}
+use Rattle.tinyjson_schema.specs.declared.walk.CheckError.{CheckError}
 use Rattle.tinyjson_schema.specs.Applicators.{Judge, applies, apply_all, tests, demands, parts_accepted, found_pass}
 use Rattle.tinyjson_schema.specs.Evaluated.{Answers, Child, IsChild, value_of, rest_keyword, others_evaluate, evaluates_by, rest_accepted}
 use Rattle.tinyjson_schema_assertions.specs.Assertions.{meets_all, assertions, IsUnmet}
+use Rattle.tinyjson_schema.specs.Nested.{is_reference, Nests, IfDeep}
 use Rattle.tinyjson_schema.specs.Parts.{part_schema}
 use Rattle.tinyjson_schema.specs.declared.violation.Violation.{Violation}
 use Rattle.tinyjson_schema.specs.declared.walk.Walk.{Walk}
@@ -37,11 +39,6 @@ refuses_all (boolean accepts) = not accepts
 refuses_all _ = false
 
 -- the schemas to which `$ref` and `$dynamicRef` lead accept the value; their siblings count too (Core, 8.2.3)
-abbrev pub is_reference : Keyword → Bool
-is_reference kw.Ref = true
-is_reference kw.DynamicRef = true
-is_reference _ = false
-
 abbrev pub target_accepts : Tree → Keyword → Judge → Tree → Tree → Bool
 target_accepts root k f s t = option_map_or (λ r. f r t) (referenced root k s) true
 
@@ -110,13 +107,17 @@ pub data IsInvalidAt : Root → ℕ → Tree → Tree → List (List ℕ) → Li
       → IsChild t k c → ((g : Answers) → others_evaluate root.tree (answers root n g) s t c ≡ false)
       → IsInvalidAt root n r (value_of c) ks js → IsInvalidAt root (suc n) s t (name (rest_keyword c) ∷ ks) (k ∷ js)
 
+-- The error is `TooDeep` only if more than n schemas are applied one within the other, from the root schema and t on.
+abbrev pub IsBeyond : ℕ → Root → Tree → CheckError → Type 0
+IsBeyond n root t e = IfDeep e (Nests root.tree n root.tree t)
+
 -- No violation, and the root schema accepts t; or a violation, and it does not.
 abbrev pub ValidatesIn : ℕ → Root → Tree → Result (Option Violation) CheckError → Type 0
 ValidatesIn n root t (Ok None) = IsValidIn root t
 ValidatesIn n root t (Ok (Some v)) =
     IsInvalidAt root n root.tree t (tokens_of v.keyword_location) (tokens_of v.instance_location)
     × IsSome (part_at t (tokens_of v.instance_location)) × ¬ IsValidIn root t
-ValidatesIn n root t (Err e) = Unit {0}
+ValidatesIn n root t (Err e) = IsBeyond n root t e
 
 -- the same where `format` asserts nothing
 abbrev pub Validates : ℕ → Tree → Tree → Result (Option Violation) CheckError → Type 0
@@ -151,7 +152,7 @@ Follows w x q = (g : Answers) → x ≡ q (says w g)
 abbrev pub Decides : Root → ℕ → Tree → Tree → Result (Option Violation) CheckError → Type 0
 Decides root n s t (Ok None) = (g : Answers) → judge root n g s t ≡ true
 Decides root n s t (Ok (Some v)) = IsInvalidAt root n s t (tokens_of v.keyword_location) (tokens_of v.instance_location)
-Decides root n s t (Err e) = Unit {0}
+Decides root n s t (Err e) = IfDeep e (Nests root.tree n s t)
 
 abbrev pub Judges : Walk → Tree → Tree → Result (Option Violation) CheckError → Type 0
 Judges w = Decides (root_of w) w.steps
@@ -161,14 +162,14 @@ abbrev pub Finds : Walk → (Judge → Bool) → Tree → Tree → Result (Optio
 Finds w q s t (Ok None) = (g : Answers) → q (says w g) ≡ true
 Finds w q s t (Ok (Some v)) = IsInvalidAt (root_of w) (suc w.steps) s t (tokens_of v.keyword_location)
     (tokens_of v.instance_location)
-Finds w q s t (Err e) = Unit {0}
+Finds w q s t (Err e) = IsDeep w s t e
 
 -- No violation, and what the other keywords of s leave is accepted; or a violation.
 abbrev pub FindsRest : Walk → Tree → Tree → Result (Option Violation) CheckError → Type 0
 FindsRest w s t (Ok None) = (g : Answers) → rest_accepted (view w.ground.now.whole.now.root.now) (answers_in w g) s t ≡ true
 FindsRest w s t (Ok (Some v)) = IsInvalidAt (root_of w) (suc w.steps) s t (tokens_of v.keyword_location)
     (tokens_of v.instance_location)
-FindsRest w s t (Err e) = Unit {0}
+FindsRest w s t (Err e) = IsDeep w s t e
 
 -- The place is in the member at the key k; the pattern p matches k, and the schema r does not accept the member.
 pub record InFound (w : Walk) (p : List ℕ) (r : Tree) (ms : Members) (v : Violation) : Type 0 where
@@ -184,7 +185,7 @@ pub record InFound (w : Walk) (p : List ℕ) (r : Tree) (ms : Members) (v : Viol
 abbrev pub FindsFound : Walk → List ℕ → Tree → Members → Result (Option Violation) CheckError → Type 0
 FindsFound w p r ms (Ok None) = (g : Answers) → found_pass (says w g r) p ms ≡ true
 FindsFound w p r ms (Ok (Some v)) = InFound w p r ms v
-FindsFound w p r ms (Err e) = Unit {0}
+FindsFound w p r ms (Err e) = IsDeepFound w p r ms e
 
 -- No keyword, and t meets all of these; or one that t violates.
 abbrev pub IsUnapplied : Walk → List Keyword → Tree → Tree → Option Keyword → Type 0

@@ -1,9 +1,6 @@
 //! How many items of an array the schema of `contains` has to accept.
-ghost use Rattle.std.specs.Prelude.{◌≡◌, IfOk, false};
-ghost use Rattle.std.specs.Option.{option_map_or};
+ghost use Rattle.std.specs.Prelude.{◌≡◌, IfOk};
 ghost use Rattle.tinyjson.specs.View.{view};
-ghost use Rattle.tinyjson_schema_keywords.specs.Applied.{schema_at};
-ghost use Rattle.tinyjson_schema_keywords.specs.declared.keyword.Keyword.TheVariants as kw;
 ghost use Rattle.tinyjson_schema.specs.Applicators.{contains_some, contains_at_most};
 ghost use Rattle.tinyjson_schema.specs.Applicators.{contains_at_least, is_zero};
 
@@ -17,22 +14,14 @@ use tinyjson_schema_keywords::Keyword;
 pub fn contains_some(count: Option<usize>, here: &Applied<'_>) -> bool
     ensures { result ≡ contains_some count (view here.now.schema.now) }
 {
-    if needs_none(here) {
-        return true;
+    if let Some(least) = here.schema_at(Keyword::MinContains) {
+        if is_zero(least) {
+            return true;
+        }
     }
     match count {
         Some(count) => count != 0,
         None => true,
-    }
-}
-
-fn needs_none(here: &Applied<'_>) -> bool
-    ensures { result
-        ≡ option_map_or is_zero (schema_at (view here.now.schema.now) kw.MinContains) false }
-{
-    match here.schema_at(Keyword::MinContains) {
-        Some(least) => is_zero(least),
-        None => false,
     }
 }
 

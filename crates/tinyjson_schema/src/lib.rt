@@ -22,5 +22,6 @@ mod walk;
 
 pub use schema::{Checks, Limits, Schema, SchemaError};
 pub use tinyjson_schema_assertions::unknown_formats;
-pub use tinyjson_schema_keywords::{CheckError, unknown_words};
+pub use tinyjson_schema_keywords::unknown_words;
 pub use violation::Violation;
+pub use walk::CheckError;

@@ -1,18 +1,19 @@
 //! The schema for a member or an item.
-ghost use Rattle.std.specs.Prelude.{◌≡◌, option_map, option_and_then, IfOk};
+ghost use Rattle.std.specs.Prelude.{◌≡◌, option_map, option_and_then, MatchResult};
 ghost use Rattle.std.specs.Str.{chars};
 ghost use Rattle.tinyjson.specs.Index.{tree_at_key};
 ghost use Rattle.tinyjson.specs.View.{view, members_listed};
 ghost use Rattle.tinyjson_schema_keywords.specs.Applied.{schema_at};
 ghost use Rattle.tinyjson_schema_keywords.specs.declared.keyword.Keyword.TheVariants as kw;
+ghost use Rattle.tinyjson_schema.specs.Deep.{IsShallow};
 ghost use Rattle.tinyjson_schema.specs.Parts.{property, prefix_item, some_found, is_patterned};
 ghost use Rattle.tinyjson_schema.specs.Parts.{additional};
 ghost use Rattle.tinyjson_schema.specs.Places.{IsMemberPart, IsItemPart};
 
 use crate::applied::Applied;
-use crate::walk::Walk;
+use crate::walk::{CheckError, Walk};
 use tinyjson::JsonValue;
-use tinyjson_schema_keywords::{CheckError, Keyword, operand};
+use tinyjson_schema_keywords::{Keyword, operand};
 use tinyjson_schema_table::{known_item, known_property};
 
 /// The schema for a part of the value, and the keyword that applies it.
@@ -23,19 +24,8 @@ pub struct Part<'s> {
 }
 
 /// The schema for the member at the key: that of `properties`, or else `additionalProperties`, unless a pattern of
-/// `patternProperties` matches the key. It takes a step.
-pub fn member_part<'s>(
-    here: &Applied<'s>,
-    key: &str,
-    walk: Walk<'_, '_>,
-) -> Result<Option<Part<'s>>, CheckError>
-    ensures { IfOk result (λ part. IsMemberPart (view here.now.schema.now) (chars key.now) part) }
-{
-    member_part_of(here, here.schema_at(Keyword::Properties), key, 0, walk)
-}
-
-/// `member_part`, where the schema's `properties` is looked up already, and a property with this key is likely to be
-/// the one at the place `near`.
+/// `patternProperties` matches the key. It takes a step. The schema's `properties` is looked up already, and a property
+/// with this key is likely to be the one at the place `near`.
 pub fn member_part_of<'s>(
     here: &Applied<'s>,
     properties: Option<&'s JsonValue>,
@@ -43,12 +33,14 @@ pub fn member_part_of<'s>(
     near: usize,
     walk: Walk<'_, '_>,
 ) -> Result<Option<Part<'s>>, CheckError>
-    ensures { IfOk result (λ part.
+    ensures { MatchResult result (λ part.
         option_map (λ x. view x.now) properties.entry
         ≡ schema_at (view here.now.schema.now) kw.Properties
-        → IsMemberPart (view here.now.schema.now) (chars key.now) part) }
+        → IsMemberPart (view here.now.schema.now) (chars key.now) part) IsShallow }
 {
-    walk.ground.whole.budget.spend(1)?;
+    if walk.ground.whole.budget.spend(1).is_err() {
+        return Err(CheckError::TooMuch);
+    }
     if let Some(known) = known_property(here.known, key, near) {
         return Ok(Some(Part {
             applicator: Keyword::Properties,
@@ -121,9 +113,9 @@ pub fn additional<'s>(
     key: &str,
     walk: Walk<'_, '_>,
 ) -> Result<Option<&'s JsonValue>, CheckError>
-    ensures { IfOk result (λ part.
+    ensures { MatchResult result (λ part.
         option_map (λ x. view x.now) part
-        ≡ additional (view here.now.schema.now) (chars key.now)) }
+        ≡ additional (view here.now.schema.now) (chars key.now)) IsShallow }
 {
     let Some(part) = here.schema_at(Keyword::AdditionalProperties) else {
         return Ok(None);
@@ -139,7 +131,8 @@ pub fn additional<'s>(
 /// at each level.
 #[inline(never)]
 pub fn is_patterned(here: &Applied<'_>, key: &str, walk: Walk<'_, '_>) -> Result<bool, CheckError>
-    ensures { IfOk result (λ is. is ≡ is_patterned (view here.now.schema.now) (chars key.now)) }
+    ensures { MatchResult result
+        (λ is. is ≡ is_patterned (view here.now.schema.now) (chars key.now)) IsShallow }
 {
     let patterns = here.schema_map_at(Keyword::PatternProperties, walk.alloc)?;
     some_found(patterns.as_slice(), key, walk)
@@ -150,8 +143,8 @@ fn some_found(
     key: &str,
     walk: Walk<'_, '_>,
 ) -> Result<bool, CheckError>
-    ensures { IfOk result
-        (λ some. some ≡ some_found (members_listed patterns.now) (chars key.now)) }
+    ensures { MatchResult result
+        (λ some. some ≡ some_found (members_listed patterns.now) (chars key.now)) IsShallow }
 {
     for &(pattern, _) in patterns {
         let is_found = walk.is_found(pattern.as_str(), key)?;

@@ -1,5 +1,5 @@
 //! Schemas, which are checked before values are.
-ghost use Rattle.std.specs.Prelude.{◌≡◌, true, IfOk};
+ghost use Rattle.std.specs.Prelude.{◌≡◌, true, IfOk, IfErr};
 ghost use Rattle.tinyjson.specs.Equality.{tree_eq};
 ghost use Rattle.tinyjson.specs.View.{view};
 ghost use Rattle.tinyjson_schema.specs.Leads.{are_led};
@@ -11,12 +11,12 @@ use crate::leads::leads_of;
 use crate::refused::{Reason, refused_place};
 use crate::validate::{find_violation, find_violations};
 use crate::violation::Violation;
-use crate::walk::{Ground, Walk};
+use crate::walk::{CheckError, Ground, Walk};
 use std::alloc::{AllocError, Global};
 use tinyjson::JsonValue;
 use tinyjson_pointer::Pointer;
 use tinyjson_schema_keywords::{
-    Budget, CheckError, Document, KeptPatterns, Whole, anchors_of, repeated,
+    Budget, Document, KeptPatterns, Whole, anchors_of, repeated,
 };
 use tinyjson_schema_table::Table;
 use tinyjson_view::AsView;
@@ -78,6 +78,7 @@ impl<'s> Schema<'s> {
     ghost use Rattle.tinyjson_schema.specs.Reading.{ReadsSchema, tree_of, root_in};
     ghost use Rattle.tinyjson_schema.specs.Every.{AreFirst, AreNoneIfValid};
     ghost use Rattle.tinyjson_schema.specs.Valid.{Validates, Agrees, ValidatesIn, AgreesIn};
+    ghost use Rattle.tinyjson_schema.specs.Valid.{IsBeyond};
 
     /// Checks a tree, and returns it as a schema. The error has the place of what can't be applied (Core, 4.3), or
     /// of a pattern that is too deep or too large.
@@ -223,6 +224,8 @@ impl<'s> Schema<'s> {
             checks.limits.nested (V.tree value) found.items) }
         ensures none { IfOk result (λ found. AreNoneIfValid most (root_in self.now checks.formats)
             (V.tree value) found.items) }
+        ensures deep { IfErr result (IsBeyond checks.limits.nested
+            (root_in self.now checks.formats) (V.tree value)) }
     {
         let limits = checks.limits;
         self.whole.budget.renew(limits.steps);

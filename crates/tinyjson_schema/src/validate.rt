@@ -1,5 +1,5 @@
 //! What a value violates of a schema.
-ghost use Rattle.std.specs.Prelude.{◌≡◌, ◌∷◌, [], IfOk, IsSomeAnd, is_some, true};
+ghost use Rattle.std.specs.Prelude.{◌≡◌, ◌∷◌, [], IfOk, IsSomeAnd, MatchResult, is_some, true};
 ghost use Rattle.tinyjson.specs.Index.{tree_at_key};
 ghost use Rattle.tinyjson.specs.Tree.{array, object};
 ghost use Rattle.tinyjson.specs.View.{view, items_view, members_listed};
@@ -12,9 +12,12 @@ ghost use Rattle.tinyjson_schema_keywords.specs.declared.keyword.Keyword.TheVari
 ghost use Rattle.tinyjson_schema.specs.Applicators.{all_accept, applies, dependents_accept};
 ghost use Rattle.tinyjson_schema.specs.Applicators.{members_accepted, items_accepted};
 ghost use Rattle.tinyjson_schema.specs.Applicators.{parts_accepted};
+ghost use Rattle.tinyjson_schema.specs.Nested.{IfDeep};
+ghost use Rattle.tinyjson_schema.specs.Deep.{IsShallow, Descends};
 ghost use Rattle.tinyjson_schema.specs.Places.{IsAt};
 ghost use Rattle.tinyjson_schema.specs.Valid.{refuses_all, reference_accepts, ValidatesIn, AgreesIn};
-ghost use Rattle.tinyjson_schema.specs.Valid.{Judges, Follows, Finds, FindsFound, is_reference};
+ghost use Rattle.tinyjson_schema.specs.Valid.{Judges, Follows, Finds, FindsFound};
+ghost use Rattle.tinyjson_schema.specs.Nested.{is_reference};
 ghost use Rattle.tinyjson_schema.specs.Valid.{target_accepts, root_of};
 
 mod every;
@@ -28,11 +31,11 @@ use crate::part::{item_part, member_part_of};
 use crate::validate::tested::unmet_test;
 use crate::validate::unevaluated::in_rest;
 use crate::violation::Violation;
-use crate::walk::Walk;
+use crate::walk::{CheckError, Walk};
 pub use every::find_violations;
 use tinyjson::{JsonKind, JsonValue};
 use tinyjson_document::JsonView;
-use tinyjson_schema_keywords::{CheckError, Keyword, branch};
+use tinyjson_schema_keywords::{Keyword, branch};
 use tinyjson_schema_table::marks_of;
 use tinyjson_view::{MemberView, ValueView};
 
@@ -119,7 +122,8 @@ fn violation_of(
 /// The value violates the schema's keyword. Not inlined, for the stack that nested schemas take.
 #[inline(never)]
 fn at_keyword(keyword: Keyword, walk: Walk<'_, '_>) -> Result<Option<Violation>, CheckError>
-    ensures { IfOk result (λ found. IsSomeAnd found (IsAt (name keyword ∷ []) [])) }
+    ensures { MatchResult result
+        (λ found. IsSomeAnd found (IsAt (name keyword ∷ []) [])) IsShallow }
 {
     let mut violation = Violation::of_schema(walk.alloc);
     violation.enter_keyword(walk.alloc, keyword)?;
@@ -150,8 +154,9 @@ fn is_accepted(
     schema: &JsonValue,
     walk: Walk<'_, '_>,
 ) -> Result<bool, CheckError>
-    ensures { IfOk result
-        (λ is. Follows walk.entry is (λ f. f (view schema.now) (tree_of value.now))) }
+    ensures { MatchResult result
+        (λ is. Follows walk.entry is (λ f. f (view schema.now) (tree_of value.now)))
+        (λ e. IfDeep e (Descends walk.entry (view schema.now) (tree_of value.now))) }
 {
     let found = violation_in(value, schema, walk)?;
     Ok(found.is_none())

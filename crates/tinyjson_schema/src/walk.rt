@@ -1,16 +1,44 @@
 //! The state of a check of a value, which is passed down from schema to subschema.
 ghost use Rattle.i_regexp.specs.PatternDeciding.{is_found};
-ghost use Rattle.std.specs.Prelude.{◌≡◌, IfOk, true};
+ghost use Rattle.std.specs.Prelude.{◌≡◌, MatchResult, true};
 ghost use Rattle.std.specs.Str.{chars};
 ghost use Rattle.tinyjson.specs.View.{view};
 ghost use Rattle.tinyjson_schema.specs.Leads.{are_led};
+ghost use Rattle.tinyjson_schema.specs.declared.walk.CheckError.{CheckError};
 ghost use Rattle.tinyjson_schema_table.specs.Places.{is_of};
 
 use crate::lead::Lead;
-use std::alloc::Global;
+use std::alloc::{AllocError, AllocFailed, Global};
 use tinyjson_schema_keywords as keywords;
-use tinyjson_schema_keywords::{CheckError, Whole};
+use tinyjson_schema_keywords::Whole;
 use tinyjson_schema_table::Known;
+
+/// Why a check has no result.
+#[derive(Clone, Copy)]
+pub enum CheckError {
+    /// More schemas are applied one within the other than the caller allows.
+    TooDeep,
+    /// The check would take more steps than the caller allows.
+    TooMuch,
+    /// An allocation failed.
+    OutOfMemory,
+}
+
+impl From<AllocError> for CheckError {
+    ghost from_gives = { λ _ e. e ≡ CheckError.OutOfMemory };
+
+    fn from(_: AllocError) -> CheckError {
+        CheckError::OutOfMemory
+    }
+}
+
+impl<T: Drop> From<AllocFailed<T>> for CheckError {
+    ghost from_gives = { λ _ e. e ≡ CheckError.OutOfMemory };
+
+    fn from(_: AllocFailed<T>) -> CheckError {
+        CheckError::OutOfMemory
+    }
+}
 
 /// What is the same at each schema of a check: the whole schema, in which references lead, those that are followed
 /// already, and whether `format` is an assertion. The whole schema may be in a table.
@@ -34,6 +62,8 @@ pub struct Walk<'d, 's> {
 }
 
 impl<'d, 's> Walk<'d, 's> {
+    ghost use Rattle.tinyjson_schema.specs.Nested.{IfDeep};
+    ghost use Rattle.tinyjson_schema.specs.Deep.{IsShallow};
     ghost use Rattle.tinyjson_schema.specs.Walks.{IsDeeper};
 
     /// The walk in which references are followed.
@@ -49,7 +79,8 @@ impl<'d, 's> Walk<'d, 's> {
 
     /// The state for a subschema: one step less is left.
     pub fn deeper(self) -> Result<Walk<'d, 's>, CheckError>
-        ensures { IfOk result (IsDeeper self.entry) }
+        ensures { MatchResult result
+            (IsDeeper self.entry) (λ e. IfDeep e (self.entry.steps ≡ 0)) }
     {
         match self.steps.checked_sub(1) {
             Some(steps) => Ok(Walk {
@@ -63,17 +94,25 @@ impl<'d, 's> Walk<'d, 's> {
 
     /// The state for a schema that is applied: one step of the budget is taken, and one less nested schema is left.
     pub fn entered(self) -> Result<Walk<'d, 's>, CheckError>
-        ensures { IfOk result (IsDeeper self.entry) }
+        ensures { MatchResult result
+            (IsDeeper self.entry) (λ e. IfDeep e (self.entry.steps ≡ 0)) }
     {
-        self.ground.whole.budget.spend(1)?;
+        if self.ground.whole.budget.spend(1).is_err() {
+            return Err(CheckError::TooMuch);
+        }
         self.deeper()
     }
 
     /// Whether the pattern matches somewhere in the text. One that is no pattern matches nothing. It takes a step of
     /// the budget, and another one for each 32 bytes of the pattern and the text.
     pub fn is_found(self, pattern: &str, text: &str) -> Result<bool, CheckError>
-        ensures { IfOk result (λ is. is ≡ is_found (chars pattern.now) (chars text.now)) }
+        ensures { MatchResult result
+            (λ is. is ≡ is_found (chars pattern.now) (chars text.now)) IsShallow }
     {
-        self.following().is_found(pattern, text)
+        match self.following().is_found(pattern, text) {
+            Ok(is_found) => Ok(is_found),
+            Err(keywords::CheckError::OutOfMemory) => Err(CheckError::OutOfMemory),
+            Err(_) => Err(CheckError::TooMuch),
+        }
     }
 }

@@ -4,7 +4,7 @@ use Rattle.std.specs.String.{string_bytes}
 use Rattle.tinyjson.specs.Tree.{Tree}
 use Rattle.tinyjson_pointer.specs.Tokens.{tokens_of}
 use Rattle.tinyjson_schema.specs.Valid.{Root, plain, ValidatesIn}
-use Rattle.tinyjson_schema_keywords.specs.declared.walk.CheckError.{CheckError}
+use Rattle.tinyjson_schema.specs.declared.walk.CheckError.{CheckError}
 use Rattle.tinyjson_schema_report.specs.declared.found.Finding.{Finding}
 use Rattle.tinyjson_schema_words.specs.Nearest.{IsWords}
 

@@ -1,5 +1,5 @@
 //! Each violation of a schema by a value, not only the first one.
-ghost use Rattle.std.specs.Prelude.{◌≡◌, ◌++◌, ◌∷◌, [], IfOk, OnOk, cond, map};
+ghost use Rattle.std.specs.Prelude.{◌≡◌, ◌++◌, ◌∷◌, [], IfOk, IfErr, MatchResult, OnOk, cond, map};
 ghost use Rattle.tinyjson.specs.View.{view};
 ghost use Rattle.tinyjson_view.specs.Views.{tree_of};
 ghost use Rattle.tinyjson_schema_assertions.specs.Assertions.{meets, assertions};
@@ -8,8 +8,10 @@ ghost use Rattle.tinyjson_schema.specs.Evaluated.{Answers};
 ghost use Rattle.tinyjson_schema.specs.Every.{AreFirst, AreNoneIfValid, failing, at_keyword, spot_of};
 ghost use Rattle.tinyjson_schema.specs.Every.{spread, every};
 ghost use Rattle.tinyjson_schema.specs.Steps.{AddsFirst, AddsEvery, placed, stepped, spot_at};
-ghost use Rattle.tinyjson_schema.specs.Steps.{use_of};
-ghost use Rattle.tinyjson_schema.specs.Valid.{root_of, says};
+ghost use Rattle.tinyjson_schema.specs.Steps.{use_of, DescendsUsing};
+ghost use Rattle.tinyjson_schema.specs.Deep.{IsDeep, Descends};
+ghost use Rattle.tinyjson_schema.specs.Nested.{IfDeep};
+ghost use Rattle.tinyjson_schema.specs.Valid.{root_of, says, IsBeyond};
 
 use crate::applied::Applied;
 use crate::assertions::meets;
@@ -18,10 +20,10 @@ use crate::validate::refuses_all;
 use crate::validate::tested::{are_names_met, contained, is_any_met, is_not_met, is_one_met};
 use crate::validate::uses::{Pending, Step, uses_in};
 use crate::violation::Violation;
-use crate::walk::Walk;
+use crate::walk::{CheckError, Walk};
 use std::alloc::{AllocError, Global};
 use tinyjson::JsonValue;
-use tinyjson_schema_keywords::{CheckError, Keyword};
+use tinyjson_schema_keywords::Keyword;
 use tinyjson_schema_table::{assertions, marks_of};
 use tinyjson_view::ValueView;
 
@@ -42,6 +44,8 @@ pub fn find_violations(
         AreFirst limit (root_of walk.entry) walk.entry.steps (tree_of value.now) found.items) }
     ensures none { IfOk result (λ found.
         AreNoneIfValid limit (root_of walk.entry) (tree_of value.now) found.items) }
+    ensures deep { IfErr result
+        (IsBeyond walk.entry.steps (root_of walk.entry) (tree_of value.now)) }
 {
     let mut found = Vec::new(walk.alloc);
     add_violations(value, walk.ground.whole.root, walk, &[], limit, &mut found)?;
@@ -60,8 +64,10 @@ fn add_violations<'v, 's>(
     limit: usize,
     found: &mut Vec<Violation>,
 ) -> Result<(), CheckError>
-    ensures { OnOk result (AddsEvery limit walk.entry path.now (view schema.now) (tree_of value.now)
-        found.old.items found.new.items) }
+    ensures { MatchResult result (λ _. AddsEvery limit walk.entry path.now (view schema.now) (tree_of value.now)
+        found.old.items found.new.items)
+        (λ e. IfDeep e
+        (Descends walk.entry (view schema.now) (tree_of value.now))) }
 {
     let inner = walk.entered()?;
     if refuses_all(schema) {
@@ -98,9 +104,10 @@ fn add_further<'v, 's>(
     limit: usize,
     found: &mut Vec<Violation>,
 ) -> Result<(), CheckError>
-    ensures { OnOk result ((g : Answers) → AddsFirst limit (map (placed path.now)
+    ensures { MatchResult result (λ _. (g : Answers) → AddsFirst limit (map (placed path.now)
         (spread (λ u. every (root_of walk.entry) walk.entry.steps g u.schema u.value)
-        (map use_of pending.now))) found.old.items found.new.items) }
+        (map use_of pending.now))) found.old.items found.new.items)
+        (λ e. IfDeep e (DescendsUsing walk.entry (map use_of pending.now))) }
 {
     for used in pending {
         if found.as_slice().len() >= limit {
@@ -247,9 +254,10 @@ fn add_tests(
     walk: Walk<'_, '_>,
     unmet: &mut Vec<Keyword>,
 ) -> Result<(), CheckError>
-    ensures { OnOk result ((g : Answers) → unmet.new.items ≡ unmet.old.items
+    ensures { MatchResult result (λ _. (g : Answers) → unmet.new.items ≡ unmet.old.items
         ++ failing (λ k. applies (says walk.entry g) k (view here.now.schema.now) (tree_of value.now))
-        tests) }
+        tests)
+        (IsDeep walk.entry (view here.now.schema.now) (tree_of value.now)) }
 {
     let any = is_any_met(value, here.schemas_at(Keyword::AnyOf), walk)?;
     add_unless(any, Keyword::AnyOf, unmet)?;

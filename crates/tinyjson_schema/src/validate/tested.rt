@@ -1,6 +1,6 @@
 //! Keywords that count or combine the results of their subschemas. These tests are not inlined, so that a level of
 //! the recursion over schemas takes less than a kilobyte of stack.
-ghost use Rattle.std.specs.Prelude.{◌≡◌, IfOk};
+ghost use Rattle.std.specs.Prelude.{◌≡◌, IfOk, MatchResult};
 ghost use Rattle.std.specs.Str.{chars};
 ghost use Rattle.tinyjson.specs.Tree.{string};
 ghost use Rattle.tinyjson.specs.View.{view, items_view};
@@ -9,16 +9,19 @@ ghost use Rattle.tinyjson_schema_keywords.specs.declared.keyword.Keyword.TheVari
 ghost use Rattle.tinyjson_schema.specs.Applicators.{any_of, some_accepts, one_of, accepting};
 ghost use Rattle.tinyjson_schema.specs.Applicators.{applies, keys_pass, passing, contained, tests};
 ghost use Rattle.tinyjson_schema.specs.Applicators.{counts};
+ghost use Rattle.tinyjson_schema.specs.Nested.{IfDeep};
+ghost use Rattle.tinyjson_schema.specs.Deep.{IsDeep, DescendsAmong, DescendsAtKey};
+ghost use Rattle.tinyjson_schema.specs.Deep.{DescendsAtItem};
 ghost use Rattle.tinyjson_schema.specs.Valid.{Follows, IsUnapplied};
 
 use crate::applied::Applied;
 use crate::contains::{contains_at_least, contains_at_most, contains_some};
 use crate::validate::is_accepted;
-use crate::walk::Walk;
+use crate::walk::{CheckError, Walk};
 use std::alloc::{AllocError, Global};
 use tinyjson::{JsonKind, JsonValue};
 use tinyjson_document::JsonView;
-use tinyjson_schema_keywords::{CheckError, Keyword, is_some_item};
+use tinyjson_schema_keywords::{Keyword, is_some_item};
 use tinyjson_view::{MemberView, ValueView};
 
 /// One of these keywords that the value violates, if there is one.
@@ -29,9 +32,10 @@ pub fn unmet_test(
     here: &Applied<'_>,
     walk: Walk<'_, '_>,
 ) -> Result<Option<Keyword>, CheckError>
-    ensures { IfOk result
+    ensures { MatchResult result
         (λ found. IsUnapplied walk.entry tests (view here.now.schema.now) (tree_of value.now)
-        found) }
+        found)
+        (IsDeep walk.entry (view here.now.schema.now) (tree_of value.now)) }
 {
     if !here.may_test() {
         return Ok(None);
@@ -63,9 +67,10 @@ fn unmet_count(
     here: &Applied<'_>,
     walk: Walk<'_, '_>,
 ) -> Result<Option<Keyword>, CheckError>
-    ensures { IfOk result
+    ensures { MatchResult result
         (λ found. IsUnapplied walk.entry counts (view here.now.schema.now) (tree_of value.now)
-        found) }
+        found)
+        (IsDeep walk.entry (view here.now.schema.now) (tree_of value.now)) }
 {
     let count = contained(value, here, walk)?;
     let some = contains_some(count, here);
@@ -91,9 +96,11 @@ pub fn is_any_met(
     schemas: &[JsonValue],
     walk: Walk<'_, '_>,
 ) -> Result<bool, CheckError>
-    ensures { IfOk result
+    ensures { MatchResult result
         (λ is. Follows walk.entry is
-        (λ f. any_of f (items_view schemas.now) (tree_of value.now))) }
+        (λ f. any_of f (items_view schemas.now) (tree_of value.now)))
+        (λ e. IfDeep e
+        (DescendsAmong walk.entry (items_view schemas.now) (tree_of value.now))) }
 {
     if !is_some_item(schemas) {
         return Ok(true);
@@ -109,9 +116,11 @@ fn is_some_met(
     schemas: &[JsonValue],
     walk: Walk<'_, '_>,
 ) -> Result<bool, CheckError>
-    ensures { IfOk result
+    ensures { MatchResult result
         (λ is. Follows walk.entry is
-        (λ f. some_accepts f (items_view schemas.now) (tree_of value.now))) }
+        (λ f. some_accepts f (items_view schemas.now) (tree_of value.now)))
+        (λ e. IfDeep e
+        (DescendsAmong walk.entry (items_view schemas.now) (tree_of value.now))) }
 {
     for schema in schemas {
         let accepted = is_accepted(value, schema, walk)?;
@@ -130,9 +139,11 @@ pub fn is_one_met(
     schemas: &[JsonValue],
     walk: Walk<'_, '_>,
 ) -> Result<bool, CheckError>
-    ensures { IfOk result
+    ensures { MatchResult result
         (λ is. Follows walk.entry is
-        (λ f. one_of f (items_view schemas.now) (tree_of value.now))) }
+        (λ f. one_of f (items_view schemas.now) (tree_of value.now)))
+        (λ e. IfDeep e
+        (DescendsAmong walk.entry (items_view schemas.now) (tree_of value.now))) }
 {
     if !is_some_item(schemas) {
         return Ok(true);
@@ -148,9 +159,11 @@ fn count_accepting(
     schemas: &[JsonValue],
     walk: Walk<'_, '_>,
 ) -> Result<usize, CheckError>
-    ensures { IfOk result
+    ensures { MatchResult result
         (λ count. Follows walk.entry count
-        (λ f. accepting f (items_view schemas.now) (tree_of value.now))) }
+        (λ f. accepting f (items_view schemas.now) (tree_of value.now)))
+        (λ e. IfDeep e
+        (DescendsAmong walk.entry (items_view schemas.now) (tree_of value.now))) }
 {
     let mut count = 0;
     for schema in schemas {
@@ -170,9 +183,10 @@ pub fn is_not_met(
     here: &Applied<'_>,
     walk: Walk<'_, '_>,
 ) -> Result<bool, CheckError>
-    ensures { IfOk result
+    ensures { MatchResult result
         (λ is. Follows walk.entry is
-        (λ f. applies f kw.Not (view here.now.schema.now) (tree_of value.now))) }
+        (λ f. applies f kw.Not (view here.now.schema.now) (tree_of value.now)))
+        (IsDeep walk.entry (view here.now.schema.now) (tree_of value.now)) }
 {
     match here.schema_at(Keyword::Not) {
         Some(part) => {
@@ -191,9 +205,10 @@ pub fn are_names_met(
     here: &Applied<'_>,
     walk: Walk<'_, '_>,
 ) -> Result<bool, CheckError>
-    ensures { IfOk result
+    ensures { MatchResult result
         (λ is. Follows walk.entry is
-        (λ f. applies f kw.PropertyNames (view here.now.schema.now) (tree_of value.now))) }
+        (λ f. applies f kw.PropertyNames (view here.now.schema.now) (tree_of value.now)))
+        (IsDeep walk.entry (view here.now.schema.now) (tree_of value.now)) }
 {
     match here.schema_at(Keyword::PropertyNames) {
         Some(part) => {
@@ -212,9 +227,11 @@ fn are_keys_met(
     schema: &JsonValue,
     walk: Walk<'_, '_>,
 ) -> Result<bool, CheckError>
-    ensures { IfOk result
+    ensures { MatchResult result
         (λ is. Follows walk.entry is
-        (λ f. keys_pass (f (view schema.now)) (members_of members.now))) }
+        (λ f. keys_pass (f (view schema.now)) (members_of members.now)))
+        (λ e. IfDeep e
+        (DescendsAtKey walk.entry (view schema.now) (members_of members.now))) }
 {
     for member in members {
         let name = name_of(member.key, walk.alloc)?;
@@ -242,9 +259,10 @@ pub fn contained(
     here: &Applied<'_>,
     walk: Walk<'_, '_>,
 ) -> Result<Option<usize>, CheckError>
-    ensures { IfOk result
+    ensures { MatchResult result
         (λ count. Follows walk.entry count
-        (λ f. contained f (view here.now.schema.now) (tree_of value.now))) }
+        (λ f. contained f (view here.now.schema.now) (tree_of value.now)))
+        (IsDeep walk.entry (view here.now.schema.now) (tree_of value.now)) }
 {
     let Some(part) = here.schema_at(Keyword::Contains) else {
         return Ok(None);
@@ -265,9 +283,11 @@ fn count_passing(
     schema: &JsonValue,
     walk: Walk<'_, '_>,
 ) -> Result<usize, CheckError>
-    ensures { IfOk result
+    ensures { MatchResult result
         (λ count. Follows walk.entry count
-        (λ f. passing (f (view schema.now)) (trees_of items.now))) }
+        (λ f. passing (f (view schema.now)) (trees_of items.now)))
+        (λ e. IfDeep e
+        (DescendsAtItem walk.entry (view schema.now) (trees_of items.now))) }
 {
     let mut count = 0;
     for item in items {

@@ -3,7 +3,8 @@
 //!
 //! The schemas that evaluate are listed first: the schema that asks, and those that it applies to the value itself
 //! and that accept it, at any depth. So each of them checks the value once, not once for each member.
-ghost use Rattle.std.specs.Prelude.{◌≡◌, ◌&&◌, ◌||◌, IfOk, OnOk, is_some, not};
+ghost use Rattle.std.specs.Prelude.{◌≡◌, ◌&&◌, ◌||◌, IfOk, IfErr, MatchResult, OnOk, is_some};
+ghost use Rattle.std.specs.Prelude.{not, suc};
 ghost use Rattle.std.specs.Str.{chars};
 ghost use Rattle.tinyjson.specs.Index.{tree_at_key};
 ghost use Rattle.tinyjson.specs.Tree.{array, object, Tree};
@@ -18,18 +19,23 @@ ghost use Rattle.tinyjson_schema.specs.Evaluated.{accepting_evaluate, branch_eva
 ghost use Rattle.tinyjson_schema.specs.Evaluated.{dependents_evaluate, reference_evaluates};
 ghost use Rattle.tinyjson_schema.specs.Evaluated.{target_evaluates};
 ghost use Rattle.tinyjson_schema.specs.Sources.{source_evaluates, sources_evaluate, AreWithin};
+ghost use Rattle.tinyjson_schema.specs.Nested.{IfDeep};
+ghost use Rattle.tinyjson_schema.specs.Deep.{IsDeep, IsShallow, Descends, DescendsIn};
+ghost use Rattle.tinyjson_schema.specs.Deep.{DescendsAmong, DescendsBy, DescendsForKey, root_tree};
 ghost use Rattle.tinyjson_schema.specs.Sources.{Adds, StaysWithin, FindsLeft};
+ghost use Rattle.tinyjson_schema.specs.Sources.{AreReached, StaysReached, DescendsFrom};
+ghost use Rattle.tinyjson_schema.specs.Sources.{DescendsFromOne};
 ghost use Rattle.tinyjson_schema.specs.Valid.{Follows, FindsRest, answers_in};
 
 use crate::applied::Applied;
-use crate::part::{is_patterned, item_part, member_part};
+use crate::part::{is_patterned, item_part, member_part_of};
 use crate::validate::{has_key, is_accepted, violation_in};
 use crate::violation::Violation;
-use crate::walk::Walk;
+use crate::walk::{CheckError, Walk};
 use std::alloc::AllocError;
 use tinyjson::{JsonKind, JsonValue};
 use tinyjson_document::JsonView;
-use tinyjson_schema_keywords::{CheckError, Keyword, branch};
+use tinyjson_schema_keywords::{Keyword, branch};
 use tinyjson_schema_table::marks_of;
 use tinyjson_view::{MemberView, ValueView};
 
@@ -126,8 +132,8 @@ fn in_items_left(
 /// Whether one of the sources evaluates the member at the key.
 #[inline(never)]
 pub fn is_member_evaluated(key: &str, sources: &[Source<'_, '_>]) -> Result<bool, CheckError>
-    ensures { IfOk result (λ is. (g : Answers) (u : Tree) →
-        is ≡ sources_evaluate g sources.now (member_at (chars key.now) u)) }
+    ensures { MatchResult result (λ is. (g : Answers) (u : Tree) →
+        is ≡ sources_evaluate g sources.now (member_at (chars key.now) u)) IsShallow }
 {
     for source in sources {
         let evaluates = evaluates_member(source, key)?;
@@ -139,14 +145,15 @@ pub fn is_member_evaluated(key: &str, sources: &[Source<'_, '_>]) -> Result<bool
 }
 
 fn evaluates_member(source: &Source<'_, '_>, key: &str) -> Result<bool, CheckError>
-    ensures { IfOk result (λ is. (g : Answers) (u : Tree) →
-        is ≡ source_evaluates g source.now (member_at (chars key.now) u)) }
+    ensures { MatchResult result (λ is. (g : Answers) (u : Tree) →
+        is ≡ source_evaluates g source.now (member_at (chars key.now) u)) IsShallow }
 {
     let has_rest = counts_rest(source, Keyword::UnevaluatedProperties);
     if has_rest {
         return Ok(true);
     }
-    let part = member_part(&source.applied, key, source.walk)?;
+    let properties = source.applied.schema_at(Keyword::Properties);
+    let part = member_part_of(&source.applied, properties, key, 0, source.walk)?;
     if part.is_some() {
         return Ok(true);
     }
@@ -174,8 +181,9 @@ pub fn is_item_evaluated(
     walk: Walk<'_, '_>,
 ) -> Result<bool, CheckError>
     requires { AreWithin walk.steps sources.now }
-    ensures { IfOk result (λ is. (g : Answers) →
-        is ≡ sources_evaluate g sources.now (item_at index (tree_of item.now))) }
+    ensures { MatchResult result
+        (λ is. (g : Answers) → is ≡ sources_evaluate g sources.now (item_at index (tree_of item.now)))
+        (λ e. IfDeep e (DescendsFrom sources.now index (tree_of item.now))) }
 {
     for source in sources {
         let evaluates = evaluates_item(source, index, item)?;
@@ -193,8 +201,9 @@ fn evaluates_item(
     index: usize,
     item: &ValueView<'_>,
 ) -> Result<bool, CheckError>
-    ensures { IfOk result (λ is. (g : Answers) →
-        is ≡ source_evaluates g source.now (item_at index (tree_of item.now))) }
+    ensures { MatchResult result
+        (λ is. (g : Answers) → is ≡ source_evaluates g source.now (item_at index (tree_of item.now)))
+        (λ e. IfDeep e (DescendsFromOne source.now index (tree_of item.now))) }
 {
     let has_rest = counts_rest(source, Keyword::UnevaluatedItems);
     if has_rest {
@@ -224,6 +233,10 @@ pub fn sources_of<'d, 's>(
         ≡ others_evaluate (view walk.entry.ground.now.whole.now.root.now) (answers_in walk.entry g)
         (view here.now.schema.now) (tree_of value.now) c) }
     ensures within { IfOk result (λ sources. AreWithin walk.entry.steps sources.items) }
+    ensures reached { IfOk result (λ sources. AreReached (root_tree walk.entry)
+        (suc walk.entry.steps) (view here.now.schema.now) (tree_of value.now) sources.items) }
+    ensures deep { IfErr result
+        (IsDeep walk.entry (view here.now.schema.now) (tree_of value.now)) }
 {
     let mut sources = Vec::new(walk.alloc);
     sources.push(Source {
@@ -248,6 +261,11 @@ fn add_schema<'d, 's>(
         (λ a c. a.evaluates (view schema.now) (tree_of value.now) c)
         sources.old.items sources.new.items) }
     ensures within { OnOk result (StaysWithin walk.entry sources.old.items sources.new.items) }
+    ensures reached { OnOk result (StaysReached
+        (Descends walk.entry (view schema.now) (tree_of value.now))
+        (tree_of value.now) sources.old.items sources.new.items) }
+    ensures deep { IfErr result (λ e. IfDeep e
+        (Descends walk.entry (view schema.now) (tree_of value.now))) }
 {
     let inner = walk.deeper()?;
     let here = Applied {
@@ -278,6 +296,11 @@ fn add_inner<'d, 's>(
         (tree_of value.now) c)
         sources.old.items sources.new.items) }
     ensures within { OnOk result (StaysWithin walk.entry sources.old.items sources.new.items) }
+    ensures reached { OnOk result (StaysReached
+        (DescendsIn walk.entry (view here.now.schema.now) (tree_of value.now))
+        (tree_of value.now) sources.old.items sources.new.items) }
+    ensures deep { IfErr result (λ e. IfDeep e
+        (DescendsIn walk.entry (view here.now.schema.now) (tree_of value.now))) }
 {
     let all = here.schemas_at(Keyword::AllOf);
     add_listed(value, all, walk, sources)?;
@@ -304,6 +327,11 @@ fn add_listed<'d, 's>(
         (λ a c. some_evaluate a (items_view schemas.now) (tree_of value.now) c)
         sources.old.items sources.new.items) }
     ensures within { OnOk result (StaysWithin walk.entry sources.old.items sources.new.items) }
+    ensures reached { OnOk result (StaysReached
+        (DescendsAmong walk.entry (items_view schemas.now) (tree_of value.now))
+        (tree_of value.now) sources.old.items sources.new.items) }
+    ensures deep { IfErr result (λ e. IfDeep e
+        (DescendsAmong walk.entry (items_view schemas.now) (tree_of value.now))) }
 {
     for schema in schemas {
         add_schema(value, schema, walk, sources)?;
@@ -324,6 +352,11 @@ fn add_accepting<'d, 's>(
         (λ a c. accepting_evaluate a (items_view schemas.now) (tree_of value.now) c)
         sources.old.items sources.new.items) }
     ensures within { OnOk result (StaysWithin walk.entry sources.old.items sources.new.items) }
+    ensures reached { OnOk result (StaysReached
+        (DescendsAmong walk.entry (items_view schemas.now) (tree_of value.now))
+        (tree_of value.now) sources.old.items sources.new.items) }
+    ensures deep { IfErr result (λ e. IfDeep e
+        (DescendsAmong walk.entry (items_view schemas.now) (tree_of value.now))) }
 {
     for schema in schemas {
         add_if_accepting(value, schema, walk, sources)?;
@@ -348,6 +381,11 @@ fn add_if_accepting<'d, 's>(
         sources.old.items sources.new.items) }
     ensures within { IfOk result (λ is.
         StaysWithin walk.entry sources.old.items sources.new.items) }
+    ensures reached { IfOk result (λ is. StaysReached
+        (Descends walk.entry (view schema.now) (tree_of value.now))
+        (tree_of value.now) sources.old.items sources.new.items) }
+    ensures deep { IfErr result (λ e. IfDeep e
+        (Descends walk.entry (view schema.now) (tree_of value.now))) }
 {
     let accepted = is_accepted(value, schema, walk)?;
     if !accepted {
@@ -370,6 +408,11 @@ fn add_branch<'d, 's>(
         (λ a c. branch_evaluates a (view here.now.schema.now) (tree_of value.now) c)
         sources.old.items sources.new.items) }
     ensures within { OnOk result (StaysWithin walk.entry sources.old.items sources.new.items) }
+    ensures reached { OnOk result (StaysReached
+        (DescendsIn walk.entry (view here.now.schema.now) (tree_of value.now))
+        (tree_of value.now) sources.old.items sources.new.items) }
+    ensures deep { IfErr result (λ e. IfDeep e
+        (DescendsIn walk.entry (view here.now.schema.now) (tree_of value.now))) }
 {
     let Some(test) = here.schema_at(Keyword::If) else {
         return Ok(());
@@ -398,6 +441,11 @@ fn add_dependents<'d, 's>(
         (tree_of value.now) c)
         sources.old.items sources.new.items) }
     ensures within { OnOk result (StaysWithin walk.entry sources.old.items sources.new.items) }
+    ensures reached { OnOk result (StaysReached
+        (DescendsIn walk.entry (view here.now.schema.now) (tree_of value.now))
+        (tree_of value.now) sources.old.items sources.new.items) }
+    ensures deep { IfErr result (λ e. IfDeep e
+        (DescendsIn walk.entry (view here.now.schema.now) (tree_of value.now))) }
 {
     let listed = here.schema_map_at(Keyword::DependentSchemas, walk.alloc)?;
     let dependents = listed.as_slice();
@@ -422,6 +470,11 @@ fn add_dependent<'d, 's>(
         && a.evaluates (view schema.now) (tree_of value.now) c)
         sources.old.items sources.new.items) }
     ensures within { OnOk result (StaysWithin walk.entry sources.old.items sources.new.items) }
+    ensures reached { OnOk result (StaysReached
+        (DescendsForKey walk.entry (chars key.now) (view schema.now) (tree_of value.now))
+        (tree_of value.now) sources.old.items sources.new.items) }
+    ensures deep { IfErr result (λ e. IfDeep e
+        (DescendsForKey walk.entry (chars key.now) (view schema.now) (tree_of value.now))) }
 {
     if !has_key(value, key) {
         return Ok(());
@@ -444,6 +497,11 @@ fn add_reference<'d, 's>(
         (view here.now.schema.now) (tree_of value.now) c)
         sources.old.items sources.new.items) }
     ensures within { OnOk result (StaysWithin walk.entry sources.old.items sources.new.items) }
+    ensures reached { OnOk result (StaysReached
+        (DescendsIn walk.entry (view here.now.schema.now) (tree_of value.now))
+        (tree_of value.now) sources.old.items sources.new.items) }
+    ensures deep { IfErr result (λ e. IfDeep e
+        (DescendsIn walk.entry (view here.now.schema.now) (tree_of value.now))) }
 {
     add_target(value, here, Keyword::Ref, walk, sources)?;
     add_target(value, here, Keyword::DynamicRef, walk, sources)?;
@@ -465,6 +523,11 @@ fn add_target<'d, 's>(
         (view here.now.schema.now) (tree_of value.now) c)
         sources.old.items sources.new.items) }
     ensures within { OnOk result (StaysWithin walk.entry sources.old.items sources.new.items) }
+    ensures reached { OnOk result (StaysReached
+        (DescendsBy walk.entry keyword (view here.now.schema.now) (tree_of value.now))
+        (tree_of value.now) sources.old.items sources.new.items) }
+    ensures deep { IfErr result (λ e. IfDeep e
+        (DescendsBy walk.entry keyword (view here.now.schema.now) (tree_of value.now))) }
 {
     let Some(part) = here.referenced(keyword, walk)? else {
         return Ok(());

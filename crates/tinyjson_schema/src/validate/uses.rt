@@ -1,5 +1,5 @@
 //! The schemas that a schema applies to a value and its parts, one after the other.
-ghost use Rattle.std.specs.Prelude.{◌≡◌, ◌∷◌, [], IfOk, OnOk, cond, not, map};
+ghost use Rattle.std.specs.Prelude.{◌≡◌, ◌∷◌, [], MatchResult, OnOk, cond, not, map};
 ghost use Rattle.std.specs.Str.{chars};
 ghost use Rattle.tinyjson.specs.View.{view, items_view, members_listed};
 ghost use Rattle.tinyjson_view.specs.Views.{tree_of, trees_of, members_of};
@@ -12,7 +12,10 @@ ghost use Rattle.tinyjson_schema.specs.Every.{found_uses, pattern_uses, target_u
 ghost use Rattle.tinyjson_schema.specs.Every.{uses_of_member, member_uses, uses_of_item};
 ghost use Rattle.tinyjson_schema.specs.Every.{item_uses, left_members, left_items};
 ghost use Rattle.tinyjson_schema.specs.Every.{rest_members, rest_items, uses};
+ghost use Rattle.tinyjson_schema.specs.Deep.{IsDeep, IsShallow};
+ghost use Rattle.tinyjson_schema.specs.Nested.{IfDeep};
 ghost use Rattle.tinyjson_schema.specs.Sources.{sources_evaluate, AreWithin};
+ghost use Rattle.tinyjson_schema.specs.Sources.{DescendsFromItems};
 ghost use Rattle.tinyjson_schema.specs.Steps.{AddsUses, use_of};
 ghost use Rattle.tinyjson_schema.specs.Valid.{answers_in, says};
 
@@ -20,10 +23,10 @@ use crate::applied::Applied;
 use crate::part::{additional, prefix_item, property};
 use crate::validate::unevaluated::{Source, is_item_evaluated, is_member_evaluated, sources_of};
 use crate::validate::{has_key, is_accepted};
-use crate::walk::Walk;
+use crate::walk::{CheckError, Walk};
 use std::alloc::AllocError;
 use tinyjson::JsonValue;
-use tinyjson_schema_keywords::{CheckError, Keyword, branch};
+use tinyjson_schema_keywords::{Keyword, branch};
 use tinyjson_view::{MemberView, ValueView};
 
 /// How a schema leads to one that it applies.
@@ -58,9 +61,10 @@ pub fn uses_in<'v, 's>(
     here: &Applied<'s>,
     walk: Walk<'_, 's>,
 ) -> Result<Vec<Pending<'v, 's>>, CheckError>
-    ensures { IfOk result (λ pending. (g : Answers) → map use_of pending.items
+    ensures { MatchResult result (λ pending. (g : Answers) → map use_of pending.items
         ≡ uses (view walk.entry.ground.now.whole.now.root.now) (answers_in walk.entry g)
-        (view here.now.schema.now) (tree_of value.now)) }
+        (view here.now.schema.now) (tree_of value.now))
+        (IsDeep walk.entry (view here.now.schema.now) (tree_of value.now)) }
 {
     let mut pending = Vec::new(walk.alloc);
     add_all_of(value, here, &mut pending)?;
@@ -127,9 +131,10 @@ fn add_branch<'v, 's>(
     walk: Walk<'_, 's>,
     pending: &mut Vec<Pending<'v, 's>>,
 ) -> Result<(), CheckError>
-    ensures { OnOk result ((g : Answers) → AddsUses
+    ensures { MatchResult result (λ _. (g : Answers) → AddsUses
         (branch_uses (says walk.entry g) (view here.now.schema.now) (tree_of value.now))
-        pending.old.items pending.new.items) }
+        pending.old.items pending.new.items)
+        (IsDeep walk.entry (view here.now.schema.now) (tree_of value.now)) }
 {
     let Some(test) = here.schema_at(Keyword::If) else {
         return Ok(());
@@ -156,9 +161,10 @@ fn add_dependents<'v, 's>(
     walk: Walk<'_, 's>,
     pending: &mut Vec<Pending<'v, 's>>,
 ) -> Result<(), CheckError>
-    ensures { OnOk result (AddsUses
+    ensures { MatchResult result (λ _. AddsUses
         (dependent_uses (schema_map_at (view here.now.schema.now) kw.DependentSchemas)
-        (tree_of value.now)) pending.old.items pending.new.items) }
+        (tree_of value.now)) pending.old.items pending.new.items)
+        IsShallow }
 {
     let listed = here.schema_map_at(Keyword::DependentSchemas, walk.alloc)?;
     let dependents = listed.as_slice();
@@ -184,9 +190,10 @@ fn add_patterned<'v, 's>(
     walk: Walk<'_, 's>,
     pending: &mut Vec<Pending<'v, 's>>,
 ) -> Result<(), CheckError>
-    ensures { OnOk result (AddsUses
+    ensures { MatchResult result (λ _. AddsUses
         (pattern_uses (schema_map_at (view here.now.schema.now) kw.PatternProperties)
-        (members_of members.now)) pending.old.items pending.new.items) }
+        (members_of members.now)) pending.old.items pending.new.items)
+        IsShallow }
 {
     let listed = here.schema_map_at(Keyword::PatternProperties, walk.alloc)?;
     let patterns = listed.as_slice();
@@ -207,9 +214,10 @@ fn add_found<'v, 's>(
     walk: Walk<'_, 's>,
     pending: &mut Vec<Pending<'v, 's>>,
 ) -> Result<(), CheckError>
-    ensures { OnOk result (AddsUses
+    ensures { MatchResult result (λ _. AddsUses
         (found_uses (chars pattern.now) (view schema.now) (members_of members.now))
-        pending.old.items pending.new.items) }
+        pending.old.items pending.new.items)
+        IsShallow }
 {
     for member in members {
         let is_found = walk.is_found(pattern, member.key)?;
@@ -256,12 +264,15 @@ fn add_members<'v, 's>(
     walk: Walk<'_, 's>,
     pending: &mut Vec<Pending<'v, 's>>,
 ) -> Result<(), CheckError>
-    ensures { OnOk result (AddsUses
+    ensures { MatchResult result (λ _. AddsUses
         (member_uses (view here.now.schema.now) (members_of members.now))
-        pending.old.items pending.new.items) }
+        pending.old.items pending.new.items)
+        IsShallow }
 {
     for member in members {
-        walk.ground.whole.budget.spend(1)?;
+        if walk.ground.whole.budget.spend(1).is_err() {
+            return Err(CheckError::TooMuch);
+        }
         add_member(*member, here, walk, pending)?;
     }
     Ok(())
@@ -273,10 +284,11 @@ fn add_member<'v, 's>(
     walk: Walk<'_, 's>,
     pending: &mut Vec<Pending<'v, 's>>,
 ) -> Result<(), CheckError>
-    ensures { OnOk result (AddsUses
+    ensures { MatchResult result (λ _. AddsUses
         (uses_of_member (view here.now.schema.now) (chars member.entry.key.now)
         (tree_of member.entry.value))
-        pending.old.items pending.new.items) }
+        pending.old.items pending.new.items)
+        IsShallow }
 {
     if let Some(part) = property(here, member.key) {
         let one = Pending {
@@ -357,10 +369,11 @@ fn add_rest_members<'v, 's>(
     pending: &mut Vec<Pending<'v, 's>>,
 ) -> Result<(), CheckError>
     requires { members_of members.now ≡ members_in (tree_of value.now) }
-    ensures { OnOk result ((g : Answers) → AddsUses
+    ensures { MatchResult result (λ _. (g : Answers) → AddsUses
         (rest_members (others_evaluate (view walk.entry.ground.now.whole.now.root.now)
         (answers_in walk.entry g) (view here.now.schema.now) (tree_of value.now))
-        (view here.now.schema.now) (tree_of value.now)) pending.old.items pending.new.items) }
+        (view here.now.schema.now) (tree_of value.now)) pending.old.items pending.new.items)
+        (IsDeep walk.entry (view here.now.schema.now) (tree_of value.now)) }
 {
     let Some(rest) = here.schema_at(Keyword::UnevaluatedProperties) else {
         return Ok(());
@@ -377,9 +390,10 @@ fn add_left_members<'v, 's>(
     sources: &[Source<'_, '_>],
     pending: &mut Vec<Pending<'v, 's>>,
 ) -> Result<(), CheckError>
-    ensures { OnOk result ((g : Answers) → AddsUses
+    ensures { MatchResult result (λ _. (g : Answers) → AddsUses
         (left_members (sources_evaluate g sources.now) (view rest.now) (members_of members.now))
-        pending.old.items pending.new.items) }
+        pending.old.items pending.new.items)
+        IsShallow }
 {
     for member in members {
         let evaluated = is_member_evaluated(member.key, sources)?;
@@ -403,10 +417,11 @@ fn add_rest_items<'v, 's>(
     pending: &mut Vec<Pending<'v, 's>>,
 ) -> Result<(), CheckError>
     requires { trees_of items.now ≡ items_in (tree_of value.now) }
-    ensures { OnOk result ((g : Answers) → AddsUses
+    ensures { MatchResult result (λ _. (g : Answers) → AddsUses
         (rest_items (others_evaluate (view walk.entry.ground.now.whole.now.root.now)
         (answers_in walk.entry g) (view here.now.schema.now) (tree_of value.now))
-        (view here.now.schema.now) (tree_of value.now)) pending.old.items pending.new.items) }
+        (view here.now.schema.now) (tree_of value.now)) pending.old.items pending.new.items)
+        (IsDeep walk.entry (view here.now.schema.now) (tree_of value.now)) }
 {
     let Some(rest) = here.schema_at(Keyword::UnevaluatedItems) else {
         return Ok(());
@@ -425,9 +440,10 @@ fn add_left_items<'v, 's>(
     pending: &mut Vec<Pending<'v, 's>>,
 ) -> Result<(), CheckError>
     requires { AreWithin walk.steps sources.now }
-    ensures { OnOk result ((g : Answers) → AddsUses
+    ensures { MatchResult result (λ _. (g : Answers) → AddsUses
         (left_items (sources_evaluate g sources.now) (view rest.now) 0 (trees_of items.now))
-        pending.old.items pending.new.items) }
+        pending.old.items pending.new.items)
+        (λ e. IfDeep e (DescendsFromItems sources.now (trees_of items.now))) }
 {
     for (index, item) in items.iter().enumerate() {
         let evaluated = is_item_evaluated(index, item, sources, walk)?;

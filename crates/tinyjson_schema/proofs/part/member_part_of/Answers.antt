@@ -8,6 +8,7 @@ use Rattle.tinyjson_schema_keywords.specs.declared.keyword.Keyword.TheVariants a
 use Rattle.tinyjson_schema.specs.Parts.{property, member_schema}
 use Rattle.tinyjson_schema.specs.Places.{place}
 use Rattle.tinyjson_schema.proofs.Parts.{by_property, by_additional, no_member}
+use Rattle.tinyjson_schema.proofs.Deep.{shallow}
 use Rattle.tinyjson_schema.proofs.part.member_part_of.Goals as goal
 
 pub returns-in-Some : goal.returns-in-Some
@@ -43,3 +44,7 @@ returns-in-None c listed =
     no_member (view c.args.here.now.schema.now) k
     (ap (option_and_then (λ p. tree_at_key p k)) (sym listed) ∙ sym c.in_default-property_of.ensures)
     (sym c.in_ok-part.ensures ∙ ap (option_map (λ x. view x.now)) c.in-None.is)
+
+
+pub returns-in_err-part : goal.returns-in_err-part
+returns-in_err-part c = shallow _ c.in_err-part.field-0.0 c.from_residual.result c.from_residual.ensures.1 c.in_err-part.ensures

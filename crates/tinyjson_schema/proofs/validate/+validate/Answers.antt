@@ -15,7 +15,7 @@ use Rattle.tinyjson.specs.Soundness.{IsSorted}
 use Rattle.tinyjson_pointer.specs.Index.{index_of}
 use Rattle.tinyjson_pointer.specs.Tokens.{tokens_of}
 use Rattle.tinyjson_pointer.specs.Walk.{item_of}
-use Rattle.tinyjson_schema_keywords.specs.Applied.{schema_at, schemas_at, schema_map_at, members_in}
+use Rattle.tinyjson_schema_keywords.specs.Applied.{schema_at, schemas_at, schema_map_at, items_in, members_in}
 use Rattle.tinyjson_schema_keywords.specs.declared.keyword.Keyword.TheVariants as kw
 use Rattle.tinyjson_schema_keywords.proofs.Callers.{listed_found, turn_next, turn_stop, turn_end, count_next, count_end}
 use Rattle.tinyjson_schema_keywords.proofs.Callers.{nth_item}
@@ -27,7 +27,14 @@ use Rattle.tinyjson_schema.specs.Evaluated.{some_evaluate, accepting_evaluate, b
 use Rattle.tinyjson_schema_assertions.specs.Assertions.{IsUnmet}
 use Rattle.tinyjson_schema.specs.Parts.{item_schema}
 use Rattle.tinyjson_schema.specs.Places.{IsMemberPart, IsUnderKey, place}
-use Rattle.tinyjson_schema.specs.Sources.{sources_evaluate, AreWithin}
+use Rattle.tinyjson_schema.specs.Deep.{root_tree, Descends, DescendsIn, DescendsAmong, DescendsAtItem, DescendsAtKey}
+use Rattle.tinyjson_schema.specs.Deep.{DescendsAtFound, DescendsBy, DescendsForKey}
+use Rattle.tinyjson_schema.specs.Nested.{within, by_list, by_not, by_if, by_branch, by_key, by_reference, by_pattern, by_member, by_item}
+use Rattle.tinyjson_schema.specs.Nested.{by_name, by_contains, by_rest}
+use Rattle.tinyjson_schema.specs.Sources.{sources_evaluate, AreWithin, AreReached, FindsLeft}
+use Rattle.tinyjson_schema.specs.declared.walk.CheckError.TheVariants.{OutOfMemory}
+use Rattle.tinyjson_schema.proofs.Deep.{at_error, raised, raised_alone, if_deep, not_deep, at_last, one_deeper, of_list, of_target, has_own_key}
+use Rattle.tinyjson_schema.proofs.Deep.{reached_pushed, reached_at}
 use Rattle.tinyjson_schema.specs.Valid.{answers_in, FindsRest, reference_accepts, target_accepts, says, Judges, Finds, IsUnapplied, refused}
 use Rattle.tinyjson_schema.specs.Valid.{unmet, not_applied, in_all_of, in_dependent, in_patterned, in_reference, in_part, IsInvalidAt}
 use Rattle.tinyjson_schema.specs.Valid.{FindsFound, root_of}
@@ -992,7 +999,10 @@ unevaluated::in_rest-returns-in_ok-members-in-Object t c =
     (members_found w s (view c.in-Some.rest.now) ms xs c.in_members_left.result
     (subst (λ x. (g : Answers) (k : Child) → sources_evaluate g xs k ≡ others_evaluate (view w.ground.now.whole.now.root.now) (answers_in w g) s x k)
     (sym same)
-    told) c.in-Some.ensures c.in_members_left.ensures)
+    told)
+    (subst (λ x. AreReached (root_tree w) (suc w.steps) s x xs) (sym same)
+    (subst (AreReached (root_tree w) (suc w.steps) s v) (sym c.as_slice-in-Object.ensures.value) c.in_ok-sources-in-Object.ensures.reached))
+    c.in-Some.ensures c.in_members_left.ensures)
 
 pub unevaluated::in_rest-returns-in_ok-items-in-Array : goal.unevaluated::in_rest-returns-in_ok-items-in-Array
 unevaluated::in_rest-returns-in_ok-items-in-Array t c =
@@ -1009,7 +1019,10 @@ unevaluated::in_rest-returns-in_ok-items-in-Array t c =
     (items_found w s (view c.in-Some-schema_at.rest.now) us xs c.in_items_left.result
     (subst (λ x. (g : Answers) (k : Child) → sources_evaluate g xs k ≡ others_evaluate (view w.ground.now.whole.now.root.now) (answers_in w g) s x k)
     (sym same)
-    told) c.in-Some-schema_at.ensures c.in_items_left.ensures)
+    told)
+    (subst (λ x. AreReached (root_tree w) (suc w.steps) s x xs) (sym same)
+    (subst (AreReached (root_tree w) (suc w.steps) s v) (sym c.as_slice-in-Array-2.ensures.value) c.in_ok-sources-in-Array.ensures.reached))
+    c.in-Some-schema_at.ensures c.in_items_left.ensures)
 
 -- ---- schemas that evaluate
 
@@ -1062,6 +1075,10 @@ unevaluated::add_listed-loop-schema-preserved t c = (
       c.loop-schema.schema-index c.schema-item.result _ _ _ _ c.loop-schema-test.true c.schema-item.is refl
       (c.in_ok-add_schema.ensures.evaluated g k) (c.loop-schema.invariant.0 g k),
   λ n h k. c.in_ok-add_schema.ensures.within n h (c.loop-schema.invariant.1 n h k),
+  λ root s n lead q. c.in_ok-add_schema.ensures.reached root s n
+      (λ h. lead (c.loop-schema.schema-index, view c.schema-item.result,
+      nth_item c.args.schemas.now c.loop-schema.schema-index c.schema-item.result c.loop-schema-test.true c.schema-item.is, h))
+      (c.loop-schema.invariant.2 root s n lead q),
 )
 
 pub unevaluated::add_listed-returns-clause-evaluated : goal.unevaluated::add_listed-returns-clause-evaluated
@@ -1075,6 +1092,10 @@ unevaluated::add_accepting-loop-schema-preserved t c = (
       c.loop-schema.schema-index c.schema-item.result _ _ _ _ c.loop-schema-test.true c.schema-item.is refl
       (c.in_ok-add_if_accepting.ensures.evaluated g k) (c.loop-schema.invariant.0 g k),
   λ n h k. c.in_ok-add_if_accepting.ensures.within n h (c.loop-schema.invariant.1 n h k),
+  λ root s n lead q. c.in_ok-add_if_accepting.ensures.reached root s n
+      (λ h. lead (c.loop-schema.schema-index, view c.schema-item.result,
+      nth_item c.args.schemas.now c.loop-schema.schema-index c.schema-item.result c.loop-schema-test.true c.schema-item.is, h))
+      (c.loop-schema.invariant.2 root s n lead q),
 )
 
 pub unevaluated::add_accepting-returns-clause-evaluated : goal.unevaluated::add_accepting-returns-clause-evaluated
@@ -1149,12 +1170,20 @@ unevaluated::add_dependents-loop-key-preserved t c =
     let ps = c.as_slice-dependents.result.now in
     let i = c.loop-key.key-index in
     let p = c.loop-key-item.result in
-    let r = view p.1.now in (
+    let r = view p.1.now in
+    let s = view c.args.here.now.schema.now in
+    let sorted = subst (λ xs. IsSorted (members_listed xs)) (sym c.as_slice-dependents.ensures.value) c.in_ok-listed.ensures.sorted in
+    let at : find (text p.0.now) (schema_map_at s kw.DependentSchemas) ≡ Some r
+    = ap (find (text p.0.now)) (sym (ap members_listed c.as_slice-dependents.ensures.value ∙ c.in_ok-listed.ensures.listed))
+    ∙ listed_found ps i p sorted c.loop-key-test.true c.loop-key-item.is in (
       λ g k. adds_turn (λ ys. dependents_evaluate (answers_in w g) (members_listed ys) v k) ps i p _ _ _ _ c.loop-key-test.true
           c.loop-key-item.is (ap (λ bs. (is_some (tree_at_key v (chars bs)) && (answers_in w g).evaluates r v k)
           || dependents_evaluate (answers_in w g) (members_listed (drop (i + 1) ps)) v k) (sym c.as_str.ensures.value))
           (c.in_ok-add_dependent.ensures.evaluated g k) (c.loop-key.invariant.0 g k),
       λ n h k. c.in_ok-add_dependent.ensures.within n h (c.loop-key.invariant.1 n h k),
+      λ root x n lead q. c.in_ok-add_dependent.ensures.reached root x n
+          (λ h. let y = subst (λ bs. DescendsForKey w (chars bs) r v) c.as_str.ensures.value h in
+          lead (within (by_key (text p.0.now) y.0 at) y.1)) (c.loop-key.invariant.2 root x n lead q),
     )
 
 pub unevaluated::add_dependents-returns-clause-evaluated : goal.unevaluated::add_dependents-returns-clause-evaluated
@@ -1214,3 +1243,898 @@ unevaluated::add_target-returns-clause-evaluated t c =
     adds_as c.args.walk (λ a k. a.evaluates r v k) (λ a k. target_evaluates root c.args.keyword a s v k) _ _
     (λ g k. target_added root (answers_in c.args.walk g) s v r c.args.keyword k
     (ap (option_map (λ x. view x.schema.now)) (sym c.in-Some.is) ∙ c.in_ok-part.ensures)) c.in_ok-add_schema.ensures.evaluated
+
+-- ---- schemas that are nested too deep
+
+pub violation_of-returns-in_err-inner : goal.violation_of-returns-in_err-inner
+violation_of-returns-in_err-inner t c =
+    let w = c.args.walk in
+    let s = view c.args.here.now.schema.now in
+    let v = tree_of c.args.value.now in
+    at_error (Judges w s v) c.in_err-inner.field-0.0 c.from_residual.result c.from_residual.ensures.1
+    (if_deep c.in_err-inner.field-0.0
+    (at_last w s v)
+    c.in_err-inner.ensures)
+
+pub violation_of-returns-in_err-keyword : goal.violation_of-returns-in_err-keyword
+violation_of-returns-in_err-keyword t c =
+    let w = c.args.walk in
+    let s = view c.args.here.now.schema.now in
+    let v = tree_of c.args.value.now in
+    at_error (Judges w s v) OutOfMemory
+    c.from_residual-in_err-keyword.result c.from_residual-in_err-keyword.ensures.1 tt
+
+pub violation_of-returns-in_err-keyword-2 : goal.violation_of-returns-in_err-keyword-2
+violation_of-returns-in_err-keyword-2 t c =
+    let w = c.args.walk in
+    let s = view c.args.here.now.schema.now in
+    let v = tree_of c.args.value.now in
+    at_error (Judges w s v) c.in_err-keyword-2.field-0.0 c.from_residual-in_err-keyword-2.result c.from_residual-in_err-keyword-2.ensures.1
+    (if_deep c.in_err-keyword-2.field-0.0
+    (one_deeper w c.in_ok-inner.inner c.in_ok-inner.ensures s v)
+    c.in_err-keyword-2.ensures)
+
+pub violation_of-returns-in_err-found : goal.violation_of-returns-in_err-found
+violation_of-returns-in_err-found t c =
+    let w = c.args.walk in
+    let s = view c.args.here.now.schema.now in
+    let v = tree_of c.args.value.now in
+    at_error (Judges w s v) c.in_err-found.field-0.0 c.from_residual-in_err-found.result c.from_residual-in_err-found.ensures.1
+    (if_deep c.in_err-found.field-0.0
+    (one_deeper w c.in_ok-inner.inner c.in_ok-inner.ensures s v)
+    c.in_err-found.ensures)
+
+pub violation_of-returns-in_err-found-2 : goal.violation_of-returns-in_err-found-2
+violation_of-returns-in_err-found-2 t c =
+    let w = c.args.walk in
+    let s = view c.args.here.now.schema.now in
+    let v = tree_of c.args.value.now in
+    at_error (Judges w s v) c.in_err-found-2.field-0.0 c.from_residual-in_err-found-2.result c.from_residual-in_err-found-2.ensures.1
+    (if_deep c.in_err-found-2.field-0.0
+    (one_deeper w c.in_ok-inner.inner c.in_ok-inner.ensures s v)
+    c.in_err-found-2.ensures)
+
+pub violation_of-returns-in_err-found-3 : goal.violation_of-returns-in_err-found-3
+violation_of-returns-in_err-found-3 t c =
+    let w = c.args.walk in
+    let s = view c.args.here.now.schema.now in
+    let v = tree_of c.args.value.now in
+    at_error (Judges w s v) c.in_err-found-3.field-0.0 c.from_residual-in_err-found-3.result c.from_residual-in_err-found-3.ensures.1
+    (if_deep c.in_err-found-3.field-0.0
+    (one_deeper w c.in_ok-inner.inner c.in_ok-inner.ensures s v)
+    c.in_err-found-3.ensures)
+
+pub violation_of-returns-in_err-found-4 : goal.violation_of-returns-in_err-found-4
+violation_of-returns-in_err-found-4 t c =
+    let w = c.args.walk in
+    let s = view c.args.here.now.schema.now in
+    let v = tree_of c.args.value.now in
+    at_error (Judges w s v) c.in_err-found-4.field-0.0 c.from_residual-in_err-found-4.result c.from_residual-in_err-found-4.ensures.1
+    (if_deep c.in_err-found-4.field-0.0
+    (one_deeper w c.in_ok-inner.inner c.in_ok-inner.ensures s v)
+    c.in_err-found-4.ensures)
+
+pub violation_of-returns-in_err-found-5 : goal.violation_of-returns-in_err-found-5
+violation_of-returns-in_err-found-5 t c =
+    let w = c.args.walk in
+    let s = view c.args.here.now.schema.now in
+    let v = tree_of c.args.value.now in
+    at_error (Judges w s v) c.in_err-found-5.field-0.0 c.from_residual-in_err-found-5.result c.from_residual-in_err-found-5.ensures.1
+    (if_deep c.in_err-found-5.field-0.0
+    (one_deeper w c.in_ok-inner.inner c.in_ok-inner.ensures s v)
+    c.in_err-found-5.ensures)
+
+pub violation_of-returns-in_err-found-6 : goal.violation_of-returns-in_err-found-6
+violation_of-returns-in_err-found-6 t c =
+    let w = c.args.walk in
+    let s = view c.args.here.now.schema.now in
+    let v = tree_of c.args.value.now in
+    at_error (Judges w s v) c.in_err-found-6.field-0.0 c.from_residual-in_err-found-6.result c.from_residual-in_err-found-6.ensures.1
+    (if_deep c.in_err-found-6.field-0.0
+    (one_deeper w c.in_ok-inner.inner c.in_ok-inner.ensures s v)
+    c.in_err-found-6.ensures)
+
+pub is_accepted-returns-in_err-found : goal.is_accepted-returns-in_err-found
+is_accepted-returns-in_err-found t c =
+    raised _ _ c.in_err-found.field-0.0 c.from_residual.result c.from_residual.ensures.1 c.in_err-found.ensures
+
+pub in_all_of-returns-in_err-found : goal.in_all_of-returns-in_err-found
+in_all_of-returns-in_err-found t c =
+    let w = c.args.walk in
+    let s = view c.args.here.now.schema.now in
+    let v = tree_of c.args.value.now in
+    let vs = c.schemas_at-parts.result.now in
+    let i = c.loop-index.index in
+    let x = c.index-parts-index.result in
+    let at : nth (schemas_at s kw.AllOf) i ≡ Some (view x)
+    = ap (λ ts. nth ts i) (sym c.schemas_at-parts.ensures) ∙ nth_item vs i x c.loop-index-test.true c.index-parts-index.is in
+    at_error (Finds w (λ f. applies f kw.AllOf s v) s v) c.in_err-found.field-0.0 c.from_residual.result c.from_residual.ensures.1
+    (if_deep c.in_err-found.field-0.0
+    (λ h. within (by_list kw.AllOf i refl at) h)
+    c.in_err-found.ensures)
+
+pub in_all_of-returns-in_err-enter_listed : goal.in_all_of-returns-in_err-enter_listed
+in_all_of-returns-in_err-enter_listed t c =
+    let w = c.args.walk in
+    let s = view c.args.here.now.schema.now in
+    let v = tree_of c.args.value.now in
+    at_error (Finds w (λ f. applies f kw.AllOf s v) s v) OutOfMemory
+    c.from_residual-in_err-enter_listed.result c.from_residual-in_err-enter_listed.ensures.1 tt
+
+pub in_branch-returns-in_err-accepted : goal.in_branch-returns-in_err-accepted
+in_branch-returns-in_err-accepted t c =
+    let w = c.args.walk in
+    let s = view c.args.here.now.schema.now in
+    let v = tree_of c.args.value.now in
+    at_error (Finds w (λ f. applies f kw.If s v) s v) c.in_err-accepted.field-0.0 c.from_residual.result c.from_residual.ensures.1
+    (if_deep c.in_err-accepted.field-0.0
+    (λ h. within (by_if (sym c.in-Some.ensures)) h)
+    c.in_err-accepted.ensures)
+
+pub in_branch-returns-in_err-found : goal.in_branch-returns-in_err-found
+in_branch-returns-in_err-found t c =
+    let w = c.args.walk in
+    let s = view c.args.here.now.schema.now in
+    let v = tree_of c.args.value.now in
+    at_error (Finds w (λ f. applies f kw.If s v) s v) c.in_err-found.field-0.0 c.from_residual-in_err-found.result c.from_residual-in_err-found.ensures.1
+    (if_deep c.in_err-found.field-0.0
+    (λ h. within (by_branch c.in_ok-accepted.accepted (ap is_some (sym c.in-Some.ensures))
+    (sym (c.in-Some-schema_at.ensures ∙ ap (schema_at s) c.branch-chosen.ensures))) h)
+    c.in_err-found.ensures)
+
+pub in_branch-returns-in_err-enter_keyword : goal.in_branch-returns-in_err-enter_keyword
+in_branch-returns-in_err-enter_keyword t c =
+    let w = c.args.walk in
+    let s = view c.args.here.now.schema.now in
+    let v = tree_of c.args.value.now in
+    at_error (Finds w (λ f. applies f kw.If s v) s v) OutOfMemory
+    c.from_residual-in_err-enter_keyword.result c.from_residual-in_err-enter_keyword.ensures.1 tt
+
+pub in_dependents-returns-in_err-listed : goal.in_dependents-returns-in_err-listed
+in_dependents-returns-in_err-listed t c =
+    let w = c.args.walk in
+    let s = view c.args.here.now.schema.now in
+    let v = tree_of c.args.value.now in
+    at_error (Finds w (λ f. applies f kw.DependentSchemas s v) s v) OutOfMemory
+    c.from_residual.result c.from_residual.ensures.1 tt
+
+pub in_dependents-returns-in_err-found : goal.in_dependents-returns-in_err-found
+in_dependents-returns-in_err-found t c =
+    let w = c.args.walk in
+    let s = view c.args.here.now.schema.now in
+    let v = tree_of c.args.value.now in
+    let ps = c.as_slice-dependents.result.now in
+    let i = c.loop-key.key-index in
+    let p = c.loop-key-item.result in
+    let r = view p.1.now in
+    let k = text p.0.now in
+    let here : is_some (tree_at_key v k) ≡ true = ap (λ bs. is_some (tree_at_key v (chars bs))) (sym c.as_str.ensures.value)
+    ∙ (sym c.has_key.ensures ∙ c.if-has_key.true) in
+    let sorted = subst (λ xs. IsSorted (members_listed xs)) (sym c.as_slice-dependents.ensures.value) c.in_ok-listed.ensures.sorted in
+    let at : find k (schema_map_at s kw.DependentSchemas) ≡ Some r
+    = ap (find k) (sym (ap members_listed c.as_slice-dependents.ensures.value ∙ c.in_ok-listed.ensures.listed))
+    ∙ listed_found ps i p sorted c.loop-key-test.true c.loop-key-item.is in
+    at_error (Finds w (λ f. applies f kw.DependentSchemas s v) s v) c.in_err-found.field-0.0 c.from_residual-in_err-found.result c.from_residual-in_err-found.ensures.1
+    (if_deep c.in_err-found.field-0.0
+    (λ h. within (by_key k here at) h)
+    c.in_err-found.ensures)
+
+pub in_dependents-returns-in_err-enter_keyed : goal.in_dependents-returns-in_err-enter_keyed
+in_dependents-returns-in_err-enter_keyed t c =
+    let w = c.args.walk in
+    let s = view c.args.here.now.schema.now in
+    let v = tree_of c.args.value.now in
+    at_error (Finds w (λ f. applies f kw.DependentSchemas s v) s v) OutOfMemory
+    c.from_residual-in_err-enter_keyed.result c.from_residual-in_err-enter_keyed.ensures.1 tt
+
+pub in_patterned-returns-in_err-listed : goal.in_patterned-returns-in_err-listed
+in_patterned-returns-in_err-listed t c =
+    let w = c.args.walk in
+    let s = view c.args.here.now.schema.now in
+    let v = tree_of c.args.value.now in
+    at_error (Finds w (λ f. applies f kw.PatternProperties s v) s v) OutOfMemory
+    c.from_residual.result c.from_residual.ensures.1 tt
+
+pub in_patterned-returns-in_err-found : goal.in_patterned-returns-in_err-found
+in_patterned-returns-in_err-found t c =
+    let w = c.args.walk in
+    let s = view c.args.here.now.schema.now in
+    let v = tree_of c.args.value.now in
+    let ps = c.as_slice-patterns.result.now in
+    let i = c.loop-pattern.pattern-index in
+    let p = c.loop-pattern-item.result in
+    let r = view p.1.now in
+    let k = text p.0.now in
+    let sorted = subst (λ xs. IsSorted (members_listed xs)) (sym c.as_slice-patterns.ensures.value) c.in_ok-listed.ensures.sorted in
+    let at : find k (schema_map_at s kw.PatternProperties) ≡ Some r
+    = ap (find k) (sym (ap members_listed c.as_slice-patterns.ensures.value ∙ c.in_ok-listed.ensures.listed))
+    ∙ listed_found ps i p sorted c.loop-pattern-test.true c.loop-pattern-item.is in
+    at_error (Finds w (λ f. applies f kw.PatternProperties s v) s v) c.in_err-found.field-0.0 c.from_residual-in_err-found.result c.from_residual-in_err-found.ensures.1
+    (if_deep c.in_err-found.field-0.0
+    (λ h. let y = subst (λ bs. DescendsAtFound w (chars bs) r (members_in v)) c.as_str.ensures.value h in
+    within (by_pattern k y.0 at y.2 y.3) y.4)
+    c.in_err-found.ensures)
+
+pub in_patterned-returns-in_err-enter_keyed : goal.in_patterned-returns-in_err-enter_keyed
+in_patterned-returns-in_err-enter_keyed t c =
+    let w = c.args.walk in
+    let s = view c.args.here.now.schema.now in
+    let v = tree_of c.args.value.now in
+    at_error (Finds w (λ f. applies f kw.PatternProperties s v) s v) OutOfMemory
+    c.from_residual-in_err-enter_keyed.result c.from_residual-in_err-enter_keyed.ensures.1 tt
+
+pub in_found-returns-in_err-listed : goal.in_found-returns-in_err-listed
+in_found-returns-in_err-listed t c =
+    let w = c.args.walk in
+    let r = view c.args.schema.now in
+    let v = tree_of c.args.value.now in
+    at_error (FindsFound w (chars c.args.pattern.now) r (members_in v)) OutOfMemory
+    c.from_residual.result c.from_residual.ensures.1 tt
+
+pub in_found-returns-in_err-is_found : goal.in_found-returns-in_err-is_found
+in_found-returns-in_err-is_found t c =
+    let w = c.args.walk in
+    let r = view c.args.schema.now in
+    let v = tree_of c.args.value.now in
+    at_error (FindsFound w (chars c.args.pattern.now) r (members_in v)) c.in_err-is_found.field-0.0
+    c.from_residual-in_err-is_found.result c.from_residual-in_err-is_found.ensures.1 (not_deep _ c.in_err-is_found.field-0.0 c.in_err-is_found.ensures)
+
+pub in_found-returns-in_err-found : goal.in_found-returns-in_err-found
+in_found-returns-in_err-found t c =
+    let w = c.args.walk in
+    let r = view c.args.schema.now in
+    let v = tree_of c.args.value.now in
+    let ps = c.as_slice-members.result.now in
+    let i = c.loop-member.member-index in
+    let p = c.member-item.result in
+    let k = chars p.key.now in
+    let sorted = subst (λ xs. IsSorted (members_of xs)) (sym c.as_slice-members.ensures.value) c.in_ok-listed.ensures.sorted in
+    let at : find k (members_in v) ≡ Some (tree_of p.value)
+    = ap (find k) (sym (ap members_of c.as_slice-members.ensures.value ∙ (c.in_ok-listed.ensures.listed ∙ same_members v)))
+    ∙ member_found ps i p sorted c.loop-member-test.true c.member-item.is in
+    at_error (FindsFound w (chars c.args.pattern.now) r (members_in v)) c.in_err-found.field-0.0 c.from_residual-in_err-found.result c.from_residual-in_err-found.ensures.1
+    (if_deep c.in_err-found.field-0.0
+    (λ h. (k, tree_of p.value, sym c.in_ok-is_found.ensures ∙ c.if-is_found.true, at, h))
+    c.in_err-found.ensures)
+
+pub in_found-returns-in_err-enter_value : goal.in_found-returns-in_err-enter_value
+in_found-returns-in_err-enter_value t c =
+    let w = c.args.walk in
+    let r = view c.args.schema.now in
+    let v = tree_of c.args.value.now in
+    at_error (FindsFound w (chars c.args.pattern.now) r (members_in v)) OutOfMemory
+    c.from_residual-in_err-enter_value.result c.from_residual-in_err-enter_value.ensures.1 tt
+
+pub in_reference-returns-in_err-found : goal.in_reference-returns-in_err-found
+in_reference-returns-in_err-found t c =
+    let w = c.args.walk in
+    let s = view c.args.here.now.schema.now in
+    let v = tree_of c.args.value.now in
+    at_error (Finds w (λ f. reference_accepts (root_tree w) f s v) s v) c.in_err-found.field-0.0
+    c.from_residual.result c.from_residual.ensures.1 c.in_err-found.ensures
+
+pub in_target-returns-in_err-part : goal.in_target-returns-in_err-part
+in_target-returns-in_err-part t c =
+    let w = c.args.walk in
+    let s = view c.args.here.now.schema.now in
+    let v = tree_of c.args.value.now in
+    at_error (Finds w (λ f. target_accepts (root_tree w) c.args.keyword f s v) s v)
+    OutOfMemory
+    c.from_residual.result c.from_residual.ensures.1 tt
+
+pub in_target-returns-in_err-found : goal.in_target-returns-in_err-found
+in_target-returns-in_err-found t c =
+    let w = c.args.walk in
+    let s = view c.args.here.now.schema.now in
+    let v = tree_of c.args.value.now in
+    at_error (Finds w (λ f. target_accepts (root_tree w) c.args.keyword f s v) s v)
+    c.in_err-found.field-0.0 c.from_residual-in_err-found.result c.from_residual-in_err-found.ensures.1
+    (if_deep c.in_err-found.field-0.0
+    (λ h. within (by_reference c.args.keyword c.requires
+    (sym (ap (option_map (λ x. view x.schema.now)) (sym c.in-Some.is) ∙ c.in_ok-part.ensures))) h)
+    c.in_err-found.ensures)
+
+pub in_target-returns-in_err-enter_keyword : goal.in_target-returns-in_err-enter_keyword
+in_target-returns-in_err-enter_keyword t c =
+    let w = c.args.walk in
+    let s = view c.args.here.now.schema.now in
+    let v = tree_of c.args.value.now in
+    at_error (Finds w (λ f. target_accepts (root_tree w) c.args.keyword f s v) s v)
+    OutOfMemory
+    c.from_residual-in_err-enter_keyword.result c.from_residual-in_err-enter_keyword.ensures.1 tt
+
+pub in_parts-returns-in_err-members-in-Object : goal.in_parts-returns-in_err-members-in-Object
+in_parts-returns-in_err-members-in-Object t c =
+    let w = c.args.walk in
+    let s = view c.args.here.now.schema.now in
+    let v = tree_of c.args.value.now in
+    at_error (Finds w (λ f. parts_accepted f s v) s v) OutOfMemory c.from_residual.result c.from_residual.ensures.1 tt
+
+pub in_parts-returns-in_err-items-in-Array : goal.in_parts-returns-in_err-items-in-Array
+in_parts-returns-in_err-items-in-Array t c =
+    let w = c.args.walk in
+    let s = view c.args.here.now.schema.now in
+    let v = tree_of c.args.value.now in
+    at_error (Finds w (λ f. parts_accepted f s v) s v) OutOfMemory
+    c.from_residual-in_err-items-in-Array.result c.from_residual-in_err-items-in-Array.ensures.1 tt
+
+pub in_members-returns-in_err-part : goal.in_members-returns-in_err-part
+in_members-returns-in_err-part t c =
+    let w = c.args.walk in
+    let s = view c.args.here.now.schema.now in
+    let ps = c.args.members.now in
+    at_error (Finds w (λ f. members_accepted f s (members_of ps)) s (object (members_of ps)))
+    c.in_err-part.field-0.0
+    c.from_residual.result c.from_residual.ensures.1 (not_deep _ c.in_err-part.field-0.0 c.in_err-part.ensures)
+
+pub in_members-returns-in_err-found : goal.in_members-returns-in_err-found
+in_members-returns-in_err-found t c =
+    let w = c.args.walk in
+    let s = view c.args.here.now.schema.now in
+    let ps = c.args.members.now in
+    let i = c.loop-near.near in
+    let p = c.index-members-near.result in
+    let k = chars p.key.now in
+    let applied = subst (λ o. IsMemberPart s k o) c.in-Some.is (c.in_ok-part.ensures c.schema_at-properties.ensures) in
+    at_error (Finds w (λ f. members_accepted f s (members_of ps)) s (object (members_of ps)))
+    c.in_err-found.field-0.0 c.from_residual-in_err-found.result c.from_residual-in_err-found.ensures.1
+    (if_deep c.in_err-found.field-0.0
+    (λ h. within (by_member k applied.0 (member_found ps i p c.requires c.loop-near-test.true c.index-members-near.is)) h)
+    c.in_err-found.ensures)
+
+pub in_members-returns-in_err-enter_member : goal.in_members-returns-in_err-enter_member
+in_members-returns-in_err-enter_member t c =
+    let w = c.args.walk in
+    let s = view c.args.here.now.schema.now in
+    let ps = c.args.members.now in
+    at_error (Finds w (λ f. members_accepted f s (members_of ps)) s (object (members_of ps)))
+    OutOfMemory
+    c.from_residual-in_err-enter_member.result c.from_residual-in_err-enter_member.ensures.1 tt
+
+pub in_items-returns-in_err-found : goal.in_items-returns-in_err-found
+in_items-returns-in_err-found t c =
+    let w = c.args.walk in
+    let s = view c.args.here.now.schema.now in
+    let vs = c.args.items.now in
+    let i = c.loop-index.index in
+    let x = c.index-items-index.result in
+    at_error (Finds w (λ f. items_accepted f s 0 (trees_of vs)) s (array (trees_of vs)))
+    c.in_err-found.field-0.0 c.from_residual.result c.from_residual.ensures.1
+    (if_deep c.in_err-found.field-0.0
+    (λ h. within (by_item i c.in-Some.ensures.0 (nth_tree vs i x c.loop-index-test.true c.index-items-index.is)) h)
+    c.in_err-found.ensures)
+
+pub in_items-returns-in_err-enter_item : goal.in_items-returns-in_err-enter_item
+in_items-returns-in_err-enter_item t c =
+    let w = c.args.walk in
+    let s = view c.args.here.now.schema.now in
+    let vs = c.args.items.now in
+    at_error (Finds w (λ f. items_accepted f s 0 (trees_of vs)) s (array (trees_of vs)))
+    OutOfMemory
+    c.from_residual-in_err-enter_item.result c.from_residual-in_err-enter_item.ensures.1 tt
+
+pub tested::unmet_test-returns-in_err-any : goal.tested::unmet_test-returns-in_err-any
+tested::unmet_test-returns-in_err-any t c =
+    let w = c.args.walk in
+    let s = view c.args.here.now.schema.now in
+    let v = tree_of c.args.value.now in
+    raised _ _ c.in_err-any.field-0.0 c.from_residual.result c.from_residual.ensures.1
+    (if_deep c.in_err-any.field-0.0
+    (of_list w s v kw.AnyOf (items_view c.schemas_at.result.now) refl c.schemas_at.ensures)
+    c.in_err-any.ensures)
+
+pub tested::unmet_test-returns-in_err-one : goal.tested::unmet_test-returns-in_err-one
+tested::unmet_test-returns-in_err-one t c =
+    let w = c.args.walk in
+    let s = view c.args.here.now.schema.now in
+    let v = tree_of c.args.value.now in
+    raised _ _ c.in_err-one.field-0.0 c.from_residual-in_err-one.result c.from_residual-in_err-one.ensures.1
+    (if_deep c.in_err-one.field-0.0
+    (of_list w s v kw.OneOf (items_view c.schemas_at-2.result.now) refl c.schemas_at-2.ensures)
+    c.in_err-one.ensures)
+
+pub tested::unmet_test-returns-in_err-other : goal.tested::unmet_test-returns-in_err-other
+tested::unmet_test-returns-in_err-other t c =
+    raised _ _ c.in_err-other.field-0.0
+    c.from_residual-in_err-other.result c.from_residual-in_err-other.ensures.1 c.in_err-other.ensures
+
+pub tested::unmet_test-returns-in_err-names : goal.tested::unmet_test-returns-in_err-names
+tested::unmet_test-returns-in_err-names t c =
+    raised _ _ c.in_err-names.field-0.0
+    c.from_residual-in_err-names.result c.from_residual-in_err-names.ensures.1 c.in_err-names.ensures
+
+pub tested::unmet_count-returns-in_err-count : goal.tested::unmet_count-returns-in_err-count
+tested::unmet_count-returns-in_err-count t c =
+    raised _ _ c.in_err-count.field-0.0 c.from_residual.result c.from_residual.ensures.1 c.in_err-count.ensures
+
+pub tested::unmet_count-returns-in_err-most : goal.tested::unmet_count-returns-in_err-most
+tested::unmet_count-returns-in_err-most t c =
+    raised _ _ OutOfMemory c.from_residual-in_err-most.result c.from_residual-in_err-most.ensures.1 tt
+
+pub tested::unmet_count-returns-in_err-least : goal.tested::unmet_count-returns-in_err-least
+tested::unmet_count-returns-in_err-least t c =
+    raised _ _ OutOfMemory c.from_residual-in_err-least.result c.from_residual-in_err-least.ensures.1 tt
+
+pub tested::is_any_met-returns-in_err-accepted : goal.tested::is_any_met-returns-in_err-accepted
+tested::is_any_met-returns-in_err-accepted t c =
+    raised _ _ c.in_err-accepted.field-0.0 c.from_residual.result c.from_residual.ensures.1 c.in_err-accepted.ensures
+
+pub tested::is_some_met-returns-in_err-accepted : goal.tested::is_some_met-returns-in_err-accepted
+tested::is_some_met-returns-in_err-accepted t c =
+    let vs = c.args.schemas.now in
+    let i = c.loop-schema.schema-index in
+    let x = c.schema-item.result in
+    raised _ _ c.in_err-accepted.field-0.0 c.from_residual.result c.from_residual.ensures.1
+    (if_deep c.in_err-accepted.field-0.0
+    (λ h. (i, view x, nth_item vs i x c.loop-schema-test.true c.schema-item.is, h))
+    c.in_err-accepted.ensures)
+
+pub tested::is_one_met-returns-in_err-count : goal.tested::is_one_met-returns-in_err-count
+tested::is_one_met-returns-in_err-count t c =
+    raised _ _ c.in_err-count.field-0.0 c.from_residual.result c.from_residual.ensures.1 c.in_err-count.ensures
+
+pub tested::count_accepting-returns-in_err-accepted : goal.tested::count_accepting-returns-in_err-accepted
+tested::count_accepting-returns-in_err-accepted t c =
+    let vs = c.args.schemas.now in
+    let i = c.loop-schema.schema-index in
+    let x = c.schema-item.result in
+    raised _ _ c.in_err-accepted.field-0.0 c.from_residual.result c.from_residual.ensures.1
+    (if_deep c.in_err-accepted.field-0.0
+    (λ h. (i, view x, nth_item vs i x c.loop-schema-test.true c.schema-item.is, h))
+    c.in_err-accepted.ensures)
+
+pub tested::is_not_met-returns-in_err-accepted-in-Some : goal.tested::is_not_met-returns-in_err-accepted-in-Some
+tested::is_not_met-returns-in_err-accepted-in-Some t c =
+    raised _ _ c.in_err-accepted-in-Some.field-0.0 c.from_residual.result c.from_residual.ensures.1
+    (if_deep c.in_err-accepted-in-Some.field-0.0
+    (λ h. within (by_not (sym c.in-Some.ensures)) h)
+    c.in_err-accepted-in-Some.ensures)
+
+pub tested::are_names_met-returns-in_err-members-in-Some : goal.tested::are_names_met-returns-in_err-members-in-Some
+tested::are_names_met-returns-in_err-members-in-Some t c =
+    raised _ _ OutOfMemory c.from_residual.result c.from_residual.ensures.1 tt
+
+pub tested::are_names_met-returns-in_err-accepted-in-Some : goal.tested::are_names_met-returns-in_err-accepted-in-Some
+tested::are_names_met-returns-in_err-accepted-in-Some t c =
+    let v = tree_of c.args.value.now in
+    let same = ap members_of c.as_slice.ensures.value ∙ (c.in_ok-members-in-Some.ensures.listed ∙ same_members v) in
+    raised _ _ c.in_err-accepted-in-Some.field-0.0 c.from_residual-in_err-accepted-in-Some.result c.from_residual-in_err-accepted-in-Some.ensures.1
+    (if_deep c.in_err-accepted-in-Some.field-0.0
+    (λ h. within (by_name h.0 (sym c.in-Some.ensures) (ap (λ ms. is_some (find h.0 ms)) (sym same) ∙ h.1)) h.2)
+    c.in_err-accepted-in-Some.ensures)
+
+pub tested::are_keys_met-returns-in_err-name : goal.tested::are_keys_met-returns-in_err-name
+tested::are_keys_met-returns-in_err-name t c =
+    raised _ _ OutOfMemory c.from_residual.result c.from_residual.ensures.1 tt
+
+pub tested::are_keys_met-returns-in_err-accepted : goal.tested::are_keys_met-returns-in_err-accepted
+tested::are_keys_met-returns-in_err-accepted t c =
+    let w = c.args.walk in
+    let s = view c.args.schema.now in
+    let ps = c.args.members.now in
+    let i = c.loop-member.member-index in
+    let p = c.member-item.result in
+    raised _ _ c.in_err-accepted.field-0.0 c.from_residual-in_err-accepted.result c.from_residual-in_err-accepted.ensures.1
+    (if_deep c.in_err-accepted.field-0.0
+    (λ h. (chars p.key.now, has_own_key ps i p c.loop-member-test.true c.member-item.is, subst (Descends w s) c.in_ok-name.ensures h))
+    c.in_err-accepted.ensures)
+
+pub tested::contained-returns-in_err-items-in-Array : goal.tested::contained-returns-in_err-items-in-Array
+tested::contained-returns-in_err-items-in-Array t c =
+    raised _ _ OutOfMemory c.from_residual.result c.from_residual.ensures.1 tt
+
+pub tested::contained-returns-in_err-count-in-Array : goal.tested::contained-returns-in_err-count-in-Array
+tested::contained-returns-in_err-count-in-Array t c =
+    let v = tree_of c.args.value.now in
+    let same : array (trees_of c.as_slice.result.now) ≡ v
+    = ap array (ap trees_of c.as_slice.ensures.value ∙ c.in_ok-items-in-Array.ensures) ∙ array_is v (sym c.in-Array.is ∙ c.kind.ensures) in
+    raised _ _ c.in_err-count-in-Array.field-0.0 c.from_residual-in_err-count-in-Array.result c.from_residual-in_err-count-in-Array.ensures.1
+    (if_deep c.in_err-count-in-Array.field-0.0
+    (λ h. within (by_contains h.0 (sym c.in-Some.ensures) (ap (λ y. nth (items_in y) h.0) (sym same) ∙ h.2)) h.3)
+    c.in_err-count-in-Array.ensures)
+
+pub tested::count_passing-returns-in_err-accepted : goal.tested::count_passing-returns-in_err-accepted
+tested::count_passing-returns-in_err-accepted t c =
+    let vs = c.args.items.now in
+    let i = c.loop-item.item-index in
+    let x = c.item-item.result in
+    raised _ _ c.in_err-accepted.field-0.0 c.from_residual.result c.from_residual.ensures.1
+    (if_deep c.in_err-accepted.field-0.0
+    (λ h. (i, tree_of x, nth_tree vs i x c.loop-item-test.true c.item-item.is, h))
+    c.in_err-accepted.ensures)
+
+pub unevaluated::in_rest-returns-in_err-sources-in-Object : goal.unevaluated::in_rest-returns-in_err-sources-in-Object
+unevaluated::in_rest-returns-in_err-sources-in-Object t c =
+    let w = c.args.walk in
+    let s = view c.args.here.now.schema.now in
+    let v = tree_of c.args.value.now in
+    at_error (FindsRest w s v) c.in_err-sources-in-Object.field-0.0
+    c.from_residual.result c.from_residual.ensures.1 c.in_err-sources-in-Object.ensures.deep
+
+pub unevaluated::in_rest-returns-in_err-members-in-Object : goal.unevaluated::in_rest-returns-in_err-members-in-Object
+unevaluated::in_rest-returns-in_err-members-in-Object t c =
+    let w = c.args.walk in
+    let s = view c.args.here.now.schema.now in
+    let v = tree_of c.args.value.now in
+    at_error (FindsRest w s v) OutOfMemory
+    c.from_residual-in_err-members-in-Object.result c.from_residual-in_err-members-in-Object.ensures.1 tt
+
+pub unevaluated::in_rest-returns-in_err-sources-in-Array : goal.unevaluated::in_rest-returns-in_err-sources-in-Array
+unevaluated::in_rest-returns-in_err-sources-in-Array t c =
+    let w = c.args.walk in
+    let s = view c.args.here.now.schema.now in
+    let v = tree_of c.args.value.now in
+    at_error (FindsRest w s v) c.in_err-sources-in-Array.field-0.0
+    c.from_residual-in_err-sources-in-Array.result c.from_residual-in_err-sources-in-Array.ensures.1 c.in_err-sources-in-Array.ensures.deep
+
+pub unevaluated::in_rest-returns-in_err-items-in-Array : goal.unevaluated::in_rest-returns-in_err-items-in-Array
+unevaluated::in_rest-returns-in_err-items-in-Array t c =
+    let w = c.args.walk in
+    let s = view c.args.here.now.schema.now in
+    let v = tree_of c.args.value.now in
+    at_error (FindsRest w s v) OutOfMemory
+    c.from_residual-in_err-items-in-Array.result c.from_residual-in_err-items-in-Array.ensures.1 tt
+
+pub unevaluated::in_members_left-returns-in_err-evaluated : goal.unevaluated::in_members_left-returns-in_err-evaluated
+unevaluated::in_members_left-returns-in_err-evaluated t c =
+    let w = c.args.walk in
+    let xs = c.args.sources.now in
+    let r = view c.args.rest.now in
+    let ps = c.args.members.now in
+    at_error (FindsLeft w kw.UnevaluatedProperties xs r (object (members_of ps)))
+    c.in_err-evaluated.field-0.0
+    c.from_residual.result c.from_residual.ensures.1 (not_deep _ c.in_err-evaluated.field-0.0 c.in_err-evaluated.ensures)
+
+pub unevaluated::in_members_left-returns-in_err-found : goal.unevaluated::in_members_left-returns-in_err-found
+unevaluated::in_members_left-returns-in_err-found t c =
+    let w = c.args.walk in
+    let xs = c.args.sources.now in
+    let r = view c.args.rest.now in
+    let ps = c.args.members.now in
+    let p = c.member-item.result in
+    at_error (FindsLeft w kw.UnevaluatedProperties xs r (object (members_of ps)))
+    c.in_err-found.field-0.0 c.from_residual-in_err-found.result c.from_residual-in_err-found.ensures.1
+    (if_deep c.in_err-found.field-0.0
+    (λ h s e q. within (by_rest (member_at (chars p.key.now) (tree_of p.value)) e
+    (member_found ps c.loop-member.member-index p c.requires c.loop-member-test.true c.member-item.is)) h)
+    c.in_err-found.ensures)
+
+pub unevaluated::in_members_left-returns-in_err-enter_member : goal.unevaluated::in_members_left-returns-in_err-enter_member
+unevaluated::in_members_left-returns-in_err-enter_member t c =
+    let w = c.args.walk in
+    let xs = c.args.sources.now in
+    let r = view c.args.rest.now in
+    let ps = c.args.members.now in
+    at_error (FindsLeft w kw.UnevaluatedProperties xs r (object (members_of ps)))
+    OutOfMemory
+    c.from_residual-in_err-enter_member.result c.from_residual-in_err-enter_member.ensures.1 tt
+
+pub unevaluated::in_items_left-returns-in_err-evaluated : goal.unevaluated::in_items_left-returns-in_err-evaluated
+unevaluated::in_items_left-returns-in_err-evaluated t c =
+    let w = c.args.walk in
+    let xs = c.args.sources.now in
+    let r = view c.args.rest.now in
+    let vs = c.args.items.now in
+    let i = c.loop-index.index in
+    let x = c.index-items-index.result in
+    at_error (FindsLeft w kw.UnevaluatedItems xs r (array (trees_of vs))) c.in_err-evaluated.field-0.0 c.from_residual.result c.from_residual.ensures.1
+    (if_deep c.in_err-evaluated.field-0.0
+    (λ h s e q. h (root_tree w) s (array (trees_of vs)) (suc w.steps) (nth_tree vs i x c.loop-index-test.true c.index-items-index.is) q)
+    c.in_err-evaluated.ensures)
+
+pub unevaluated::in_items_left-returns-in_err-found : goal.unevaluated::in_items_left-returns-in_err-found
+unevaluated::in_items_left-returns-in_err-found t c =
+    let w = c.args.walk in
+    let xs = c.args.sources.now in
+    let r = view c.args.rest.now in
+    let vs = c.args.items.now in
+    let i = c.loop-index.index in
+    let x = c.index-items-index.result in
+    at_error (FindsLeft w kw.UnevaluatedItems xs r (array (trees_of vs))) c.in_err-found.field-0.0 c.from_residual-in_err-found.result c.from_residual-in_err-found.ensures.1
+    (if_deep c.in_err-found.field-0.0
+    (λ h s e q. within (by_rest (item_at i (tree_of x)) e (nth_tree vs i x c.loop-index-test.true c.index-items-index.is)) h)
+    c.in_err-found.ensures)
+
+pub unevaluated::in_items_left-returns-in_err-enter_item : goal.unevaluated::in_items_left-returns-in_err-enter_item
+unevaluated::in_items_left-returns-in_err-enter_item t c =
+    let w = c.args.walk in
+    let xs = c.args.sources.now in
+    let r = view c.args.rest.now in
+    let vs = c.args.items.now in
+    at_error (FindsLeft w kw.UnevaluatedItems xs r (array (trees_of vs))) OutOfMemory
+    c.from_residual-in_err-enter_item.result c.from_residual-in_err-enter_item.ensures.1 tt
+
+pub unevaluated::is_item_evaluated-returns-in_err-evaluates : goal.unevaluated::is_item_evaluated-returns-in_err-evaluates
+unevaluated::is_item_evaluated-returns-in_err-evaluates t c =
+    let xs = c.args.sources.now in
+    let x = c.source-item.result in
+    raised _ _ c.in_err-evaluates.field-0.0 c.from_residual.result c.from_residual.ensures.1
+    (if_deep c.in_err-evaluates.field-0.0
+    (λ h root s t n at q. reached_at root n s t xs c.loop-source.source-index x q c.loop-source-test.true c.source-item.is (h t at))
+    c.in_err-evaluates.ensures)
+
+pub unevaluated::evaluates_item-returns-in_err-accepted : goal.unevaluated::evaluates_item-returns-in_err-accepted
+unevaluated::evaluates_item-returns-in_err-accepted t c =
+    let i = c.args.index in
+    raised _ _ c.in_err-accepted.field-0.0 c.from_residual.result c.from_residual.ensures.1
+    (if_deep c.in_err-accepted.field-0.0
+    (λ h t at. within (by_contains i (sym c.in-Some.ensures) at) h)
+    c.in_err-accepted.ensures)
+
+pub unevaluated::sources_of-returns-in_err-push-clause-deep : goal.unevaluated::sources_of-returns-in_err-push-clause-deep
+unevaluated::sources_of-returns-in_err-push-clause-deep t c =
+    raised_alone _ OutOfMemory c.from_residual.result c.from_residual.ensures.1 tt
+
+pub unevaluated::sources_of-returns-in_err-add_inner-clause-deep : goal.unevaluated::sources_of-returns-in_err-add_inner-clause-deep
+unevaluated::sources_of-returns-in_err-add_inner-clause-deep t c =
+    raised_alone _ c.in_err-add_inner.field-0.0
+    c.from_residual-in_err-add_inner.result c.from_residual-in_err-add_inner.ensures.1 c.in_err-add_inner.ensures.deep
+
+pub unevaluated::add_schema-returns-in_err-inner-clause-deep : goal.unevaluated::add_schema-returns-in_err-inner-clause-deep
+unevaluated::add_schema-returns-in_err-inner-clause-deep t c =
+    let w = c.args.walk in
+    let r = view c.args.schema.now in
+    let v = tree_of c.args.value.now in
+    raised_alone _ c.in_err-inner.field-0.0 c.from_residual.result c.from_residual.ensures.1
+    (if_deep c.in_err-inner.field-0.0
+    (at_last w r v)
+    c.in_err-inner.ensures)
+
+pub unevaluated::add_schema-returns-in_err-push-clause-deep : goal.unevaluated::add_schema-returns-in_err-push-clause-deep
+unevaluated::add_schema-returns-in_err-push-clause-deep t c =
+    raised_alone _ OutOfMemory c.from_residual-in_err-push.result c.from_residual-in_err-push.ensures.1 tt
+
+pub unevaluated::add_schema-returns-in_err-add_inner-clause-deep : goal.unevaluated::add_schema-returns-in_err-add_inner-clause-deep
+unevaluated::add_schema-returns-in_err-add_inner-clause-deep t c =
+    let w = c.args.walk in
+    let r = view c.args.schema.now in
+    let v = tree_of c.args.value.now in
+    raised_alone _ c.in_err-add_inner.field-0.0 c.from_residual-in_err-add_inner.result c.from_residual-in_err-add_inner.ensures.1
+    (if_deep c.in_err-add_inner.field-0.0
+    (one_deeper w c.in_ok-inner.inner c.in_ok-inner.ensures r v)
+    c.in_err-add_inner.ensures.deep)
+
+pub unevaluated::add_inner-returns-in_err-add_listed-clause-deep : goal.unevaluated::add_inner-returns-in_err-add_listed-clause-deep
+unevaluated::add_inner-returns-in_err-add_listed-clause-deep t c =
+    let w = c.args.walk in
+    let s = view c.args.here.now.schema.now in
+    let v = tree_of c.args.value.now in
+    raised_alone _ c.in_err-add_listed.field-0.0 c.from_residual.result c.from_residual.ensures.1
+    (if_deep c.in_err-add_listed.field-0.0
+    (of_list w s v kw.AllOf (items_view c.schemas_at-all.result.now) refl c.schemas_at-all.ensures)
+    c.in_err-add_listed.ensures.deep)
+
+pub unevaluated::add_inner-returns-in_err-add_accepting-clause-deep : goal.unevaluated::add_inner-returns-in_err-add_accepting-clause-deep
+unevaluated::add_inner-returns-in_err-add_accepting-clause-deep t c =
+    let w = c.args.walk in
+    let s = view c.args.here.now.schema.now in
+    let v = tree_of c.args.value.now in
+    raised_alone _ c.in_err-add_accepting.field-0.0 c.from_residual-in_err-add_accepting.result c.from_residual-in_err-add_accepting.ensures.1
+    (if_deep c.in_err-add_accepting.field-0.0
+    (of_list w s v kw.AnyOf (items_view c.schemas_at-any.result.now) refl c.schemas_at-any.ensures)
+    c.in_err-add_accepting.ensures.deep)
+
+pub unevaluated::add_inner-returns-in_err-add_accepting-2-clause-deep : goal.unevaluated::add_inner-returns-in_err-add_accepting-2-clause-deep
+unevaluated::add_inner-returns-in_err-add_accepting-2-clause-deep t c =
+    let w = c.args.walk in
+    let s = view c.args.here.now.schema.now in
+    let v = tree_of c.args.value.now in
+    raised_alone _ c.in_err-add_accepting-2.field-0.0 c.from_residual-in_err-add_accepting-2.result c.from_residual-in_err-add_accepting-2.ensures.1
+    (if_deep c.in_err-add_accepting-2.field-0.0
+    (of_list w s v kw.OneOf (items_view c.schemas_at-one.result.now) refl c.schemas_at-one.ensures)
+    c.in_err-add_accepting-2.ensures.deep)
+
+pub unevaluated::add_inner-returns-in_err-add_branch-clause-deep : goal.unevaluated::add_inner-returns-in_err-add_branch-clause-deep
+unevaluated::add_inner-returns-in_err-add_branch-clause-deep t c =
+    raised_alone _ c.in_err-add_branch.field-0.0
+    c.from_residual-in_err-add_branch.result c.from_residual-in_err-add_branch.ensures.1 c.in_err-add_branch.ensures.deep
+
+pub unevaluated::add_inner-returns-in_err-add_dependents-clause-deep : goal.unevaluated::add_inner-returns-in_err-add_dependents-clause-deep
+unevaluated::add_inner-returns-in_err-add_dependents-clause-deep t c =
+    raised_alone _ c.in_err-add_dependents.field-0.0
+    c.from_residual-in_err-add_dependents.result c.from_residual-in_err-add_dependents.ensures.1 c.in_err-add_dependents.ensures.deep
+
+pub unevaluated::add_inner-returns-in_err-add_reference-clause-deep : goal.unevaluated::add_inner-returns-in_err-add_reference-clause-deep
+unevaluated::add_inner-returns-in_err-add_reference-clause-deep t c =
+    raised_alone _ c.in_err-add_reference.field-0.0
+    c.from_residual-in_err-add_reference.result c.from_residual-in_err-add_reference.ensures.1 c.in_err-add_reference.ensures.deep
+
+pub unevaluated::add_listed-returns-in_err-add_schema-clause-deep : goal.unevaluated::add_listed-returns-in_err-add_schema-clause-deep
+unevaluated::add_listed-returns-in_err-add_schema-clause-deep t c =
+    let vs = c.args.schemas.now in
+    let i = c.loop-schema.schema-index in
+    let x = c.schema-item.result in
+    raised_alone _ c.in_err-add_schema.field-0.0 c.from_residual.result c.from_residual.ensures.1
+    (if_deep c.in_err-add_schema.field-0.0
+    (λ h. (i, view x, nth_item vs i x c.loop-schema-test.true c.schema-item.is, h))
+    c.in_err-add_schema.ensures.deep)
+
+pub unevaluated::add_accepting-returns-in_err-add_if_accepting-clause-deep : goal.unevaluated::add_accepting-returns-in_err-add_if_accepting-clause-deep
+unevaluated::add_accepting-returns-in_err-add_if_accepting-clause-deep t c =
+    let vs = c.args.schemas.now in
+    let i = c.loop-schema.schema-index in
+    let x = c.schema-item.result in
+    raised_alone _ c.in_err-add_if_accepting.field-0.0 c.from_residual.result c.from_residual.ensures.1
+    (if_deep c.in_err-add_if_accepting.field-0.0
+    (λ h. (i, view x, nth_item vs i x c.loop-schema-test.true c.schema-item.is, h))
+    c.in_err-add_if_accepting.ensures.deep)
+
+pub unevaluated::add_if_accepting-returns-in_err-accepted-clause-deep : goal.unevaluated::add_if_accepting-returns-in_err-accepted-clause-deep
+unevaluated::add_if_accepting-returns-in_err-accepted-clause-deep t c =
+    raised_alone _ c.in_err-accepted.field-0.0
+    c.from_residual.result c.from_residual.ensures.1 c.in_err-accepted.ensures
+
+pub unevaluated::add_if_accepting-returns-in_err-add_schema-clause-deep : goal.unevaluated::add_if_accepting-returns-in_err-add_schema-clause-deep
+unevaluated::add_if_accepting-returns-in_err-add_schema-clause-deep t c =
+    raised_alone _ c.in_err-add_schema.field-0.0
+    c.from_residual-in_err-add_schema.result c.from_residual-in_err-add_schema.ensures.1 c.in_err-add_schema.ensures.deep
+
+pub unevaluated::add_branch-returns-in_err-accepted-clause-deep : goal.unevaluated::add_branch-returns-in_err-accepted-clause-deep
+unevaluated::add_branch-returns-in_err-accepted-clause-deep t c =
+    raised_alone _ c.in_err-accepted.field-0.0 c.from_residual.result c.from_residual.ensures.1
+    (if_deep c.in_err-accepted.field-0.0
+    (λ h. within (by_if (sym c.in-Some.ensures)) h)
+    c.in_err-accepted.ensures.deep)
+
+pub unevaluated::add_branch-returns-in_err-add_schema-clause-deep : goal.unevaluated::add_branch-returns-in_err-add_schema-clause-deep
+unevaluated::add_branch-returns-in_err-add_schema-clause-deep t c =
+    let s = view c.args.here.now.schema.now in
+    raised_alone _ c.in_err-add_schema.field-0.0 c.from_residual-in_err-add_schema.result c.from_residual-in_err-add_schema.ensures.1
+    (if_deep c.in_err-add_schema.field-0.0
+    (λ h. within (by_branch c.in_ok-accepted.accepted (ap is_some (sym c.in-Some.ensures))
+    (sym (c.in-Some-schema_at.ensures ∙ ap (schema_at s) c.branch-chosen.ensures))) h)
+    c.in_err-add_schema.ensures.deep)
+
+pub unevaluated::add_dependents-returns-in_err-listed-clause-deep : goal.unevaluated::add_dependents-returns-in_err-listed-clause-deep
+unevaluated::add_dependents-returns-in_err-listed-clause-deep t c =
+    raised_alone _ OutOfMemory c.from_residual.result c.from_residual.ensures.1 tt
+
+pub unevaluated::add_dependents-returns-in_err-add_dependent-clause-deep : goal.unevaluated::add_dependents-returns-in_err-add_dependent-clause-deep
+unevaluated::add_dependents-returns-in_err-add_dependent-clause-deep t c =
+    let w = c.args.walk in
+    let s = view c.args.here.now.schema.now in
+    let v = tree_of c.args.value.now in
+    let ps = c.as_slice-dependents.result.now in
+    let i = c.loop-key.key-index in
+    let p = c.loop-key-item.result in
+    let r = view p.1.now in
+    let k = text p.0.now in
+    let sorted = subst (λ xs. IsSorted (members_listed xs)) (sym c.as_slice-dependents.ensures.value) c.in_ok-listed.ensures.sorted in
+    let at : find k (schema_map_at s kw.DependentSchemas) ≡ Some r
+    = ap (find k) (sym (ap members_listed c.as_slice-dependents.ensures.value ∙ c.in_ok-listed.ensures.listed))
+    ∙ listed_found ps i p sorted c.loop-key-test.true c.loop-key-item.is in
+    raised_alone _ c.in_err-add_dependent.field-0.0 c.from_residual-in_err-add_dependent.result c.from_residual-in_err-add_dependent.ensures.1
+    (if_deep c.in_err-add_dependent.field-0.0
+    (λ h. let y = subst (λ bs. DescendsForKey w (chars bs) r v) c.as_str.ensures.value h in within (by_key k y.0 at) y.1)
+    c.in_err-add_dependent.ensures.deep)
+
+pub unevaluated::add_dependent-returns-in_err-add_schema-clause-deep : goal.unevaluated::add_dependent-returns-in_err-add_schema-clause-deep
+unevaluated::add_dependent-returns-in_err-add_schema-clause-deep t c =
+    let v = tree_of c.args.value.now in
+    let k = chars c.args.key.now in
+    let here : is_some (tree_at_key v k) ≡ true = sym c.has_key.ensures ∙ c.if-not-has_key.false in
+    raised_alone _ c.in_err-add_schema.field-0.0 c.from_residual.result c.from_residual.ensures.1
+    (if_deep c.in_err-add_schema.field-0.0
+    (λ h. (here, h))
+    c.in_err-add_schema.ensures.deep)
+
+pub unevaluated::add_reference-returns-in_err-add_target-clause-deep : goal.unevaluated::add_reference-returns-in_err-add_target-clause-deep
+unevaluated::add_reference-returns-in_err-add_target-clause-deep t c =
+    let w = c.args.walk in
+    let s = view c.args.here.now.schema.now in
+    let v = tree_of c.args.value.now in
+    raised_alone _ c.in_err-add_target.field-0.0 c.from_residual.result c.from_residual.ensures.1
+    (if_deep c.in_err-add_target.field-0.0
+    (of_target w s v kw.Ref refl)
+    c.in_err-add_target.ensures.deep)
+
+pub unevaluated::add_reference-returns-in_err-add_target-2-clause-deep : goal.unevaluated::add_reference-returns-in_err-add_target-2-clause-deep
+unevaluated::add_reference-returns-in_err-add_target-2-clause-deep t c =
+    let w = c.args.walk in
+    let s = view c.args.here.now.schema.now in
+    let v = tree_of c.args.value.now in
+    raised_alone _ c.in_err-add_target-2.field-0.0 c.from_residual-in_err-add_target-2.result c.from_residual-in_err-add_target-2.ensures.1
+    (if_deep c.in_err-add_target-2.field-0.0
+    (of_target w s v kw.DynamicRef refl)
+    c.in_err-add_target-2.ensures.deep)
+
+pub unevaluated::add_target-returns-in_err-part-clause-deep : goal.unevaluated::add_target-returns-in_err-part-clause-deep
+unevaluated::add_target-returns-in_err-part-clause-deep t c =
+    raised_alone _ OutOfMemory c.from_residual.result c.from_residual.ensures.1 tt
+
+pub unevaluated::add_target-returns-in_err-add_schema-clause-deep : goal.unevaluated::add_target-returns-in_err-add_schema-clause-deep
+unevaluated::add_target-returns-in_err-add_schema-clause-deep t c =
+    let r = view c.in-Some.part.schema.now in
+    raised_alone _ c.in_err-add_schema.field-0.0 c.from_residual-in_err-add_schema.result c.from_residual-in_err-add_schema.ensures.1
+    (if_deep c.in_err-add_schema.field-0.0
+    (λ h. (r, sym (ap (option_map (λ x. view x.schema.now)) (sym c.in-Some.is) ∙ c.in_ok-part.ensures), h))
+    c.in_err-add_schema.ensures.deep)
+
+pub unevaluated::sources_of-returns-clause-reached : goal.unevaluated::sources_of-returns-clause-reached
+unevaluated::sources_of-returns-clause-reached t c =
+    let w = c.args.walk in
+    let s = view c.args.here.now.schema.now in
+    let v = tree_of c.args.value.now in
+    let x : Source = record { applied = c.args.here.now; walk = w; asks = true } in
+    let put : c.push.new.self.items ≡ x ∷ [] = c.in_ok-push.ensures.items ∙ ap (λ ys. ys ++ x ∷ []) c.new-sources.ensures.items in
+    c.in_ok-add_inner.ensures.reached (root_tree w) s (suc w.steps) (λ h. h)
+    (subst (AreReached (root_tree w) (suc w.steps) s v) (sym put) ((λ h. h), tt))
+
+pub unevaluated::add_schema-returns-clause-reached : goal.unevaluated::add_schema-returns-clause-reached
+unevaluated::add_schema-returns-clause-reached t c =
+    let w = c.args.walk in
+    let r = view c.args.schema.now in
+    let v = tree_of c.args.value.now in
+    let inner = c.in_ok-inner.inner in
+    let d = c.in_ok-inner.ensures in
+    λ root s n lead q. c.in_ok-add_inner.ensures.reached root s n (λ h. lead (one_deeper w inner d r v h))
+    (subst (AreReached root n s v) (sym c.in_ok-push.ensures.items)
+    (reached_pushed root n s v c.args.sources.now.items _ q (λ h. lead (one_deeper w inner d r v h))))
+
+pub unevaluated::add_inner-returns-clause-reached : goal.unevaluated::add_inner-returns-clause-reached
+unevaluated::add_inner-returns-clause-reached t c =
+    let w = c.args.walk in
+    let s = view c.args.here.now.schema.now in
+    let v = tree_of c.args.value.now in
+    λ root x n lead q. c.in_ok-add_reference.ensures.reached root x n lead (c.in_ok-add_dependents.ensures.reached root x n lead
+    (c.in_ok-add_branch.ensures.reached root x n lead
+    (c.in_ok-add_accepting-2.ensures.reached root x n
+    (λ h. lead (of_list w s v kw.OneOf (items_view c.schemas_at-one.result.now) refl c.schemas_at-one.ensures h))
+    (c.in_ok-add_accepting.ensures.reached root x n
+    (λ h. lead (of_list w s v kw.AnyOf (items_view c.schemas_at-any.result.now) refl c.schemas_at-any.ensures h))
+    (c.in_ok-add_listed.ensures.reached root x n
+    (λ h. lead (of_list w s v kw.AllOf (items_view c.schemas_at-all.result.now) refl c.schemas_at-all.ensures h)) q)))))
+
+pub unevaluated::add_branch-returns-in_default-schema_at-clause-reached : goal.unevaluated::add_branch-returns-in_default-schema_at-clause-reached
+unevaluated::add_branch-returns-in_default-schema_at-clause-reached t c =
+    let w = c.args.walk in
+    let s = view c.args.here.now.schema.now in
+    let v = tree_of c.args.value.now in
+    λ root x n lead q. c.in_ok-accepted.ensures.reached root x n (λ h. lead (within (by_if (sym c.in-Some.ensures)) h)) q
+
+pub unevaluated::add_branch-returns-clause-reached : goal.unevaluated::add_branch-returns-clause-reached
+unevaluated::add_branch-returns-clause-reached t c =
+    let w = c.args.walk in
+    let s = view c.args.here.now.schema.now in
+    let v = tree_of c.args.value.now in
+    λ root x n lead q. c.in_ok-add_schema.ensures.reached root x n
+    (λ h. lead (within (by_branch c.in_ok-accepted.accepted (ap is_some (sym c.in-Some.ensures))
+    (sym (c.in-Some-schema_at.ensures ∙ ap (schema_at s) c.branch-chosen.ensures))) h))
+    (c.in_ok-accepted.ensures.reached root x n (λ h. lead (within (by_if (sym c.in-Some.ensures)) h)) q)
+
+pub unevaluated::add_dependent-returns-clause-reached : goal.unevaluated::add_dependent-returns-clause-reached
+unevaluated::add_dependent-returns-clause-reached t c =
+    let w = c.args.walk in
+    let r = view c.args.schema.now in
+    let v = tree_of c.args.value.now in
+    let k = chars c.args.key.now in
+    let here : is_some (tree_at_key v k) ≡ true = sym c.has_key.ensures ∙ c.if-not-has_key.false in
+    λ root x n lead q. c.in_ok-add_schema.ensures.reached root x n (λ h. lead (here, h)) q
+
+pub unevaluated::add_reference-returns-clause-reached : goal.unevaluated::add_reference-returns-clause-reached
+unevaluated::add_reference-returns-clause-reached t c =
+    let w = c.args.walk in
+    let s = view c.args.here.now.schema.now in
+    let v = tree_of c.args.value.now in
+    λ root x n lead q. c.in_ok-add_target-2.ensures.reached root x n (λ h. lead (of_target w s v kw.DynamicRef refl h))
+    (c.in_ok-add_target.ensures.reached root x n (λ h. lead (of_target w s v kw.Ref refl h)) q)
+
+pub unevaluated::add_target-returns-clause-reached : goal.unevaluated::add_target-returns-clause-reached
+unevaluated::add_target-returns-clause-reached t c =
+    let w = c.args.walk in
+    let s = view c.args.here.now.schema.now in
+    let v = tree_of c.args.value.now in
+    let r = view c.in-Some.part.schema.now in
+    λ root x n lead q. c.in_ok-add_schema.ensures.reached root x n (λ h. lead (r, sym (ap (option_map (λ x. view x.schema.now)) (sym c.in-Some.is) ∙ c.in_ok-part.ensures), h)) q
+
+pub unevaluated::add_listed-returns-clause-reached : goal.unevaluated::add_listed-returns-clause-reached
+unevaluated::add_listed-returns-clause-reached t c =
+    c.loop-schema.invariant.2
+
+pub unevaluated::add_accepting-returns-clause-reached : goal.unevaluated::add_accepting-returns-clause-reached
+unevaluated::add_accepting-returns-clause-reached t c =
+    c.loop-schema.invariant.2
+
+pub unevaluated::add_dependents-returns-clause-reached : goal.unevaluated::add_dependents-returns-clause-reached
+unevaluated::add_dependents-returns-clause-reached t c =
+    c.loop-key.invariant.2

@@ -5,9 +5,10 @@ use Rattle.tinyjson_view.specs.Views.{tree_of, trees_of, members_of}
 use Rattle.tinyjson_schema_keywords.specs.Applied.{members_in}
 use Rattle.tinyjson_schema.specs.Applicators.{all_accept, some_accepts, accepting, keys_pass, passing, dependents_accept, members_accepted}
 use Rattle.tinyjson_schema.specs.Applicators.{items_accepted, found_pass, patterns_accept}
+use Rattle.tinyjson_schema.specs.Deep.{DescendsIn, DescendsAmong}
 use Rattle.tinyjson_schema.specs.Evaluated.{Answers, Child, item_at, value_of, some_evaluate, accepting_evaluate, dependents_evaluate}
 use Rattle.tinyjson_schema.specs.Evaluated.{members_pass, items_pass}
-use Rattle.tinyjson_schema.specs.Sources.{sources_evaluate, StaysWithin}
+use Rattle.tinyjson_schema.specs.Sources.{sources_evaluate, StaysWithin, StaysReached}
 use Rattle.tinyjson_schema.specs.Valid.{says, answers_in}
 use Rattle.tinyjson_schema.proofs.validate.+validate.Given as goal
 
@@ -206,6 +207,7 @@ invariant-unevaluated::add_listed-loop-schema l = ((g : Answers) (c : Child) →
     ≡ (sources_evaluate g l.initial.sources.items c
     || some_evaluate (answers_in l.walk g) (items_view l.schemas) (tree_of l.value) c))
     × StaysWithin l.walk l.initial.sources.items l.sources.items
+    × StaysReached (DescendsAmong l.walk (items_view l.schemas) (tree_of l.value)) (tree_of l.value) l.initial.sources.items l.sources.items
 
 abbrev pub invariant-unevaluated::add_accepting-loop-schema : goal.invariant-unevaluated::add_accepting-loop-schema
 invariant-unevaluated::add_accepting-loop-schema l = ((g : Answers) (c : Child) →
@@ -214,6 +216,7 @@ invariant-unevaluated::add_accepting-loop-schema l = ((g : Answers) (c : Child) 
     ≡ (sources_evaluate g l.initial.sources.items c
     || accepting_evaluate (answers_in l.walk g) (items_view l.schemas) (tree_of l.value) c))
     × StaysWithin l.walk l.initial.sources.items l.sources.items
+    × StaysReached (DescendsAmong l.walk (items_view l.schemas) (tree_of l.value)) (tree_of l.value) l.initial.sources.items l.sources.items
 
 abbrev pub invariant-unevaluated::add_dependents-loop-key : goal.invariant-unevaluated::add_dependents-loop-key
 invariant-unevaluated::add_dependents-loop-key l = ((g : Answers) (c : Child) →
@@ -222,3 +225,4 @@ invariant-unevaluated::add_dependents-loop-key l = ((g : Answers) (c : Child) �
     ≡ (sources_evaluate g l.initial.sources.items c
     || dependents_evaluate (answers_in l.walk g) (members_listed l.dependents) (tree_of l.value) c))
     × StaysWithin l.walk l.initial.sources.items l.sources.items
+    × StaysReached (DescendsIn l.walk (view l.here.schema.now) (tree_of l.value)) (tree_of l.value) l.initial.sources.items l.sources.items

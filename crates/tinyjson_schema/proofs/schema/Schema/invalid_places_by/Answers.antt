@@ -1,10 +1,11 @@
 use Rattle.std.proofs.Common.{subst, ap, ◌∙◌}
-use Rattle.std.specs.Prelude.{IfOk}
+use Rattle.std.specs.Prelude.{IfOk, IfErr}
 use Rattle.tinyjson.specs.View.{view}
 use Rattle.tinyjson_schema.specs.Every.{AreNoneIfValid}
 use Rattle.tinyjson_schema.specs.Leads.{are_led}
 use Rattle.tinyjson_schema_table.proofs.Callers.{known_as}
 use Rattle.tinyjson_schema.specs.Reading.{root_in}
+use Rattle.tinyjson_schema.specs.Valid.{IsBeyond}
 use Rattle.tinyjson_schema.proofs.schema.Schema.invalid_places_by.Goals as goal
 
 pub returns-clause-none : goal.returns-clause-none
@@ -19,3 +20,8 @@ invariant_of-ground g c = record {
   same = known_as (view c.args.self.now.table.schema.now) (view c.args.self.now.whole.root.now) c.first.result c.first.ensures
       c.args.self.now.same;
 }
+
+pub returns-clause-deep : goal.returns-clause-deep
+returns-clause-deep g c =
+    subst (λ t. IfErr c.find_violations.result (IsBeyond c.args.checks.limits.nested (root_in c.args.self.now c.args.checks.formats) t))
+    c.as_view.ensures c.find_violations.ensures.deep

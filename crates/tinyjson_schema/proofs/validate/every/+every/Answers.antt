@@ -8,6 +8,14 @@ use Rattle.tinyjson_schema.specs.Every.{here, at_keyword, failing, own, Use, und
 use Rattle.tinyjson_schema.specs.Steps.{placed, use_of}
 use Rattle.tinyjson_schema.specs.Valid.{root_of, answers_in, says}
 use Rattle.tinyjson_schema.proofs.Adding.{first_both, first_as, first_next, first_end, first_enough, every_before, map_map}
+use Rattle.std.proofs.Common.{subst, true}
+use Rattle.tinyjson_schema.specs.Deep.{root_tree}
+use Rattle.tinyjson_schema.specs.Evaluated.{Answers}
+use Rattle.tinyjson_schema.specs.Nested.{within}
+use Rattle.tinyjson_schema.specs.Steps.{AreApplied}
+use Rattle.tinyjson_schema.specs.declared.walk.CheckError.TheVariants.{OutOfMemory}
+use Rattle.tinyjson_schema.proofs.Applying.{applied_by, pending_applied}
+use Rattle.tinyjson_schema.proofs.Deep.{raised, if_deep, at_last, one_deeper}
 use Rattle.tinyjson_schema.proofs.validate.every.+every.Goals as goal
 
 pub add_violations-add_further-requires : goal.add_violations-add_further-requires
@@ -88,3 +96,77 @@ add_further-returns t c g =
     first_end c.args.limit (λ ps. map (placed c.args.path.now)
     (spread (λ u. every (root_of w) w.steps g u.schema u.value) (map use_of ps)))
     c.args.pending.now c.loop-used.used-index _ c.loop-used.found.items c.loop-used-test.false refl (c.loop-used.invariant g)
+
+pub add_violations-returns-in_err-inner : goal.add_violations-returns-in_err-inner
+add_violations-returns-in_err-inner t c =
+    let w = c.args.walk in
+    let s = view c.args.schema.now in
+    let v = tree_of c.args.value.now in
+    raised _ _ c.in_err-inner.field-0.0 c.from_residual.result c.from_residual.ensures.1 
+    (if_deep c.in_err-inner.field-0.0
+    (at_last w s v)
+    c.in_err-inner.ensures)
+
+pub add_violations-returns-in_err-add_place : goal.add_violations-returns-in_err-add_place
+add_violations-returns-in_err-add_place t c =
+    raised _ _ OutOfMemory c.from_residual-in_err-add_place.result c.from_residual-in_err-add_place.ensures.1 tt
+
+pub add_violations-returns-in_err-add_unmet : goal.add_violations-returns-in_err-add_unmet
+add_violations-returns-in_err-add_unmet t c =
+    raised _ _ OutOfMemory c.from_residual-in_err-add_unmet.result c.from_residual-in_err-add_unmet.ensures.1 tt
+
+pub add_violations-returns-in_err-add_places : goal.add_violations-returns-in_err-add_places
+add_violations-returns-in_err-add_places t c =
+    raised _ _ OutOfMemory c.from_residual-in_err-add_places.result c.from_residual-in_err-add_places.ensures.1 tt
+
+pub add_violations-returns-in_err-add_tests : goal.add_violations-returns-in_err-add_tests
+add_violations-returns-in_err-add_tests t c =
+    let w = c.args.walk in
+    let s = view c.args.schema.now in
+    let v = tree_of c.args.value.now in
+    raised _ _ c.in_err-add_tests.field-0.0 c.from_residual-in_err-add_tests.result c.from_residual-in_err-add_tests.ensures.1 
+    (if_deep c.in_err-add_tests.field-0.0
+    (one_deeper w c.in_ok-inner.inner c.in_ok-inner.ensures s v)
+    c.in_err-add_tests.ensures)
+
+pub add_violations-returns-in_err-uses : goal.add_violations-returns-in_err-uses
+add_violations-returns-in_err-uses t c =
+    let w = c.args.walk in
+    let s = view c.args.schema.now in
+    let v = tree_of c.args.value.now in
+    raised _ _ c.in_err-uses.field-0.0 c.from_residual-in_err-uses.result c.from_residual-in_err-uses.ensures.1 
+    (if_deep c.in_err-uses.field-0.0
+    (one_deeper w c.in_ok-inner.inner c.in_ok-inner.ensures s v)
+    c.in_err-uses.ensures)
+
+pub add_violations-returns-in_err-add_further : goal.add_violations-returns-in_err-add_further
+add_violations-returns-in_err-add_further t c =
+    let w = c.args.walk in
+    let s = view c.args.schema.now in
+    let v = tree_of c.args.value.now in
+    let inner = c.in_ok-inner.inner in
+    let g : Answers = record { accepts = λ r u. true; evaluates = λ r u k. true } in
+    let applied : AreApplied (root_tree inner) s v (map use_of c.as_slice-2.result.now)
+    = subst (AreApplied (root_tree inner) s v) (sym (ap (map use_of) c.as_slice-2.ensures.value ∙ c.in_ok-uses.ensures g))
+    (applied_by (root_tree inner) c.args.schema.now c.args.value.now (answers_in inner g)) in
+    raised _ _ c.in_err-add_further.field-0.0 c.from_residual-in_err-add_further.result c.from_residual-in_err-add_further.ensures.1 
+    (if_deep c.in_err-add_further.field-0.0
+    (λ h. one_deeper w inner c.in_ok-inner.ensures s v (h s v applied))
+    c.in_err-add_further.ensures)
+
+pub add_further-returns-in_err-push : goal.add_further-returns-in_err-push
+add_further-returns-in_err-push t c =
+    raised _ _ OutOfMemory c.from_residual.result c.from_residual.ensures.1 tt
+
+pub add_further-returns-in_err-extend_from_slice : goal.add_further-returns-in_err-extend_from_slice
+add_further-returns-in_err-extend_from_slice t c =
+    raised _ _ OutOfMemory c.from_residual-in_err-extend_from_slice.result c.from_residual-in_err-extend_from_slice.ensures.1 tt
+
+pub add_further-returns-in_err-add_violations : goal.add_further-returns-in_err-add_violations
+add_further-returns-in_err-add_violations t c =
+    let w = c.args.walk in
+    raised _ _ c.in_err-add_violations.field-0.0 c.from_residual-in_err-add_violations.result c.from_residual-in_err-add_violations.ensures.1 
+    (if_deep c.in_err-add_violations.field-0.0
+    (λ h s v a. within (pending_applied (root_tree w) s v c.args.pending.now c.loop-used.used-index c.used-item.result a
+    c.loop-used-test.true c.used-item.is) h)
+    c.in_err-add_violations.ensures)

@@ -6,6 +6,9 @@ use Rattle.tinyjson_schema.specs.Every.{spot_of, every}
 use Rattle.tinyjson_schema.specs.Steps.{placed}
 use Rattle.tinyjson_schema.specs.Valid.{root_of}
 use Rattle.tinyjson_schema.proofs.Emptied.{none_exactly}
+use Rattle.std.proofs.Common.{IfErr}
+use Rattle.tinyjson_schema.specs.Valid.{IsBeyond}
+use Rattle.tinyjson_schema.proofs.Deep.{at_error}
 use Rattle.tinyjson_schema.proofs.validate.every.find_violations.Goals as goal
 
 pub returns-clause-first : goal.returns-clause-first
@@ -21,3 +24,9 @@ returns-clause-first c g =
 pub returns-clause-none : goal.returns-clause-none
 returns-clause-none c =
     none_exactly c.args.limit (root_of c.args.walk) c.args.walk.steps (tree_of c.args.value.now) _ (returns-clause-first c)
+
+pub returns-in_err-add_violations-clause-deep : goal.returns-in_err-add_violations-clause-deep
+returns-in_err-add_violations-clause-deep c =
+    let w = c.args.walk in
+    at_error (λ r. IfErr r (IsBeyond w.steps (root_of w) (tree_of c.args.value.now))) c.in_err-add_violations.field-0.0 c.from_residual.result
+    c.from_residual.ensures.1 c.in_err-add_violations.ensures

@@ -3,6 +3,7 @@ use Rattle.std.specs.Str.{chars}
 use Rattle.tinyjson_schema_keywords.proofs.Callers.{turn_next, turn_stop, turn_end}
 use Rattle.tinyjson_schema.specs.Evaluated.{member_at}
 use Rattle.tinyjson_schema.specs.Sources.{sources_evaluate}
+use Rattle.tinyjson_schema.proofs.Deep.{shallow}
 use Rattle.tinyjson_schema.proofs.validate.unevaluated.is_member_evaluated.Goals as goal
 
 pub returns-then-evaluates : goal.returns-then-evaluates
@@ -28,3 +29,6 @@ returns c g u =
     let k = member_at (chars c.args.key.now) u in
     sym (turn_end (λ ys. sources_evaluate g ys k) c.args.sources.now c.loop-source.source-index false c.loop-source-test.false refl
     (c.loop-source.invariant g u))
+
+pub returns-in_err-evaluates : goal.returns-in_err-evaluates
+returns-in_err-evaluates c = shallow _ c.in_err-evaluates.field-0.0 c.from_residual.result c.from_residual.ensures.1 c.in_err-evaluates.ensures

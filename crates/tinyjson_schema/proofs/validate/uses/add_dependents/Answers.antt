@@ -7,6 +7,8 @@ use Rattle.tinyjson_schema_keywords.specs.declared.keyword.Keyword.TheVariants a
 use Rattle.tinyjson_schema.specs.Every.{token, word, same, dependent_uses}
 use Rattle.tinyjson_schema.specs.Steps.{use_of}
 use Rattle.tinyjson_schema.proofs.Adding.{gather_next, gather_end, uses_as}
+use Rattle.tinyjson_schema.specs.declared.walk.CheckError.TheVariants.{OutOfMemory}
+use Rattle.tinyjson_schema.proofs.Deep.{raised}
 use Rattle.tinyjson_schema.proofs.validate.uses.add_dependents.Goals as goal
 
 pub loop-key-preserved : goal.loop-key-preserved
@@ -29,3 +31,11 @@ returns c =
     c.loop-key-test.false refl c.loop-key.invariant
     ∙ ap (λ rs. map use_of c.args.pending.now.items ++ dependent_uses rs v)
     (ap members_listed c.as_slice-dependents.ensures.value ∙ c.in_ok-listed.ensures.listed)
+
+pub returns-in_err-listed : goal.returns-in_err-listed
+returns-in_err-listed c =
+    raised _ _ OutOfMemory c.from_residual.result c.from_residual.ensures.1 tt
+
+pub returns-in_err-add_if : goal.returns-in_err-add_if
+returns-in_err-add_if c =
+    raised _ _ OutOfMemory c.from_residual-in_err-add_if.result c.from_residual-in_err-add_if.ensures.1 tt

@@ -6,6 +6,8 @@ use Rattle.i_regexp.specs.PatternDeciding.{is_found}
 use Rattle.tinyjson_schema_keywords.specs.declared.keyword.Keyword.TheVariants as kw
 use Rattle.tinyjson_schema.specs.Every.{token, word, within, found_uses}
 use Rattle.tinyjson_schema.proofs.Adding.{gather_next, gather_end, uses_as}
+use Rattle.tinyjson_schema.specs.declared.walk.CheckError.TheVariants.{OutOfMemory}
+use Rattle.tinyjson_schema.proofs.Deep.{raised}
 use Rattle.tinyjson_schema.proofs.validate.uses.add_found.Goals as goal
 
 pub loop-member-preserved : goal.loop-member-preserved
@@ -22,3 +24,11 @@ loop-member-preserved c =
 pub returns : goal.returns
 returns c = gather_end (λ xs. found_uses (chars c.args.pattern.now) (view c.args.schema.now) (members_of xs)) c.args.members.now
     c.loop-member.member-index _ _ c.loop-member-test.false refl c.loop-member.invariant
+
+pub returns-in_err-is_found : goal.returns-in_err-is_found
+returns-in_err-is_found c =
+    raised _ _ c.in_err-is_found.field-0.0 c.from_residual.result c.from_residual.ensures.1 c.in_err-is_found.ensures
+
+pub returns-in_err-add_if : goal.returns-in_err-add_if
+returns-in_err-add_if c =
+    raised _ _ OutOfMemory c.from_residual-in_err-add_if.result c.from_residual-in_err-add_if.ensures.1 tt

@@ -6,6 +6,11 @@ use Rattle.tinyjson_schema.specs.Evaluated.{item_at}
 use Rattle.tinyjson_schema.specs.Every.{index, by, left_items}
 use Rattle.tinyjson_schema.specs.Sources.{sources_evaluate}
 use Rattle.tinyjson_schema.proofs.Adding.{indexed_next, indexed_end, uses_as}
+use Rattle.tinyjson_schema.specs.declared.walk.CheckError.TheVariants.{OutOfMemory}
+use Rattle.std.proofs.Common.{◌∙◌}
+use Rattle.tinyjson.specs.Index.{nth}
+use Rattle.tinyjson_view.proofs.Callers.{nth_tree}
+use Rattle.tinyjson_schema.proofs.Deep.{if_deep, raised}
 use Rattle.tinyjson_schema.proofs.validate.uses.add_left_items.Goals as goal
 
 pub loop-index-preserved : goal.loop-index-preserved
@@ -22,3 +27,17 @@ loop-index-preserved c g =
 pub returns : goal.returns
 returns c g = indexed_end (λ n xs. left_items (sources_evaluate g c.args.sources.now) (view c.args.rest.now) n (trees_of xs))
     c.args.items.now c.loop-index.index _ _ c.loop-index-test.false refl (c.loop-index.invariant g)
+
+pub returns-in_err-evaluated : goal.returns-in_err-evaluated
+returns-in_err-evaluated c =
+    let i = c.loop-index.index in
+    let x = c.index-items-index.result in
+    raised _ _ c.in_err-evaluated.field-0.0 c.from_residual.result c.from_residual.ensures.1 
+    (if_deep c.in_err-evaluated.field-0.0
+    (λ h root s t n e q. h root s t n
+    (ap (λ us. nth us i) e ∙ nth_tree c.args.items.now i x c.loop-index-test.true c.index-items-index.is) q)
+    c.in_err-evaluated.ensures)
+
+pub returns-in_err-add_if : goal.returns-in_err-add_if
+returns-in_err-add_if c =
+    raised _ _ OutOfMemory c.from_residual-in_err-add_if.result c.from_residual-in_err-add_if.ensures.1 tt

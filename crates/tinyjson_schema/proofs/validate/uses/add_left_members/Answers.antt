@@ -7,6 +7,8 @@ use Rattle.tinyjson_schema.specs.Evaluated.{member_at}
 use Rattle.tinyjson_schema.specs.Every.{token, by, left_members}
 use Rattle.tinyjson_schema.specs.Sources.{sources_evaluate}
 use Rattle.tinyjson_schema.proofs.Adding.{gather_next, gather_end, uses_as}
+use Rattle.tinyjson_schema.specs.declared.walk.CheckError.TheVariants.{OutOfMemory}
+use Rattle.tinyjson_schema.proofs.Deep.{raised}
 use Rattle.tinyjson_schema.proofs.validate.uses.add_left_members.Goals as goal
 
 pub loop-member-preserved : goal.loop-member-preserved
@@ -24,3 +26,11 @@ loop-member-preserved c g =
 pub returns : goal.returns
 returns c g = gather_end (λ xs. left_members (sources_evaluate g c.args.sources.now) (view c.args.rest.now) (members_of xs))
     c.args.members.now c.loop-member.member-index _ _ c.loop-member-test.false refl (c.loop-member.invariant g)
+
+pub returns-in_err-evaluated : goal.returns-in_err-evaluated
+returns-in_err-evaluated c =
+    raised _ _ c.in_err-evaluated.field-0.0 c.from_residual.result c.from_residual.ensures.1 c.in_err-evaluated.ensures
+
+pub returns-in_err-add_if : goal.returns-in_err-add_if
+returns-in_err-add_if c =
+    raised _ _ OutOfMemory c.from_residual-in_err-add_if.result c.from_residual-in_err-add_if.ensures.1 tt

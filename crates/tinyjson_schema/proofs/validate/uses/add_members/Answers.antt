@@ -4,6 +4,7 @@ use Rattle.tinyjson_view.specs.Views.{tree_of, members_of}
 use Rattle.std.specs.Str.{chars}
 use Rattle.tinyjson_schema.specs.Every.{uses_of_member, member_uses}
 use Rattle.tinyjson_schema.proofs.Adding.{gather_next, gather_end}
+use Rattle.tinyjson_schema.proofs.Deep.{raised}
 use Rattle.tinyjson_schema.proofs.validate.uses.add_members.Goals as goal
 
 pub loop-member-preserved : goal.loop-member-preserved
@@ -16,3 +17,8 @@ loop-member-preserved c =
 pub returns : goal.returns
 returns c = gather_end (λ xs. member_uses (view c.args.here.now.schema.now) (members_of xs)) c.args.members.now
     c.loop-member.member-index _ _ c.loop-member-test.false refl c.loop-member.invariant
+
+
+pub returns-in_err-add_member : goal.returns-in_err-add_member
+returns-in_err-add_member c =
+    raised _ _ c.in_err-add_member.field-0.0 c.from_residual.result c.from_residual.ensures.1 c.in_err-add_member.ensures

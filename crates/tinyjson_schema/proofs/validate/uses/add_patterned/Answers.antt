@@ -5,6 +5,8 @@ use Rattle.tinyjson_view.specs.Views.{members_of}
 use Rattle.tinyjson_schema.specs.Every.{found_uses, pattern_uses}
 use Rattle.tinyjson_schema.specs.Steps.{use_of}
 use Rattle.tinyjson_schema.proofs.Adding.{gather_next, gather_end, uses_as}
+use Rattle.tinyjson_schema.specs.declared.walk.CheckError.TheVariants.{OutOfMemory}
+use Rattle.tinyjson_schema.proofs.Deep.{raised}
 use Rattle.tinyjson_schema.proofs.validate.uses.add_patterned.Goals as goal
 
 pub loop-pattern-preserved : goal.loop-pattern-preserved
@@ -24,3 +26,11 @@ returns c =
     c.loop-pattern-test.false refl c.loop-pattern.invariant
     ∙ ap (λ rs. map use_of c.args.pending.now.items ++ pattern_uses rs ms)
     (ap members_listed c.as_slice-patterns.ensures.value ∙ c.in_ok-listed.ensures.listed)
+
+pub returns-in_err-listed : goal.returns-in_err-listed
+returns-in_err-listed c =
+    raised _ _ OutOfMemory c.from_residual.result c.from_residual.ensures.1 tt
+
+pub returns-in_err-add_found : goal.returns-in_err-add_found
+returns-in_err-add_found c =
+    raised _ _ c.in_err-add_found.field-0.0 c.from_residual-in_err-add_found.result c.from_residual-in_err-add_found.ensures.1 c.in_err-add_found.ensures

@@ -9,6 +9,8 @@ use Rattle.tinyjson_schema.specs.Valid.{answers_in, says}
 use Rattle.tinyjson_schema.specs.Evaluated.{others_evaluate}
 use Rattle.tinyjson_schema.proofs.Adding.{uses_as, joined, same_items}
 use Rattle.tinyjson_schema.proofs.Loops.{same_members}
+use Rattle.tinyjson_schema.specs.declared.walk.CheckError.TheVariants.{OutOfMemory}
+use Rattle.tinyjson_schema.proofs.Deep.{not_deep, raised}
 use Rattle.tinyjson_schema.proofs.validate.uses.uses_in.Goals as goal
 
 pub add_rest_members-requires : goal.add_rest_members-requires
@@ -40,3 +42,51 @@ returns c g =
     (joined (item_uses s 0 (items_in v)) _ _ _ _ (uses_as _ _ _ _ (ap (item_uses s 0) items) c.in_ok-add_items.ensures)
     (joined (rest_members q s v) (rest_items q s v) _ _ _ (c.in_ok-add_rest_members.ensures g) (c.in_ok-add_rest_items.ensures g))))))))) in
     all ∙ ap (λ ps. map use_of ps ++ uses root (answers_in w g) s v) c.new-pending.ensures.items
+
+pub returns-in_err-add_all_of : goal.returns-in_err-add_all_of
+returns-in_err-add_all_of c =
+    raised _ _ OutOfMemory c.from_residual.result c.from_residual.ensures.1 tt
+
+pub returns-in_err-add_branch : goal.returns-in_err-add_branch
+returns-in_err-add_branch c =
+    raised _ _ c.in_err-add_branch.field-0.0 c.from_residual-in_err-add_branch.result c.from_residual-in_err-add_branch.ensures.1 c.in_err-add_branch.ensures
+
+pub returns-in_err-add_dependents : goal.returns-in_err-add_dependents
+returns-in_err-add_dependents c =
+    raised _ _ c.in_err-add_dependents.field-0.0 c.from_residual-in_err-add_dependents.result c.from_residual-in_err-add_dependents.ensures.1 (not_deep _ c.in_err-add_dependents.field-0.0 c.in_err-add_dependents.ensures)
+
+pub returns-in_err-named : goal.returns-in_err-named
+returns-in_err-named c =
+    raised _ _ OutOfMemory c.from_residual-in_err-named.result c.from_residual-in_err-named.ensures.1 tt
+
+pub returns-in_err-add_patterned : goal.returns-in_err-add_patterned
+returns-in_err-add_patterned c =
+    raised _ _ c.in_err-add_patterned.field-0.0 c.from_residual-in_err-add_patterned.result c.from_residual-in_err-add_patterned.ensures.1 (not_deep _ c.in_err-add_patterned.field-0.0 c.in_err-add_patterned.ensures)
+
+pub returns-in_err-add_target : goal.returns-in_err-add_target
+returns-in_err-add_target c =
+    raised _ _ OutOfMemory c.from_residual-in_err-add_target.result c.from_residual-in_err-add_target.ensures.1 tt
+
+pub returns-in_err-add_target-2 : goal.returns-in_err-add_target-2
+returns-in_err-add_target-2 c =
+    raised _ _ OutOfMemory c.from_residual-in_err-add_target-2.result c.from_residual-in_err-add_target-2.ensures.1 tt
+
+pub returns-in_err-add_members : goal.returns-in_err-add_members
+returns-in_err-add_members c =
+    raised _ _ c.in_err-add_members.field-0.0 c.from_residual-in_err-add_members.result c.from_residual-in_err-add_members.ensures.1 (not_deep _ c.in_err-add_members.field-0.0 c.in_err-add_members.ensures)
+
+pub returns-in_err-listed : goal.returns-in_err-listed
+returns-in_err-listed c =
+    raised _ _ OutOfMemory c.from_residual-in_err-listed.result c.from_residual-in_err-listed.ensures.1 tt
+
+pub returns-in_err-add_items : goal.returns-in_err-add_items
+returns-in_err-add_items c =
+    raised _ _ OutOfMemory c.from_residual-in_err-add_items.result c.from_residual-in_err-add_items.ensures.1 tt
+
+pub returns-in_err-add_rest_members : goal.returns-in_err-add_rest_members
+returns-in_err-add_rest_members c =
+    raised _ _ c.in_err-add_rest_members.field-0.0 c.from_residual-in_err-add_rest_members.result c.from_residual-in_err-add_rest_members.ensures.1 c.in_err-add_rest_members.ensures
+
+pub returns-in_err-add_rest_items : goal.returns-in_err-add_rest_items
+returns-in_err-add_rest_items c =
+    raised _ _ c.in_err-add_rest_items.field-0.0 c.from_residual-in_err-add_rest_items.result c.from_residual-in_err-add_rest_items.ensures.1 c.in_err-add_rest_items.ensures
