@@ -1,5 +1,5 @@
 -- Schemas that apply no others.
-use Rattle.std.proofs.Common.{◌≡◌, ◌&&◌, ℕ, suc, true, false, not, List, Option, Some, None, Ok, refl, sym, ap, ◌∙◌}
+use Rattle.std.proofs.Common.{◌≡◌, ◌&&◌, ℕ, suc, true, false, not, is_some, List, [], ◌∷◌, Option, Some, None, Ok, refl, sym, ap, ◌∙◌, subst}
 use Rattle.std.proofs.lemmas.Bool.{or_right}
 use Rattle.std.specs.Option.{option_map_or}
 use Rattle.std.specs.Prelude.{option_and_then}
@@ -8,20 +8,24 @@ use Rattle.tinyjson.specs.Tree.{Tree, array, object, Items, no_items, item, Memb
 use Rattle.tinyjson.specs.View.{view}
 use Rattle.tinyjson_schema_keywords.specs.Applied.{schema_at, items_in, members_in}
 use Rattle.tinyjson_schema_keywords.specs.References.{target}
+use Rattle.tinyjson_schema_keywords.specs.Names.{name}
+use Rattle.tinyjson_schema_keywords.specs.declared.keyword.Keyword.{Keyword}
 use Rattle.tinyjson_schema_keywords.specs.declared.keyword.Keyword.TheVariants as kw
-use Rattle.tinyjson_schema_assertions.specs.Assertions.{meets_all, assertions}
+use Rattle.tinyjson_schema_assertions.specs.Assertions.{meets_all, assertions, IsUnmet}
 use Rattle.tinyjson_schema.specs.Applicators.{Judge, all_accept, any_of, one_of, keys_pass, items_passing, is_zero, contained}
 use Rattle.tinyjson_schema.specs.Applicators.{contains_some, contains_at_most, contains_at_least, branch_accepts, dependents_accept}
 use Rattle.tinyjson_schema.specs.Applicators.{patterns_accept, applies, apply_all, tests, members_accepted, items_accepted, parts_accepted}
 use Rattle.tinyjson_schema.specs.Evaluated.{Answers, rest_accepted}
 use Rattle.tinyjson_schema.specs.Parts.{member_schema, item_schema}
 use Rattle.tinyjson_schema.specs.Marks.{TestsNothing, AppliesNothing}
-use Rattle.tinyjson_schema.specs.Valid.{Decides, refuses_all, reference_accepts, root_of, says, answers_in}
+use Rattle.tinyjson_schema.specs.Valid.{Decides, IsInvalidAt, refuses_all, reference_accepts, root_of, says, answers_in}
+use Rattle.tinyjson_schema.specs.Valid.{refused, unmet}
+use Rattle.tinyjson_schema.specs.Walks.{IsDeeper}
 use Rattle.tinyjson_schema.specs.declared.walk.Walk.{Walk}
 use Rattle.tinyjson_schema.proofs.Loops.{member_free, item_free}
 use Rattle.tinyjson_schema.proofs.Parts.{no_additional, no_item, no_member}
 use Rattle.tinyjson_schema.proofs.Sourcing.{no_member_rest, no_item_rest}
-use Rattle.tinyjson_schema.proofs.Validity.{last_found, no_reference}
+use Rattle.tinyjson_schema.proofs.Validity.{before, isnt_true, last_found, no_reference, refuted}
 
 all_true : {X : Type 0} (o : Option X) → option_map_or (λ x. true) o true ≡ true
 all_true None = refl
@@ -102,3 +106,15 @@ module _ (s : Tree) (none : AppliesNothing s) where
       (λ g. references_free root (says w g) t)
       (λ g. parts_free (says w g) t)
       (λ g. rest_free root (answers_in w g) t)
+
+  pub refused_alone : (w inner : Walk) → IsDeeper w inner → (t : Tree) → refuses_all s ≡ true → (g : Answers) → false ≡ says w g s t
+  refused_alone w inner d t e g =
+      isnt_true (says w g s t) (refuted (subst (λ n. IsInvalidAt (root_of w) n s t [] []) (sym d.1) (refused e)) g)
+
+  pub judged_alone : (w inner : Walk) → IsDeeper w inner → (t : Tree) → refuses_all s ≡ false → (o : Option Keyword)
+      → IsUnmet w.ground.now.formats s t o → (g : Answers) → not (is_some o) ≡ says w g s t
+  judged_alone w inner d t a None h g =
+      sym (before w inner d s t (Ok None)
+      (decided_alone inner t a (subst (λ f. IsUnmet f s t None) (sym (ap (λ x. x.now.formats) d.0)) h)) g)
+  judged_alone w inner d t a (Some k) h g =
+      isnt_true (says w g s t) (refuted (subst (λ n. IsInvalidAt (root_of w) n s t (name k ∷ []) []) (sym d.1) (unmet k h)) g)

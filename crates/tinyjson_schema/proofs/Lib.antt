@@ -1,4 +1,6 @@
 pub mod Adding
+-- The schemas of a list that are known.
+pub mod Alternatives
 pub mod Applying
 pub mod Deep
 pub mod Emptied

@@ -338,7 +338,7 @@ refuted {root} {n = suc n} {s} {t} (in_part {r} {u} {k} ls a b c h) g v =
 refuted {root} {n = suc n} {s} {t} (in_rest {r} {k} c a b d h) g v =
     refuted h g (rest_passes root.tree (answers root n g) s t c k r (met root (answers root n g) s t v).rest a b (d g))
 
-isnt_true : (b : Bool) → (b ≡ true → ⊥) → false ≡ b
+pub isnt_true : (b : Bool) → (b ≡ true → ⊥) → false ≡ b
 isnt_true true n = absurd (n refl)
 isnt_true false n = refl
 

@@ -101,6 +101,15 @@ impl<'s> Applied<'s> {
         self.may_have_some(TESTING)
     }
 
+    /// Whether it is known to have no more than one assertion.
+    #[inline(always)]
+    pub fn asserts_once(&self) -> bool {
+        match self.known {
+            Some(known) => known.shape.given.len() < 2,
+            None => false,
+        }
+    }
+
     /// The value of the schema's keyword, if it has it.
     #[inline(always)]
     pub fn schema_at(&self, keyword: Keyword) -> Option<&'s JsonValue>

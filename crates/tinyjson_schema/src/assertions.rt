@@ -26,6 +26,9 @@ pub fn unmet(
     ensures { IfOk result (λ found. IsUnmet walk.entry.ground.now.formats
         (view here.now.schema.now) (tree_of value.now) found) }
 {
+    if here.asserts_once() {
+        return unmet_of(here, value, walk);
+    }
     let Some(number) = value.number() else {
         return unmet_of(here, value, walk);
     };

@@ -15,9 +15,7 @@ use crate::walk::{CheckError, Ground, Walk};
 use std::alloc::{AllocError, Global};
 use tinyjson::JsonValue;
 use tinyjson_pointer::Pointer;
-use tinyjson_schema_keywords::{
-    Budget, Document, KeptPatterns, Whole, anchors_of, repeated,
-};
+use tinyjson_schema_keywords::{Budget, Document, KeptPatterns, Whole, anchors_of, repeated};
 use tinyjson_schema_table::Table;
 use tinyjson_view::AsView;
 

@@ -14,7 +14,9 @@ ghost use Rattle.tinyjson_schema.specs.Applicators.{members_accepted, items_acce
 ghost use Rattle.tinyjson_schema.specs.Applicators.{parts_accepted};
 ghost use Rattle.tinyjson_schema.specs.Nested.{IfDeep};
 ghost use Rattle.tinyjson_schema.specs.Deep.{IsShallow, Descends};
+ghost use Rattle.tinyjson_schema.specs.Marks.{AppliesNothing};
 ghost use Rattle.tinyjson_schema.specs.Places.{IsAt};
+ghost use Rattle.tinyjson_schema_table.specs.Places.{is_of};
 ghost use Rattle.tinyjson_schema.specs.Valid.{refuses_all, reference_accepts, ValidatesIn, AgreesIn};
 ghost use Rattle.tinyjson_schema.specs.Valid.{Judges, Follows, Finds, FindsFound};
 ghost use Rattle.tinyjson_schema.specs.Nested.{is_reference};
@@ -36,7 +38,7 @@ pub use every::find_violations;
 use tinyjson::{JsonKind, JsonValue};
 use tinyjson_document::JsonView;
 use tinyjson_schema_keywords::{Keyword, branch};
-use tinyjson_schema_table::marks_of;
+use tinyjson_schema_table::{Known, marks_of};
 use tinyjson_view::{MemberView, ValueView};
 
 /// What the value violates of the whole schema, if it violates it; `None` means that the value is valid. Nested
@@ -159,6 +161,47 @@ fn is_accepted(
         (λ e. IfDeep e (Descends walk.entry (view schema.now) (tree_of value.now))) }
 {
     let found = violation_in(value, schema, walk)?;
+    Ok(found.is_none())
+}
+
+/// `is_accepted` for a schema that may be known.
+#[cycle(validate)]
+fn is_accepted_by(
+    value: &ValueView<'_>,
+    schema: &JsonValue,
+    known: Option<Known<'_>>,
+    walk: Walk<'_, '_>,
+) -> Result<bool, CheckError>
+    requires { is_of known (view schema.now) ≡ true }
+    ensures { MatchResult result
+        (λ is. Follows walk.entry is (λ f. f (view schema.now) (tree_of value.now)))
+        (λ e. IfDeep e (Descends walk.entry (view schema.now) (tree_of value.now))) }
+{
+    let part = Applied::by(schema, known);
+    if !part.may_apply() {
+        return is_accepted_alone(value, &part, walk);
+    }
+    let found = violation_of(value, &part, walk)?;
+    Ok(found.is_none())
+}
+
+/// `is_accepted` for a schema that applies none: its assertions decide.
+#[inline(never)]
+fn is_accepted_alone(
+    value: &ValueView<'_>,
+    here: &Applied<'_>,
+    walk: Walk<'_, '_>,
+) -> Result<bool, CheckError>
+    requires { AppliesNothing (view here.now.schema.now) }
+    ensures { MatchResult result
+        (λ is. Follows walk.entry is (λ f. f (view here.now.schema.now) (tree_of value.now)))
+        (λ e. IfDeep e (Descends walk.entry (view here.now.schema.now) (tree_of value.now))) }
+{
+    walk.entered()?;
+    if refuses_all(here.schema) {
+        return Ok(false);
+    }
+    let found = unmet(here, value, walk)?;
     Ok(found.is_none())
 }
 

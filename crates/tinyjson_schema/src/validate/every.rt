@@ -259,9 +259,9 @@ fn add_tests(
         tests)
         (IsDeep walk.entry (view here.now.schema.now) (tree_of value.now)) }
 {
-    let any = is_any_met(value, here.schemas_at(Keyword::AnyOf), walk)?;
+    let any = is_any_met(value, here, walk)?;
     add_unless(any, Keyword::AnyOf, unmet)?;
-    let one = is_one_met(value, here.schemas_at(Keyword::OneOf), walk)?;
+    let one = is_one_met(value, here, walk)?;
     add_unless(one, Keyword::OneOf, unmet)?;
     let other = is_not_met(value, here, walk)?;
     add_unless(other, Keyword::Not, unmet)?;

@@ -5,6 +5,7 @@ ghost use Rattle.std.specs.Str.{chars};
 ghost use Rattle.tinyjson.specs.Tree.{string};
 ghost use Rattle.tinyjson.specs.View.{view, items_view};
 ghost use Rattle.tinyjson_view.specs.Views.{tree_of, trees_of, members_of};
+ghost use Rattle.tinyjson_schema_keywords.specs.Applied.{schemas_at};
 ghost use Rattle.tinyjson_schema_keywords.specs.declared.keyword.Keyword.TheVariants as kw;
 ghost use Rattle.tinyjson_schema.specs.Applicators.{any_of, some_accepts, one_of, accepting};
 ghost use Rattle.tinyjson_schema.specs.Applicators.{applies, keys_pass, passing, contained, tests};
@@ -16,12 +17,13 @@ ghost use Rattle.tinyjson_schema.specs.Valid.{Follows, IsUnapplied};
 
 use crate::applied::Applied;
 use crate::contains::{contains_at_least, contains_at_most, contains_some};
-use crate::validate::is_accepted;
+use crate::validate::{is_accepted, is_accepted_by};
 use crate::walk::{CheckError, Walk};
 use std::alloc::{AllocError, Global};
 use tinyjson::{JsonKind, JsonValue};
 use tinyjson_document::JsonView;
 use tinyjson_schema_keywords::{Keyword, is_some_item};
+use tinyjson_schema_table::known_listed;
 use tinyjson_view::{MemberView, ValueView};
 
 /// One of these keywords that the value violates, if there is one.
@@ -40,11 +42,11 @@ pub fn unmet_test(
     if !here.may_test() {
         return Ok(None);
     }
-    let any = is_any_met(value, here.schemas_at(Keyword::AnyOf), walk)?;
+    let any = is_any_met(value, here, walk)?;
     if !any {
         return Ok(Some(Keyword::AnyOf));
     }
-    let one = is_one_met(value, here.schemas_at(Keyword::OneOf), walk)?;
+    let one = is_one_met(value, here, walk)?;
     if !one {
         return Ok(Some(Keyword::OneOf));
     }
@@ -93,19 +95,20 @@ fn unmet_count(
 #[inline(never)]
 pub fn is_any_met(
     value: &ValueView<'_>,
-    schemas: &[JsonValue],
+    here: &Applied<'_>,
     walk: Walk<'_, '_>,
 ) -> Result<bool, CheckError>
     ensures { MatchResult result
         (λ is. Follows walk.entry is
-        (λ f. any_of f (items_view schemas.now) (tree_of value.now)))
+        (λ f. any_of f (schemas_at (view here.now.schema.now) kw.AnyOf) (tree_of value.now)))
         (λ e. IfDeep e
-        (DescendsAmong walk.entry (items_view schemas.now) (tree_of value.now))) }
+        (DescendsAmong walk.entry (schemas_at (view here.now.schema.now) kw.AnyOf) (tree_of value.now))) }
 {
+    let schemas = here.schemas_at(Keyword::AnyOf);
     if !is_some_item(schemas) {
         return Ok(true);
     }
-    let accepted = is_some_met(value, schemas, walk)?;
+    let accepted = is_some_met(value, here, schemas, walk)?;
     Ok(accepted)
 }
 
@@ -113,17 +116,20 @@ pub fn is_any_met(
 #[inline(never)]
 fn is_some_met(
     value: &ValueView<'_>,
+    here: &Applied<'_>,
     schemas: &[JsonValue],
     walk: Walk<'_, '_>,
 ) -> Result<bool, CheckError>
+    requires { items_view schemas.now ≡ schemas_at (view here.now.schema.now) kw.AnyOf }
     ensures { MatchResult result
         (λ is. Follows walk.entry is
         (λ f. some_accepts f (items_view schemas.now) (tree_of value.now)))
         (λ e. IfDeep e
         (DescendsAmong walk.entry (items_view schemas.now) (tree_of value.now))) }
 {
-    for schema in schemas {
-        let accepted = is_accepted(value, schema, walk)?;
+    for (index, schema) in schemas.iter().enumerate() {
+        let known = known_listed(here.known, Keyword::AnyOf, index);
+        let accepted = is_accepted_by(value, schema, known, walk)?;
         if accepted {
             return Ok(true);
         }
@@ -136,19 +142,20 @@ fn is_some_met(
 #[inline(never)]
 pub fn is_one_met(
     value: &ValueView<'_>,
-    schemas: &[JsonValue],
+    here: &Applied<'_>,
     walk: Walk<'_, '_>,
 ) -> Result<bool, CheckError>
     ensures { MatchResult result
         (λ is. Follows walk.entry is
-        (λ f. one_of f (items_view schemas.now) (tree_of value.now)))
+        (λ f. one_of f (schemas_at (view here.now.schema.now) kw.OneOf) (tree_of value.now)))
         (λ e. IfDeep e
-        (DescendsAmong walk.entry (items_view schemas.now) (tree_of value.now))) }
+        (DescendsAmong walk.entry (schemas_at (view here.now.schema.now) kw.OneOf) (tree_of value.now))) }
 {
+    let schemas = here.schemas_at(Keyword::OneOf);
     if !is_some_item(schemas) {
         return Ok(true);
     }
-    let count = count_accepting(value, schemas, walk)?;
+    let count = count_accepting(value, here, schemas, walk)?;
     Ok(count == 1)
 }
 
@@ -156,9 +163,11 @@ pub fn is_one_met(
 #[cycle(validate)]
 fn count_accepting(
     value: &ValueView<'_>,
+    here: &Applied<'_>,
     schemas: &[JsonValue],
     walk: Walk<'_, '_>,
 ) -> Result<usize, CheckError>
+    requires { items_view schemas.now ≡ schemas_at (view here.now.schema.now) kw.OneOf }
     ensures { MatchResult result
         (λ count. Follows walk.entry count
         (λ f. accepting f (items_view schemas.now) (tree_of value.now)))
@@ -166,8 +175,9 @@ fn count_accepting(
         (DescendsAmong walk.entry (items_view schemas.now) (tree_of value.now))) }
 {
     let mut count = 0;
-    for schema in schemas {
-        let accepted = is_accepted(value, schema, walk)?;
+    for (index, schema) in schemas.iter().enumerate() {
+        let known = known_listed(here.known, Keyword::OneOf, index);
+        let accepted = is_accepted_by(value, schema, known, walk)?;
         if accepted {
             count += 1;
         }

@@ -45,6 +45,5 @@ returns-in-None c listed =
     (ap (option_and_then (λ p. tree_at_key p k)) (sym listed) ∙ sym c.in_default-property_of.ensures)
     (sym c.in_ok-part.ensures ∙ ap (option_map (λ x. view x.now)) c.in-None.is)
 
-
 pub returns-in_err-part : goal.returns-in_err-part
 returns-in_err-part c = shallow _ c.in_err-part.field-0.0 c.from_residual.result c.from_residual.ensures.1 c.in_err-part.ensures

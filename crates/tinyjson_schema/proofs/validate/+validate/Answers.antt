@@ -3,7 +3,7 @@ use Rattle.std.proofs.Common.{Some, None, drop, is_some, option_map, suc, arith,
 use Rattle.std.proofs.Common.{sym, ap, subst, cond}
 use Rattle.std.proofs.lemmas.Bool.{or_left, or_right}
 use Rattle.std.specs.Option.{option_map_or}
-use Rattle.std.specs.Prelude.{option_and_then}
+use Rattle.std.specs.Prelude.{option_and_then, MatchResult}
 use Rattle.std.specs.Str.{chars}
 use Rattle.tinyjson.specs.Index.{nth, tree_at_key}
 use Rattle.tinyjson.specs.Tree.{object, array, find}
@@ -30,14 +30,15 @@ use Rattle.tinyjson_schema.specs.Places.{IsMemberPart, IsUnderKey, place}
 use Rattle.tinyjson_schema.specs.Deep.{root_tree, Descends, DescendsIn, DescendsAmong, DescendsAtItem, DescendsAtKey}
 use Rattle.tinyjson_schema.specs.Deep.{DescendsAtFound, DescendsBy, DescendsForKey}
 use Rattle.tinyjson_schema.specs.Nested.{within, by_list, by_not, by_if, by_branch, by_key, by_reference, by_pattern, by_member, by_item}
-use Rattle.tinyjson_schema.specs.Nested.{by_name, by_contains, by_rest}
+use Rattle.tinyjson_schema.specs.Nested.{by_name, by_contains, by_rest, IfDeep}
 use Rattle.tinyjson_schema.specs.Sources.{sources_evaluate, AreWithin, AreReached, FindsLeft}
 use Rattle.tinyjson_schema.specs.declared.walk.CheckError.TheVariants.{OutOfMemory}
+use Rattle.tinyjson_schema.proofs.Alternatives.{alternative_known}
 use Rattle.tinyjson_schema.proofs.Deep.{at_error, raised, raised_alone, if_deep, not_deep, at_last, one_deeper, of_list, of_target, has_own_key}
 use Rattle.tinyjson_schema.proofs.Deep.{reached_pushed, reached_at}
 use Rattle.tinyjson_schema.specs.Valid.{answers_in, FindsRest, reference_accepts, target_accepts, says, Judges, Finds, IsUnapplied, refused}
 use Rattle.tinyjson_schema.specs.Valid.{unmet, not_applied, in_all_of, in_dependent, in_patterned, in_reference, in_part, IsInvalidAt}
-use Rattle.tinyjson_schema.specs.Valid.{FindsFound, root_of}
+use Rattle.tinyjson_schema.specs.Valid.{FindsFound, Follows, root_of}
 use Rattle.tinyjson_schema.specs.declared.validate.unevaluated.Source.{Source}
 use Rattle.tinyjson_schema.proofs.Leaves.{decided_alone, untested}
 use Rattle.tinyjson_schema.proofs.Loops.{items_turn, items_end, item_passes, item_free, members_turn, member_passes, member_free, same_members}
@@ -222,22 +223,31 @@ is_accepted-returns t c g = flipped c.is_none.result _ c.is_none.ensures
     ∙ verdict (root_of c.args.walk) c.args.walk.steps (view c.args.schema.now) (tree_of c.args.value.now) c.in_ok-found.found
     c.in_ok-found.ensures g
 
+pub is_accepted_by-returns-then-not-may_apply : goal.is_accepted_by-returns-then-not-may_apply
+is_accepted_by-returns-then-not-may_apply t c =
+    let w = c.args.walk in
+    let v = tree_of c.args.value.now in
+    subst (λ s. MatchResult c.is_accepted_alone.result (λ is. Follows w is (λ f. f s v)) (λ e. IfDeep e (Descends w s v)))
+    c.by-part.ensures c.is_accepted_alone.ensures
+
+pub is_accepted_by-returns : goal.is_accepted_by-returns
+is_accepted_by-returns t c g =
+    let w = c.args.walk in
+    let v = tree_of c.args.value.now in
+    flipped c.is_none.result _ c.is_none.ensures
+    ∙ (verdict (root_of w) w.steps (view c.by-part.result.schema.now) v c.in_ok-found.found c.in_ok-found.ensures g
+    ∙ ap (λ s. says w g s v) c.by-part.ensures)
+
 pub tested::unmet_test-returns-then-not-may_test : goal.tested::unmet_test-returns-then-not-may_test
 tested::unmet_test-returns-then-not-may_test t c g =
     untested (says c.args.walk g) (view c.args.here.now.schema.now) (tree_of c.args.value.now)
     (c.may_test.ensures c.if-not-may_test.true)
 
 pub tested::unmet_test-returns-then-not-any : goal.tested::unmet_test-returns-then-not-any
-tested::unmet_test-returns-then-not-any t c g =
-    let f = says c.args.walk g in
-    let v = tree_of c.args.value.now in
-    sym (c.in_ok-any.ensures g ∙ ap (λ rs. any_of f rs v) c.schemas_at.ensures) ∙ c.if-not-any.true
+tested::unmet_test-returns-then-not-any t c g = sym (c.in_ok-any.ensures g) ∙ c.if-not-any.true
 
 pub tested::unmet_test-returns-then-not-one : goal.tested::unmet_test-returns-then-not-one
-tested::unmet_test-returns-then-not-one t c g =
-    let f = says c.args.walk g in
-    let v = tree_of c.args.value.now in
-    sym (c.in_ok-one.ensures g ∙ ap (λ rs. one_of f rs v) c.schemas_at-2.ensures) ∙ c.if-not-one.true
+tested::unmet_test-returns-then-not-one t c g = sym (c.in_ok-one.ensures g) ∙ c.if-not-one.true
 
 pub tested::unmet_test-returns-then-not-other : goal.tested::unmet_test-returns-then-not-other
 tested::unmet_test-returns-then-not-other t c g = sym (c.in_ok-other.ensures g) ∙ c.if-not-other.true
@@ -251,8 +261,8 @@ tested::unmet_test-returns t c =
     let s = view c.args.here.now.schema.now in
     let v = tree_of c.args.value.now in
     last_tested w s v c.unmet_count.result (λ g. (
-      sym (c.in_ok-any.ensures g ∙ ap (λ rs. any_of (says w g) rs v) c.schemas_at.ensures) ∙ c.if-not-any.false,
-      sym (c.in_ok-one.ensures g ∙ ap (λ rs. one_of (says w g) rs v) c.schemas_at-2.ensures) ∙ c.if-not-one.false,
+      sym (c.in_ok-any.ensures g) ∙ c.if-not-any.false,
+      sym (c.in_ok-one.ensures g) ∙ c.if-not-one.false,
       sym (c.in_ok-other.ensures g) ∙ c.if-not-other.false,
       sym (c.in_ok-names.ensures g) ∙ c.if-not-names.false,
     )) c.unmet_count.ensures
@@ -272,69 +282,88 @@ tested::unmet_count-returns t c g =
 
 pub tested::is_any_met-returns : goal.tested::is_any_met-returns
 tested::is_any_met-returns t c g =
-    let rs = items_view c.args.schemas.now in
-    c.in_ok-accepted.ensures g ∙ sym (ap (λ b. not b || some_accepts (says c.args.walk g) rs (tree_of c.args.value.now))
-    (sym c.is_some_item.ensures ∙ c.if-not-is_some_item.false))
+    let f = says c.args.walk g in
+    let v = tree_of c.args.value.now in
+    let rs = items_view c.schemas_at-schemas.result.now in
+    c.in_ok-accepted.ensures g ∙ (sym (ap (λ b. not b || some_accepts f rs v) (sym c.is_some_item.ensures ∙ c.if-not-is_some_item.false))
+    ∙ ap (λ xs. any_of f xs v) c.schemas_at-schemas.ensures)
+
+pub tested::is_some_met-is_accepted_by-requires : goal.tested::is_some_met-is_accepted_by-requires
+tested::is_some_met-is_accepted_by-requires t c =
+    let s = view c.args.here.now.schema.now in
+    let same = alternative_known s kw.AnyOf c.args.schemas.now c.loop-index.index c.index-schemas-index.result c.known_listed-known.result
+    c.requires c.loop-index-test.true c.index-schemas-index.is (c.known_listed-known.ensures s c.args.here.now.same) in
+    search rules
+
+pub tested::count_accepting-is_accepted_by-requires : goal.tested::count_accepting-is_accepted_by-requires
+tested::count_accepting-is_accepted_by-requires t c =
+    let s = view c.args.here.now.schema.now in
+    let same = alternative_known s kw.OneOf c.args.schemas.now c.loop-index.index c.index-schemas-index.result c.known_listed-known.result
+    c.requires c.loop-index-test.true c.index-schemas-index.is (c.known_listed-known.ensures s c.args.here.now.same) in
+    search rules
 
 pub tested::is_some_met-returns-then-accepted : goal.tested::is_some_met-returns-then-accepted
 tested::is_some_met-returns-then-accepted t c g =
     let f = says c.args.walk g in
     let v = tree_of c.args.value.now in
     let vs = c.args.schemas.now in
-    let i = c.loop-schema.schema-index in
-    turn_stop (λ xs. some_accepts f (items_view xs) v) vs i true c.schema-item.result c.loop-schema-test.true c.schema-item.is
+    let i = c.loop-index.index in
+    turn_stop (λ xs. some_accepts f (items_view xs) v) vs i true c.index-schemas-index.result c.loop-index-test.true c.index-schemas-index.is
     (ap (λ b. b || some_accepts f (items_view (drop (i + 1) vs)) v) (sym (c.in_ok-accepted.ensures g) ∙ c.if-accepted.true))
-    (c.loop-schema.invariant g)
+    (c.loop-index.invariant g)
 
-pub tested::is_some_met-loop-schema-preserved : goal.tested::is_some_met-loop-schema-preserved
-tested::is_some_met-loop-schema-preserved t c g =
+pub tested::is_some_met-loop-index-preserved : goal.tested::is_some_met-loop-index-preserved
+tested::is_some_met-loop-index-preserved t c g =
     let f = says c.args.walk g in
     let v = tree_of c.args.value.now in
     let vs = c.args.schemas.now in
-    let i = c.loop-schema.schema-index in
-    turn_next (λ xs. some_accepts f (items_view xs) v) vs i c.schema-item.result c.loop-schema-test.true c.schema-item.is
+    let i = c.loop-index.index in
+    turn_next (λ xs. some_accepts f (items_view xs) v) vs i c.index-schemas-index.result c.loop-index-test.true c.index-schemas-index.is
     (ap (λ b. b || some_accepts f (items_view (drop (i + 1) vs)) v) (sym (c.in_ok-accepted.ensures g) ∙ c.if-accepted.false))
-    (c.loop-schema.invariant g)
+    (c.loop-index.invariant g)
 
 pub tested::is_some_met-returns : goal.tested::is_some_met-returns
 tested::is_some_met-returns t c g =
     let v = tree_of c.args.value.now in
-    sym (turn_end (λ xs. some_accepts (says c.args.walk g) (items_view xs) v) c.args.schemas.now c.loop-schema.schema-index false
-    c.loop-schema-test.false refl (c.loop-schema.invariant g))
+    sym (turn_end (λ xs. some_accepts (says c.args.walk g) (items_view xs) v) c.args.schemas.now c.loop-index.index false
+    c.loop-index-test.false refl (c.loop-index.invariant g))
 
 pub tested::is_one_met-returns : goal.tested::is_one_met-returns
 tested::is_one_met-returns t c g =
-    let rs = items_view c.args.schemas.now in
-    ap (λ n. n == 1) (c.in_ok-count.ensures g) ∙ sym (ap (λ b. not b || accepting (says c.args.walk g) rs (tree_of c.args.value.now) == 1)
-    (sym c.is_some_item.ensures ∙ c.if-not-is_some_item.false))
+    let f = says c.args.walk g in
+    let v = tree_of c.args.value.now in
+    let rs = items_view c.schemas_at-schemas.result.now in
+    ap (λ n. n == 1) (c.in_ok-count.ensures g)
+    ∙ (sym (ap (λ b. not b || accepting f rs v == 1) (sym c.is_some_item.ensures ∙ c.if-not-is_some_item.false))
+    ∙ ap (λ xs. one_of f xs v) c.schemas_at-schemas.ensures)
 
-pub tested::count_accepting-loop-schema-preserved : goal.tested::count_accepting-loop-schema-preserved
-tested::count_accepting-loop-schema-preserved t c =
+pub tested::count_accepting-loop-index-preserved : goal.tested::count_accepting-loop-index-preserved
+tested::count_accepting-loop-index-preserved t c =
     let v = tree_of c.args.value.now in
     let vs = c.args.schemas.now in
-    let i = c.loop-schema.schema-index in
-    let n = c.loop-schema.count in
-    let x = c.schema-item.result in
+    let i = c.loop-index.index in
+    let n = c.loop-index.count in
+    let x = c.index-schemas-index.result in
     elim c.if-accepted.branch [
       | tested::count_accepting-then-accepted w ↦ (
-        omega (arith, w.count-is, c.loop-schema.invariant.0),
-        λ g. count_next (λ xs. accepting (says c.args.walk g) (items_view xs) v) vs i n x 1 c.if-accepted.count c.loop-schema-test.true
-            c.schema-item.is (ap (λ b. cond b 1 0 + accepting (says c.args.walk g) (items_view (drop (i + 1) vs)) v)
-            (sym (c.in_ok-accepted.ensures g) ∙ w.if-accepted.true)) w.count-is (c.loop-schema.invariant.1 g),
+        omega (arith, w.count-is, c.loop-index.invariant.0),
+        λ g. count_next (λ xs. accepting (says c.args.walk g) (items_view xs) v) vs i n x 1 c.if-accepted.count c.loop-index-test.true
+            c.index-schemas-index.is (ap (λ b. cond b 1 0 + accepting (says c.args.walk g) (items_view (drop (i + 1) vs)) v)
+            (sym (c.in_ok-accepted.ensures g) ∙ w.if-accepted.true)) w.count-is (c.loop-index.invariant.1 g),
       )
       | tested::count_accepting-else-accepted w ↦ (
-        omega (arith, w.count-is, c.loop-schema.invariant.0),
-        λ g. count_next (λ xs. accepting (says c.args.walk g) (items_view xs) v) vs i n x 0 c.if-accepted.count c.loop-schema-test.true
-            c.schema-item.is (ap (λ b. cond b 1 0 + accepting (says c.args.walk g) (items_view (drop (i + 1) vs)) v)
-            (sym (c.in_ok-accepted.ensures g) ∙ w.if-accepted.false)) (omega (arith, w.count-is)) (c.loop-schema.invariant.1 g),
+        omega (arith, w.count-is, c.loop-index.invariant.0),
+        λ g. count_next (λ xs. accepting (says c.args.walk g) (items_view xs) v) vs i n x 0 c.if-accepted.count c.loop-index-test.true
+            c.index-schemas-index.is (ap (λ b. cond b 1 0 + accepting (says c.args.walk g) (items_view (drop (i + 1) vs)) v)
+            (sym (c.in_ok-accepted.ensures g) ∙ w.if-accepted.false)) (omega (arith, w.count-is)) (c.loop-index.invariant.1 g),
       )
     ]
 
 pub tested::count_accepting-returns : goal.tested::count_accepting-returns
 tested::count_accepting-returns t c g =
     let v = tree_of c.args.value.now in
-    count_end (λ xs. accepting (says c.args.walk g) (items_view xs) v) c.args.schemas.now c.loop-schema.schema-index c.loop-schema.count
-    c.loop-schema-test.false refl (c.loop-schema.invariant.1 g)
+    count_end (λ xs. accepting (says c.args.walk g) (items_view xs) v) c.args.schemas.now c.loop-index.index c.loop-index.count
+    c.loop-index-test.false refl (c.loop-index.invariant.1 g)
 
 pub tested::are_names_met-returns-in_ok-accepted-in-Some : goal.tested::are_names_met-returns-in_ok-accepted-in-Some
 tested::are_names_met-returns-in_ok-accepted-in-Some t c g =
@@ -1076,8 +1105,12 @@ unevaluated::add_listed-loop-schema-preserved t c = (
       (c.in_ok-add_schema.ensures.evaluated g k) (c.loop-schema.invariant.0 g k),
   λ n h k. c.in_ok-add_schema.ensures.within n h (c.loop-schema.invariant.1 n h k),
   λ root s n lead q. c.in_ok-add_schema.ensures.reached root s n
-      (λ h. lead (c.loop-schema.schema-index, view c.schema-item.result,
-      nth_item c.args.schemas.now c.loop-schema.schema-index c.schema-item.result c.loop-schema-test.true c.schema-item.is, h))
+      (λ h. lead (
+        c.loop-schema.schema-index,
+        view c.schema-item.result,
+        nth_item c.args.schemas.now c.loop-schema.schema-index c.schema-item.result c.loop-schema-test.true c.schema-item.is,
+        h,
+      ))
       (c.loop-schema.invariant.2 root s n lead q),
 )
 
@@ -1093,8 +1126,12 @@ unevaluated::add_accepting-loop-schema-preserved t c = (
       (c.in_ok-add_if_accepting.ensures.evaluated g k) (c.loop-schema.invariant.0 g k),
   λ n h k. c.in_ok-add_if_accepting.ensures.within n h (c.loop-schema.invariant.1 n h k),
   λ root s n lead q. c.in_ok-add_if_accepting.ensures.reached root s n
-      (λ h. lead (c.loop-schema.schema-index, view c.schema-item.result,
-      nth_item c.args.schemas.now c.loop-schema.schema-index c.schema-item.result c.loop-schema-test.true c.schema-item.is, h))
+      (λ h. lead (
+        c.loop-schema.schema-index,
+        view c.schema-item.result,
+        nth_item c.args.schemas.now c.loop-schema.schema-index c.schema-item.result c.loop-schema-test.true c.schema-item.is,
+        h,
+      ))
       (c.loop-schema.invariant.2 root s n lead q),
 )
 
@@ -1337,6 +1374,12 @@ violation_of-returns-in_err-found-6 t c =
 pub is_accepted-returns-in_err-found : goal.is_accepted-returns-in_err-found
 is_accepted-returns-in_err-found t c =
     raised _ _ c.in_err-found.field-0.0 c.from_residual.result c.from_residual.ensures.1 c.in_err-found.ensures
+
+pub is_accepted_by-returns-in_err-found : goal.is_accepted_by-returns-in_err-found
+is_accepted_by-returns-in_err-found t c =
+    let v = tree_of c.args.value.now in
+    raised _ _ c.in_err-found.field-0.0 c.from_residual.result c.from_residual.ensures.1
+    (subst (λ s. IfDeep c.in_err-found.field-0.0 (Descends c.args.walk s v)) c.by-part.ensures c.in_err-found.ensures)
 
 pub in_all_of-returns-in_err-found : goal.in_all_of-returns-in_err-found
 in_all_of-returns-in_err-found t c =
@@ -1620,7 +1663,7 @@ tested::unmet_test-returns-in_err-any t c =
     let v = tree_of c.args.value.now in
     raised _ _ c.in_err-any.field-0.0 c.from_residual.result c.from_residual.ensures.1
     (if_deep c.in_err-any.field-0.0
-    (of_list w s v kw.AnyOf (items_view c.schemas_at.result.now) refl c.schemas_at.ensures)
+    (of_list w s v kw.AnyOf (schemas_at s kw.AnyOf) refl refl)
     c.in_err-any.ensures)
 
 pub tested::unmet_test-returns-in_err-one : goal.tested::unmet_test-returns-in_err-one
@@ -1630,7 +1673,7 @@ tested::unmet_test-returns-in_err-one t c =
     let v = tree_of c.args.value.now in
     raised _ _ c.in_err-one.field-0.0 c.from_residual-in_err-one.result c.from_residual-in_err-one.ensures.1
     (if_deep c.in_err-one.field-0.0
-    (of_list w s v kw.OneOf (items_view c.schemas_at-2.result.now) refl c.schemas_at-2.ensures)
+    (of_list w s v kw.OneOf (schemas_at s kw.OneOf) refl refl)
     c.in_err-one.ensures)
 
 pub tested::unmet_test-returns-in_err-other : goal.tested::unmet_test-returns-in_err-other
@@ -1657,30 +1700,34 @@ tested::unmet_count-returns-in_err-least t c =
 
 pub tested::is_any_met-returns-in_err-accepted : goal.tested::is_any_met-returns-in_err-accepted
 tested::is_any_met-returns-in_err-accepted t c =
-    raised _ _ c.in_err-accepted.field-0.0 c.from_residual.result c.from_residual.ensures.1 c.in_err-accepted.ensures
+    raised _ _ c.in_err-accepted.field-0.0 c.from_residual.result c.from_residual.ensures.1
+    (subst (λ rs. IfDeep c.in_err-accepted.field-0.0 (DescendsAmong c.args.walk rs (tree_of c.args.value.now))) c.schemas_at-schemas.ensures
+    c.in_err-accepted.ensures)
 
 pub tested::is_some_met-returns-in_err-accepted : goal.tested::is_some_met-returns-in_err-accepted
 tested::is_some_met-returns-in_err-accepted t c =
     let vs = c.args.schemas.now in
-    let i = c.loop-schema.schema-index in
-    let x = c.schema-item.result in
+    let i = c.loop-index.index in
+    let x = c.index-schemas-index.result in
     raised _ _ c.in_err-accepted.field-0.0 c.from_residual.result c.from_residual.ensures.1
     (if_deep c.in_err-accepted.field-0.0
-    (λ h. (i, view x, nth_item vs i x c.loop-schema-test.true c.schema-item.is, h))
+    (λ h. (i, view x, nth_item vs i x c.loop-index-test.true c.index-schemas-index.is, h))
     c.in_err-accepted.ensures)
 
 pub tested::is_one_met-returns-in_err-count : goal.tested::is_one_met-returns-in_err-count
 tested::is_one_met-returns-in_err-count t c =
-    raised _ _ c.in_err-count.field-0.0 c.from_residual.result c.from_residual.ensures.1 c.in_err-count.ensures
+    raised _ _ c.in_err-count.field-0.0 c.from_residual.result c.from_residual.ensures.1
+    (subst (λ rs. IfDeep c.in_err-count.field-0.0 (DescendsAmong c.args.walk rs (tree_of c.args.value.now))) c.schemas_at-schemas.ensures
+    c.in_err-count.ensures)
 
 pub tested::count_accepting-returns-in_err-accepted : goal.tested::count_accepting-returns-in_err-accepted
 tested::count_accepting-returns-in_err-accepted t c =
     let vs = c.args.schemas.now in
-    let i = c.loop-schema.schema-index in
-    let x = c.schema-item.result in
+    let i = c.loop-index.index in
+    let x = c.index-schemas-index.result in
     raised _ _ c.in_err-accepted.field-0.0 c.from_residual.result c.from_residual.ensures.1
     (if_deep c.in_err-accepted.field-0.0
-    (λ h. (i, view x, nth_item vs i x c.loop-schema-test.true c.schema-item.is, h))
+    (λ h. (i, view x, nth_item vs i x c.loop-index-test.true c.index-schemas-index.is, h))
     c.in_err-accepted.ensures)
 
 pub tested::is_not_met-returns-in_err-accepted-in-Some : goal.tested::is_not_met-returns-in_err-accepted-in-Some

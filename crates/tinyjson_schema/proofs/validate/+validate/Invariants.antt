@@ -21,6 +21,9 @@ decreases-violation_of l = 16 * l.walk.steps + 6
 abbrev pub decreases-is_accepted : goal.decreases-is_accepted
 decreases-is_accepted l = 16 * l.walk.steps + 8
 
+abbrev pub decreases-is_accepted_by : goal.decreases-is_accepted_by
+decreases-is_accepted_by l = 16 * l.walk.steps + 8
+
 abbrev pub decreases-tested::unmet_test : goal.decreases-tested::unmet_test
 decreases-tested::unmet_test l = 16 * l.walk.steps + 15
 
@@ -84,14 +87,14 @@ decreases-in_members l = 16 * l.walk.steps + 11
 abbrev pub decreases-in_items : goal.decreases-in_items
 decreases-in_items l = 16 * l.walk.steps + 11
 
-abbrev pub invariant-tested::is_some_met-loop-schema : goal.invariant-tested::is_some_met-loop-schema
-invariant-tested::is_some_met-loop-schema l = (g : Answers) →
-    some_accepts (says l.walk g) (items_view (drop l.schema-index l.schemas)) (tree_of l.value)
+abbrev pub invariant-tested::is_some_met-loop-index : goal.invariant-tested::is_some_met-loop-index
+invariant-tested::is_some_met-loop-index l = (g : Answers) →
+    some_accepts (says l.walk g) (items_view (drop l.index l.schemas)) (tree_of l.value)
     ≡ some_accepts (says l.walk g) (items_view l.schemas) (tree_of l.value)
 
-abbrev pub invariant-tested::count_accepting-loop-schema : goal.invariant-tested::count_accepting-loop-schema
-invariant-tested::count_accepting-loop-schema l = (l.count ≤ l.schema-index)
-    × ((g : Answers) → l.count + accepting (says l.walk g) (items_view (drop l.schema-index l.schemas)) (tree_of l.value)
+abbrev pub invariant-tested::count_accepting-loop-index : goal.invariant-tested::count_accepting-loop-index
+invariant-tested::count_accepting-loop-index l = (l.count ≤ l.index)
+    × ((g : Answers) → l.count + accepting (says l.walk g) (items_view (drop l.index l.schemas)) (tree_of l.value)
     ≡ accepting (says l.walk g) (items_view l.schemas) (tree_of l.value))
 
 abbrev pub invariant-tested::are_keys_met-loop-member : goal.invariant-tested::are_keys_met-loop-member

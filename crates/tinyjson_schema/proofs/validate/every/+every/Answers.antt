@@ -102,7 +102,7 @@ add_violations-returns-in_err-inner t c =
     let w = c.args.walk in
     let s = view c.args.schema.now in
     let v = tree_of c.args.value.now in
-    raised _ _ c.in_err-inner.field-0.0 c.from_residual.result c.from_residual.ensures.1 
+    raised _ _ c.in_err-inner.field-0.0 c.from_residual.result c.from_residual.ensures.1
     (if_deep c.in_err-inner.field-0.0
     (at_last w s v)
     c.in_err-inner.ensures)
@@ -124,7 +124,7 @@ add_violations-returns-in_err-add_tests t c =
     let w = c.args.walk in
     let s = view c.args.schema.now in
     let v = tree_of c.args.value.now in
-    raised _ _ c.in_err-add_tests.field-0.0 c.from_residual-in_err-add_tests.result c.from_residual-in_err-add_tests.ensures.1 
+    raised _ _ c.in_err-add_tests.field-0.0 c.from_residual-in_err-add_tests.result c.from_residual-in_err-add_tests.ensures.1
     (if_deep c.in_err-add_tests.field-0.0
     (one_deeper w c.in_ok-inner.inner c.in_ok-inner.ensures s v)
     c.in_err-add_tests.ensures)
@@ -134,7 +134,7 @@ add_violations-returns-in_err-uses t c =
     let w = c.args.walk in
     let s = view c.args.schema.now in
     let v = tree_of c.args.value.now in
-    raised _ _ c.in_err-uses.field-0.0 c.from_residual-in_err-uses.result c.from_residual-in_err-uses.ensures.1 
+    raised _ _ c.in_err-uses.field-0.0 c.from_residual-in_err-uses.result c.from_residual-in_err-uses.ensures.1
     (if_deep c.in_err-uses.field-0.0
     (one_deeper w c.in_ok-inner.inner c.in_ok-inner.ensures s v)
     c.in_err-uses.ensures)
@@ -149,7 +149,7 @@ add_violations-returns-in_err-add_further t c =
     let applied : AreApplied (root_tree inner) s v (map use_of c.as_slice-2.result.now)
     = subst (AreApplied (root_tree inner) s v) (sym (ap (map use_of) c.as_slice-2.ensures.value ∙ c.in_ok-uses.ensures g))
     (applied_by (root_tree inner) c.args.schema.now c.args.value.now (answers_in inner g)) in
-    raised _ _ c.in_err-add_further.field-0.0 c.from_residual-in_err-add_further.result c.from_residual-in_err-add_further.ensures.1 
+    raised _ _ c.in_err-add_further.field-0.0 c.from_residual-in_err-add_further.result c.from_residual-in_err-add_further.ensures.1
     (if_deep c.in_err-add_further.field-0.0
     (λ h. one_deeper w inner c.in_ok-inner.ensures s v (h s v applied))
     c.in_err-add_further.ensures)
@@ -165,7 +165,7 @@ add_further-returns-in_err-extend_from_slice t c =
 pub add_further-returns-in_err-add_violations : goal.add_further-returns-in_err-add_violations
 add_further-returns-in_err-add_violations t c =
     let w = c.args.walk in
-    raised _ _ c.in_err-add_violations.field-0.0 c.from_residual-in_err-add_violations.result c.from_residual-in_err-add_violations.ensures.1 
+    raised _ _ c.in_err-add_violations.field-0.0 c.from_residual-in_err-add_violations.result c.from_residual-in_err-add_violations.ensures.1
     (if_deep c.in_err-add_violations.field-0.0
     (λ h s v a. within (pending_applied (root_tree w) s v c.args.pending.now c.loop-used.used-index c.used-item.result a
     c.loop-used-test.true c.used-item.is) h)

@@ -2,13 +2,13 @@ use Rattle.std.proofs.Common.{◌∷◌, [], ◌∙◌, ap}
 use Rattle.tinyjson.specs.View.{view}
 use Rattle.tinyjson_view.specs.Views.{tree_of}
 use Rattle.tinyjson_schema_keywords.specs.declared.keyword.Keyword.TheVariants as kw
-use Rattle.tinyjson_schema.specs.Applicators.{applies, counts, contains_some, contains_at_most, contains_at_least, any_of, one_of}
+use Rattle.tinyjson_schema.specs.Applicators.{applies, counts, contains_some, contains_at_most, contains_at_least}
 use Rattle.tinyjson_schema.specs.Valid.{says}
 use Rattle.tinyjson_schema_keywords.specs.declared.keyword.Keyword.{Keyword}
 use Rattle.tinyjson_schema.proofs.Adding.{failing_next, failing_end}
 use Rattle.tinyjson_schema.specs.declared.walk.CheckError.TheVariants.{OutOfMemory}
 use Rattle.std.proofs.Common.{refl}
-use Rattle.tinyjson.specs.View.{items_view}
+use Rattle.tinyjson_schema_keywords.specs.Applied.{schemas_at}
 use Rattle.tinyjson_schema.proofs.Deep.{if_deep, of_list, raised}
 use Rattle.tinyjson_schema.proofs.validate.every.add_tests.Goals as goal
 
@@ -20,9 +20,9 @@ returns c g =
     let v = tree_of c.args.value.now in
     let q = λ (k : Keyword). applies f k s v in
     failing_next q kw.AnyOf (kw.OneOf ∷ kw.Not ∷ kw.PropertyNames ∷ counts) _ _ _ _
-    (c.in_ok-any.ensures g ∙ ap (λ rs. any_of f rs v) c.schemas_at.ensures) c.in_ok-add_unless.ensures
+    (c.in_ok-any.ensures g) c.in_ok-add_unless.ensures
     (failing_next q kw.OneOf (kw.Not ∷ kw.PropertyNames ∷ counts) _ _ _ _
-    (c.in_ok-one.ensures g ∙ ap (λ rs. one_of f rs v) c.schemas_at-2.ensures) c.in_ok-add_unless-2.ensures
+    (c.in_ok-one.ensures g) c.in_ok-add_unless-2.ensures
     (failing_next q kw.Not (kw.PropertyNames ∷ counts) _ _ _ _ (c.in_ok-other.ensures g) c.in_ok-add_unless-3.ensures
     (failing_next q kw.PropertyNames counts _ _ _ _ (c.in_ok-names.ensures g) c.in_ok-add_unless-4.ensures
     (failing_next q kw.Contains (kw.MaxContains ∷ kw.MinContains ∷ []) _ _ _ _
@@ -37,9 +37,9 @@ returns-in_err-any c =
     let w = c.args.walk in
     let s = view c.args.here.now.schema.now in
     let v = tree_of c.args.value.now in
-    raised _ _ c.in_err-any.field-0.0 c.from_residual.result c.from_residual.ensures.1 
+    raised _ _ c.in_err-any.field-0.0 c.from_residual.result c.from_residual.ensures.1
     (if_deep c.in_err-any.field-0.0
-    (of_list w s v kw.AnyOf (items_view c.schemas_at.result.now) refl c.schemas_at.ensures)
+    (of_list w s v kw.AnyOf (schemas_at s kw.AnyOf) refl refl)
     c.in_err-any.ensures)
 
 pub returns-in_err-add_unless : goal.returns-in_err-add_unless
@@ -51,9 +51,9 @@ returns-in_err-one c =
     let w = c.args.walk in
     let s = view c.args.here.now.schema.now in
     let v = tree_of c.args.value.now in
-    raised _ _ c.in_err-one.field-0.0 c.from_residual-in_err-one.result c.from_residual-in_err-one.ensures.1 
+    raised _ _ c.in_err-one.field-0.0 c.from_residual-in_err-one.result c.from_residual-in_err-one.ensures.1
     (if_deep c.in_err-one.field-0.0
-    (of_list w s v kw.OneOf (items_view c.schemas_at-2.result.now) refl c.schemas_at-2.ensures)
+    (of_list w s v kw.OneOf (schemas_at s kw.OneOf) refl refl)
     c.in_err-one.ensures)
 
 pub returns-in_err-add_unless-2 : goal.returns-in_err-add_unless-2

@@ -43,7 +43,7 @@ returns c g =
 
 pub returns-in_err-accepted : goal.returns-in_err-accepted
 returns-in_err-accepted c =
-    raised _ _ c.in_err-accepted.field-0.0 c.from_residual.result c.from_residual.ensures.1 
+    raised _ _ c.in_err-accepted.field-0.0 c.from_residual.result c.from_residual.ensures.1
     (if_deep c.in_err-accepted.field-0.0
     (λ h. within (by_if (sym c.in-Some.ensures)) h)
     c.in_err-accepted.ensures)

@@ -32,7 +32,7 @@ pub returns-in_err-evaluated : goal.returns-in_err-evaluated
 returns-in_err-evaluated c =
     let i = c.loop-index.index in
     let x = c.index-items-index.result in
-    raised _ _ c.in_err-evaluated.field-0.0 c.from_residual.result c.from_residual.ensures.1 
+    raised _ _ c.in_err-evaluated.field-0.0 c.from_residual.result c.from_residual.ensures.1
     (if_deep c.in_err-evaluated.field-0.0
     (λ h root s t n e q. h root s t n
     (ap (λ us. nth us i) e ∙ nth_tree c.args.items.now i x c.loop-index-test.true c.index-items-index.is) q)

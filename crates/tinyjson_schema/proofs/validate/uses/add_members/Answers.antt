@@ -18,7 +18,6 @@ pub returns : goal.returns
 returns c = gather_end (λ xs. member_uses (view c.args.here.now.schema.now) (members_of xs)) c.args.members.now
     c.loop-member.member-index _ _ c.loop-member-test.false refl c.loop-member.invariant
 
-
 pub returns-in_err-add_member : goal.returns-in_err-add_member
 returns-in_err-add_member c =
     raised _ _ c.in_err-add_member.field-0.0 c.from_residual.result c.from_residual.ensures.1 c.in_err-add_member.ensures

@@ -45,7 +45,7 @@ returns-in_err-add_left_items c =
     let w = c.args.walk in
     let s = view c.args.here.now.schema.now in
     let v = tree_of c.args.value.now in
-    raised _ _ c.in_err-add_left_items.field-0.0 c.from_residual-in_err-add_left_items.result c.from_residual-in_err-add_left_items.ensures.1 
+    raised _ _ c.in_err-add_left_items.field-0.0 c.from_residual-in_err-add_left_items.result c.from_residual-in_err-add_left_items.ensures.1
     (if_deep c.in_err-add_left_items.field-0.0
     (λ h. h (root_tree w) s v (suc w.steps) (sym c.requires)
     (subst (AreReached (root_tree w) (suc w.steps) s v) (sym c.as_slice.ensures.value) c.in_ok-sources.ensures.reached))
