@@ -21,7 +21,7 @@ root_tree w = view w.ground.now.whole.now.root.now
 abbrev pub Descends : Walk → Tree → Tree → Type 0
 Descends w r u = Nests (root_tree w) w.steps r u
 
--- The same of a schema that s applies, where the walk is for these.
+-- as `Descends`, of a schema that s applies, where the walk is for these
 abbrev pub DescendsIn : Walk → Tree → Tree → Type 0
 DescendsIn w s t = Nests (root_tree w) (suc w.steps) s t
 
