@@ -11,12 +11,11 @@ use Rattle.tinyjson.specs.Numeral.{power_width}
 use Rattle.tinyjson.specs.Tree.{Tree, array, object, Items, no_items, item, Members, no_members, member, find}
 use Rattle.tinyjson.specs.View.{view}
 use Rattle.tinyjson.specs.declared.value.JsonValue.{JsonValue}
-use Rattle.tinyjson.proofs.Callers.{view_IsTree}
+use Rattle.tinyjson.proofs.Callers.{find_below, found_first, some_none, view_IsTree}
 use Rattle.tinyjson_view.proofs.Callers.{sorted_in, value_sound}
 use Rattle.tinyjson_view.specs.Views.{tree_of}
 use Rattle.tinyjson_view.specs.declared.view.ValueView.{ValueView}
-use Rattle.tinyjson_grammar.proofs.Callers.{find_below, found_first, some_none}
-use Rattle.tinyjson_grammar.specs.Soundness.{IsTree, IsSorted, AreMembersAt}
+use Rattle.tinyjson.specs.Soundness.{IsTree, IsSorted, AreMembersAt}
 use Rattle.tinyjson_schema.specs.Applicators.{Judge}
 use Rattle.tinyjson_schema.specs.Deep.{Descends, DescendsIn, root_tree}
 use Rattle.tinyjson_schema.specs.Evaluated.{Answers, Child, member_at, item_at, others_evaluate}
