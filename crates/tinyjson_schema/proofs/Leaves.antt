@@ -14,10 +14,10 @@ use Rattle.tinyjson_schema_keywords.specs.declared.keyword.Keyword.TheVariants a
 use Rattle.tinyjson_schema_assertions.specs.Assertions.{meets_all, assertions, IsUnmet}
 use Rattle.tinyjson_schema.specs.Applicators.{Judge, all_accept, any_of, one_of, keys_pass, items_passing, is_zero, contained}
 use Rattle.tinyjson_schema.specs.Applicators.{contains_some, contains_at_most, contains_at_least, branch_accepts, dependents_accept}
-use Rattle.tinyjson_schema.specs.Applicators.{patterns_accept, applies, apply_all, tests, members_accepted, items_accepted, parts_accepted}
+use Rattle.tinyjson_schema.specs.Applicators.{patterns_accept, applies, apply_all, tests, demands, members_accepted, items_accepted, parts_accepted}
 use Rattle.tinyjson_schema.specs.Evaluated.{Answers, rest_accepted}
 use Rattle.tinyjson_schema.specs.Parts.{member_schema, item_schema}
-use Rattle.tinyjson_schema.specs.Marks.{TestsNothing, AppliesNothing}
+use Rattle.tinyjson_schema.specs.Marks.{TestsNothing, DemandsNothing, RefersNowhere, AppliesNothing}
 use Rattle.tinyjson_schema.specs.Valid.{Decides, IsInvalidAt, refuses_all, reference_accepts, root_of, says, answers_in}
 use Rattle.tinyjson_schema.specs.Valid.{refused, unmet}
 use Rattle.tinyjson_schema.specs.Walks.{IsDeeper}
@@ -60,6 +60,30 @@ module _ (f : Judge) (s t : Tree) (none : TestsNothing s) where
   pub untested : apply_all f tests s t ≡ true
   untested = λ i. any_free i && (one_free i && (not_free i && (names_free i && (some_free i && (most_free i && (least_free i && true))))))
 
+-- the keywords whose violations are within a schema
+module _ (f : Judge) (s t : Tree) (none : DemandsNothing s) where
+  all_free : applies f kw.AllOf s t ≡ true
+  all_free = ap (λ o. all_accept f (option_map_or items_in o no_items) t) none.all_of
+
+  if_free : applies f kw.If s t ≡ true
+  if_free = ap (λ o. option_map_or (λ r. branch_accepts f s t (f r t)) o true) none.if_of
+
+  dependents_free : applies f kw.DependentSchemas s t ≡ true
+  dependents_free = ap (λ o. dependents_accept f (option_map_or members_in o no_members) t) none.dependents
+
+  patterns_free : applies f kw.PatternProperties s t ≡ true
+  patterns_free = ap (λ o. patterns_accept f (option_map_or members_in o no_members) (members_in t)) none.patterns
+
+  pub undemanded : apply_all f demands s t ≡ true
+  undemanded = λ i. all_free i && (if_free i && (dependents_free i && (patterns_free i && true)))
+
+-- the references
+pub unreferred : (root : Tree) (f : Judge) (s t : Tree) → RefersNowhere s → reference_accepts root f s t ≡ true
+unreferred root f s t none =
+    let plain = no_reference root f s t kw.Ref (sym (ap (option_and_then (target root)) none.reference)) in
+    let dynamic = no_reference root f s t kw.DynamicRef (sym (ap (option_and_then (target root)) none.dynamic)) in
+    λ i. plain i && dynamic i
+
 -- the other keywords
 module _ (s : Tree) (none : AppliesNothing s) where
   member_free_at : (k : List ℕ) → member_schema s k ≡ None
@@ -87,23 +111,14 @@ module _ (s : Tree) (none : AppliesNothing s) where
   rest_free root a (array us) = no_item_rest root a s us (sym none.items_left)
   rest_free root a _ = refl
 
-  references_free : (root : Tree) (f : Judge) (t : Tree) → reference_accepts root f s t ≡ true
-  references_free root f t =
-      let plain = no_reference root f s t kw.Ref (sym (ap (option_and_then (target root)) none.reference)) in
-      let dynamic = no_reference root f s t kw.DynamicRef (sym (ap (option_and_then (target root)) none.dynamic)) in
-      λ i. plain i && dynamic i
-
   -- its assertions decide
   pub decided_alone : (w : Walk) (t : Tree) → refuses_all s ≡ false → meets_all (assertions w.ground.now.formats) s t ≡ true
       → Decides (root_of w) (suc w.steps) s t (Ok None)
   decided_alone w t a b =
       let root = view w.ground.now.whole.now.root.now in
       last_found w s t (Ok None) a b (λ g. untested (says w g) s t none.tests)
-      (λ g. ap (λ o. all_accept (says w g) (option_map_or items_in o no_items) t) none.all_of)
-      (λ g. ap (λ o. option_map_or (λ r. branch_accepts (says w g) s t (says w g r t)) o true) none.if_of)
-      (λ g. ap (λ o. dependents_accept (says w g) (option_map_or members_in o no_members) t) none.dependents)
-      (λ g. ap (λ o. patterns_accept (says w g) (option_map_or members_in o no_members) (members_in t)) none.patterns)
-      (λ g. references_free root (says w g) t)
+      (λ g. undemanded (says w g) s t none.demands)
+      (λ g. unreferred root (says w g) s t none.references)
       (λ g. parts_free (says w g) t)
       (λ g. rest_free root (answers_in w g) t)
 

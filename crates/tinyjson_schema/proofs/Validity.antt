@@ -434,23 +434,21 @@ last_tested w s t (Err e) a h = h
 -- the last step of the check
 pub last_found : (w : Walk) (s t : Tree) (x : Result (Option Violation) CheckError)
     → refuses_all s ≡ false → meets_all (assertions w.ground.now.formats) s t ≡ true → ((g : Answers) → apply_all (says w g) tests s t ≡ true)
-    → ((g : Answers) → applies (says w g) kw.AllOf s t ≡ true) → ((g : Answers) → applies (says w g) kw.If s t ≡ true)
-    → ((g : Answers) → applies (says w g) kw.DependentSchemas s t ≡ true)
-    → ((g : Answers) → applies (says w g) kw.PatternProperties s t ≡ true)
+    → ((g : Answers) → apply_all (says w g) demands s t ≡ true)
     → ((g : Answers) → reference_accepts (view w.ground.now.whole.now.root.now) (says w g) s t ≡ true)
     → ((g : Answers) → parts_accepted (says w g) s t ≡ true)
     → FindsRest w s t x → Decides (root_of w) (suc w.steps) s t x
-last_found w s t (Ok None) a b c d e k p r l h = λ g. valid_from (root_of w) (answers_in w g) s t (record {
+last_found w s t (Ok None) a b c d r l h = λ g. valid_from (root_of w) (answers_in w g) s t (record {
   accepted = a;
   asserted = b;
   tested = c g;
-  demanded = λ i. d g i && (e g i && (k g i && (p g i && true)));
+  demanded = d g;
   referred = r g;
   parts = l g;
   rest = h g;
 })
-last_found w s t (Ok (Some v)) a b c d e k p r l h = h
-last_found w s t (Err x) a b c d e k p r l h = h
+last_found w s t (Ok (Some v)) a b c d r l h = h
+last_found w s t (Err x) a b c d r l h = h
 
 pub same_root : (w inner : Walk) → IsDeeper w inner → root_of inner ≡ root_of w
 same_root w inner d = λ i. record { tree = view (d.0 i).now.whole.now.root.now; formats = (d.0 i).now.formats }
@@ -493,6 +491,15 @@ reference_met root f s t r k e h = ap (λ o. option_map_or (λ q. f q t) o true)
 
 pub no_reference : (root : Tree) (f : Judge) (s t : Tree) (k : Keyword) → None ≡ referenced root k s → target_accepts root k f s t ≡ true
 no_reference root f s t k e = ap (λ o. option_map_or (λ q. f q t) o true) (sym e)
+
+-- the last of these keywords is met, or not
+pub last_demanded : (w : Walk) (s t : Tree) (x : Result (Option Violation) CheckError)
+    → ((g : Answers) → applies (says w g) kw.AllOf s t ≡ true) → ((g : Answers) → applies (says w g) kw.If s t ≡ true)
+    → ((g : Answers) → applies (says w g) kw.DependentSchemas s t ≡ true)
+    → Finds w (λ f. applies f kw.PatternProperties s t) s t x → Finds w (λ f. apply_all f demands s t) s t x
+last_demanded w s t (Ok None) a b c h = λ g i. a g i && (b g i && (c g i && (h g i && true)))
+last_demanded w s t (Ok (Some v)) a b c h = h
+last_demanded w s t (Err e) a b c h = h
 
 -- the second of the references is met, or not
 pub both_met : (w : Walk) (s t : Tree) (x : Result (Option Violation) CheckError)

@@ -9,7 +9,8 @@ ghost use Rattle.tinyjson_schema_keywords.specs.References.{referenced};
 ghost use Rattle.tinyjson_schema_keywords.specs.declared.keyword.Keyword.{Keyword};
 ghost use Rattle.tinyjson_schema_table.specs.Marks.{mark, HasMarks};
 ghost use Rattle.tinyjson_schema_table.specs.Places.{is_of};
-ghost use Rattle.tinyjson_schema.specs.Marks.{AppliesNothing, TestsNothing};
+ghost use Rattle.tinyjson_schema.specs.Marks.{AppliesNothing, DemandsNothing, RefersNowhere};
+ghost use Rattle.tinyjson_schema.specs.Marks.{TestsNothing};
 
 use crate::leads::led;
 use crate::walk::Walk;
@@ -23,6 +24,12 @@ const APPLICATORS: u64 = 0x4841_0140_7029_0051;
 
 /// The marks of those among them that only accept or reject.
 const TESTING: u64 = 0x4840_0000_0020_0040;
+
+/// The marks of those that apply schemas to the value itself, or by patterns, and whose violations are in these schemas.
+const DEMANDING: u64 = 0x6008_0001;
+
+/// The marks of references.
+const REFERRING: u64 = 0x0100_0001_0000;
 
 /// A schema that is applied, and the marks of its names. A keyword whose mark is not among these is not in the schema,
 /// so it is not looked up. A schema that is known is in a table, from which its subschemas are. It is passed by
@@ -99,6 +106,20 @@ impl<'s> Applied<'s> {
         ensures { result ≡ false → TestsNothing (view self.now.schema.now) }
     {
         self.may_have_some(TESTING)
+    }
+
+    /// Whether the schema may have `allOf`, `if`, `dependentSchemas` or `patternProperties`. If not, it has none.
+    pub fn may_demand(&self) -> bool
+        ensures { result ≡ false → DemandsNothing (view self.now.schema.now) }
+    {
+        self.may_have_some(DEMANDING)
+    }
+
+    /// Whether the schema may have a reference. If not, it has none.
+    pub fn may_refer(&self) -> bool
+        ensures { result ≡ false → RefersNowhere (view self.now.schema.now) }
+    {
+        self.may_have_some(REFERRING)
     }
 
     /// Whether it is known to have no more than one assertion.

@@ -8,15 +8,15 @@ ghost use Rattle.tinyjson_schema_assertions.specs.Assertions.{meets, IsUnmet, Is
 use crate::applied::Applied;
 use crate::walk::Walk;
 use std::alloc::AllocError;
-use tinyjson::JsonValue;
+use tinyjson::{JsonKind, JsonValue};
 use tinyjson_document::{JsonView, NumberView};
 use tinyjson_schema_assertions::accepts;
 use tinyjson_schema_keywords::Keyword;
 use tinyjson_schema_table::{assertions, unmet_given};
 use tinyjson_view::ValueView;
 
-/// One of the keywords that the schema has and the value violates, if there is one. A number in a document is read once
-/// for all keywords. Not inlined, since its frame takes 9 KB, and the recursion over schemas calls it at each level.
+/// One of the keywords that the schema has and the value violates, if there is one. Not inlined, since the recursion
+/// over schemas calls it at each level.
 #[inline(never)]
 pub fn unmet(
     here: &Applied<'_>,
@@ -29,6 +29,22 @@ pub fn unmet(
     if here.asserts_once() {
         return unmet_of(here, value, walk);
     }
+    match value.kind() {
+        JsonKind::Number => unmet_number(here, value, walk),
+        _ => unmet_of(here, value, walk),
+    }
+}
+
+/// `unmet` for a number. One in a document is read once for all keywords. Not inlined, since its frame takes 9 KB.
+#[inline(never)]
+fn unmet_number(
+    here: &Applied<'_>,
+    value: &ValueView<'_>,
+    walk: Walk<'_, '_>,
+) -> Result<Option<Keyword>, AllocError>
+    ensures { IfOk result (λ found. IsUnmet walk.entry.ground.now.formats
+        (view here.now.schema.now) (tree_of value.now) found) }
+{
     let Some(number) = value.number() else {
         return unmet_of(here, value, walk);
     };

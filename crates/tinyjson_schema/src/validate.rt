@@ -9,7 +9,8 @@ ghost use Rattle.std.specs.Str.{chars};
 ghost use Rattle.tinyjson_schema_keywords.specs.Applied.{members_in, schemas_at};
 ghost use Rattle.tinyjson_schema_keywords.specs.Names.{name};
 ghost use Rattle.tinyjson_schema_keywords.specs.declared.keyword.Keyword.TheVariants as kw;
-ghost use Rattle.tinyjson_schema.specs.Applicators.{all_accept, applies, dependents_accept};
+ghost use Rattle.tinyjson_schema.specs.Applicators.{all_accept, applies, apply_all, demands};
+ghost use Rattle.tinyjson_schema.specs.Applicators.{dependents_accept};
 ghost use Rattle.tinyjson_schema.specs.Applicators.{members_accepted, items_accepted};
 ghost use Rattle.tinyjson_schema.specs.Applicators.{parts_accepted};
 ghost use Rattle.tinyjson_schema.specs.Nested.{IfDeep};
@@ -100,16 +101,7 @@ fn violation_of(
     if let Some(keyword) = unmet_test(value, here, inner)? {
         return at_keyword(keyword, walk);
     }
-    if let Some(found) = in_all_of(value, here, inner)? {
-        return Ok(Some(found));
-    }
-    if let Some(found) = in_branch(value, here, inner)? {
-        return Ok(Some(found));
-    }
-    if let Some(found) = in_dependents(value, here, inner)? {
-        return Ok(Some(found));
-    }
-    if let Some(found) = in_patterned(value, here, inner)? {
+    if let Some(found) = in_demands(value, here, inner)? {
         return Ok(Some(found));
     }
     if let Some(found) = in_reference(value, here, inner)? {
@@ -203,6 +195,33 @@ fn is_accepted_alone(
     }
     let found = unmet(here, value, walk)?;
     Ok(found.is_none())
+}
+
+/// What the value violates of the schemas of `allOf`, `if`, `dependentSchemas` or `patternProperties`.
+#[cycle(validate)]
+#[inline(never)]
+fn in_demands(
+    value: &ValueView<'_>,
+    here: &Applied<'_>,
+    walk: Walk<'_, '_>,
+) -> Result<Option<Violation>, CheckError>
+    ensures { Finds walk.entry
+        (λ f. apply_all f demands (view here.now.schema.now) (tree_of value.now))
+        (view here.now.schema.now) (tree_of value.now) result }
+{
+    if !here.may_demand() {
+        return Ok(None);
+    }
+    if let Some(found) = in_all_of(value, here, walk)? {
+        return Ok(Some(found));
+    }
+    if let Some(found) = in_branch(value, here, walk)? {
+        return Ok(Some(found));
+    }
+    if let Some(found) = in_dependents(value, here, walk)? {
+        return Ok(Some(found));
+    }
+    in_patterned(value, here, walk)
 }
 
 /// What the value violates of a schema of `allOf`.
@@ -338,6 +357,9 @@ fn in_reference(
         (tree_of value.now))
         (view here.now.schema.now) (tree_of value.now) result }
 {
+    if !here.may_refer() {
+        return Ok(None);
+    }
     if let Some(found) = in_target(value, here, Keyword::Ref, walk)? {
         return Ok(Some(found));
     }

@@ -45,3 +45,11 @@ type_determined v s t a b c e f g h =
     ap (λ x. x || (b && c)) f ∙ (ap (λ x. bytes_eq (string_bytes s) (kind_name (kind_of t)) || (x && c)) g
     ∙ (ap (λ x. bytes_eq (string_bytes s) (kind_name (kind_of t)) || (bytes_eq (string_bytes s) (codes "integer") && x)) h
     ∙ sym (is_type_name v s t e)))
+
+-- each value of the kind with this name has the type
+pub named_kind : (v : JsonValue) (s : String Global) (xs : List ℕ) (k : JsonKind) → v ≡ is.String s → xs ≡ string_bytes s
+    → xs ≡ kind_name k → (t : Tree) → kind_of t ≡ k → is_type (view v) t ≡ true
+named_kind v s xs k e f g t h =
+    is_type_name v s t e
+    ∙ ap (λ b. b || (bytes_eq (string_bytes s) (codes "integer") && is_whole t))
+    ((bytes_eq-Decides (string_bytes s) (kind_name (kind_of t))).1 (sym f ∙ (g ∙ sym (ap kind_name h))))

@@ -7,8 +7,10 @@
 
 mod assertion;
 mod formats;
+mod kinds;
 mod multiple;
 mod unique;
 
 pub use assertion::{accepts, is_among, is_count_at_least, is_count_at_most};
 pub use formats::unknown_formats;
+pub use kinds::kind_met;

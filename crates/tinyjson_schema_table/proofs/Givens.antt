@@ -5,7 +5,7 @@ use Rattle.std.proofs.lemmas.Bool.{and_parts, and_from}
 use Rattle.std.proofs.lemmas.List.{get_or_default}
 use Rattle.tinyjson_schema_keywords.proofs.Callers.{drop_item}
 use Rattle.std.specs.Option.{option_map_or}
-use Rattle.tinyjson.specs.Equality.{tree_eq, tree_eq_Decides}
+use Rattle.tinyjson.specs.Equality.{tree_eq_Decides}
 use Rattle.tinyjson.specs.Tree.{Tree}
 use Rattle.tinyjson.specs.View.{view}
 use Rattle.tinyjson_schema_assertions.specs.Assertions.{accepts, meets, meets_all}

@@ -5,7 +5,6 @@ use Rattle.tinyjson.specs.Tree.{Tree}
 use Rattle.tinyjson_schema_keywords.specs.Applied.{schema_at}
 use Rattle.tinyjson_schema_keywords.specs.Names.{name}
 use Rattle.tinyjson_schema_keywords.specs.declared.keyword.Keyword.{Keyword}
-use Rattle.tinyjson_schema_keywords.specs.declared.keyword.Keyword.TheVariants as kw
 
 -- A number below 64 for a name, from its length and two of its bytes. It tells most keywords apart.
 abbrev pub mark : List ℕ → ℕ

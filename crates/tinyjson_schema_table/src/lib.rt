@@ -6,6 +6,7 @@
 //! ```
 #![tactic(auto)]
 
+mod constraints;
 mod given;
 mod known;
 mod link;
@@ -13,7 +14,8 @@ mod marks;
 mod shape;
 mod table;
 
-pub use given::{Given, assertions, unmet_given};
+pub use constraints::{assertions, unmet_given};
+pub use given::Given;
 pub use known::{known_item, known_listed, known_property};
 pub use marks::{mark_of, marks_of};
 pub use shape::Shape;

@@ -4,7 +4,8 @@ ghost use Rattle.tinyjson.specs.View.{view};
 ghost use Rattle.tinyjson_schema_table.specs.Givens.{are_had, AreAll};
 ghost use Rattle.tinyjson_schema_table.specs.Marks.{HasMarks};
 
-use crate::given::{Given, given_of};
+use crate::constraints::given_of;
+use crate::given::Given;
 use crate::marks::marks_of;
 use std::alloc::{AllocError, Global};
 use tinyjson::JsonValue;

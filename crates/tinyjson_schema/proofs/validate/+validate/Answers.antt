@@ -20,7 +20,7 @@ use Rattle.tinyjson_schema_keywords.specs.declared.keyword.Keyword.TheVariants a
 use Rattle.tinyjson_schema_keywords.proofs.Callers.{listed_found, turn_next, turn_stop, turn_end, count_next, count_end}
 use Rattle.tinyjson_schema_keywords.proofs.Callers.{nth_item}
 use Rattle.tinyjson_schema.specs.Applicators.{all_accept, dependents_accept, members_accepted, items_accepted, found_pass, patterns_accept}
-use Rattle.tinyjson_schema.specs.Applicators.{applies, parts_accepted, tests, contains_some, contains_at_most, contains_at_least, any_of}
+use Rattle.tinyjson_schema.specs.Applicators.{applies, apply_all, demands, parts_accepted, tests, contains_some, contains_at_most, contains_at_least, any_of}
 use Rattle.tinyjson_schema.specs.Applicators.{one_of, branch_accepts, some_accepts, accepting, keys_pass, passing, items_passing}
 use Rattle.tinyjson_schema.specs.Evaluated.{Answers, Child, member_at, item_at, value_of, others_evaluate, rest_accepted, members_pass}
 use Rattle.tinyjson_schema.specs.Evaluated.{some_evaluate, accepting_evaluate, branch_evaluates, dependents_evaluate, target_evaluates}
@@ -40,7 +40,7 @@ use Rattle.tinyjson_schema.specs.Valid.{answers_in, FindsRest, reference_accepts
 use Rattle.tinyjson_schema.specs.Valid.{unmet, not_applied, in_all_of, in_dependent, in_patterned, in_reference, in_part, IsInvalidAt}
 use Rattle.tinyjson_schema.specs.Valid.{FindsFound, Follows, root_of}
 use Rattle.tinyjson_schema.specs.declared.validate.unevaluated.Source.{Source}
-use Rattle.tinyjson_schema.proofs.Leaves.{decided_alone, untested}
+use Rattle.tinyjson_schema.proofs.Leaves.{decided_alone, untested, undemanded, unreferred}
 use Rattle.tinyjson_schema.proofs.Loops.{items_turn, items_end, item_passes, item_free, members_turn, member_passes, member_free, same_members}
 use Rattle.tinyjson_schema.proofs.Loops.{dependents_turn, dependent_passes, dependent_free, no_parts, found_holds, not_found, found_turn}
 use Rattle.tinyjson_schema.proofs.Sourcing.{adds_none, adds_both, adds_as, adds_turn, adds_end, within_pushed, within_at, schema_added}
@@ -48,7 +48,7 @@ use Rattle.tinyjson_schema.proofs.Sourcing.{inner_added, asking_added, branch_no
 use Rattle.tinyjson_schema.proofs.Sourcing.{no_target_added, left_turn, left_end, no_member_rest, no_item_rest, no_rest, members_found, items_found}
 use Rattle.tinyjson_schema.proofs.Sourcing.{evaluated_by, item_applied}
 use Rattle.tinyjson_schema.proofs.Validity.{reported, reported_there, flipped, verdict, placed, last_tested, last_found, before, no_branch, branch_met, branch_place}
-use Rattle.tinyjson_schema.proofs.Validity.{reference_met, no_reference, both_met}
+use Rattle.tinyjson_schema.proofs.Validity.{reference_met, no_reference, both_met, last_demanded}
 use Rattle.tinyjson_schema.proofs.validate.+validate.Goals.{in_dependents-then-has_key+in_ok-found+in_default, in_dependents-else-has_key}
 use Rattle.tinyjson_schema.proofs.validate.+validate.Goals.{in_found-then-is_found+in_ok-found+in_default, in_found-else-is_found}
 use Rattle.tinyjson_schema.proofs.validate.+validate.Goals.{in_members-in-Some+in_ok-found+in_default-2, in_members-in_default}
@@ -68,24 +68,9 @@ violation_of-unmet_test-requires t c =
     let fewer : 16 * c.in_ok-inner.inner.steps + 15 < 16 * c.args.walk.steps + 6 = omega (arith, c.in_ok-inner.ensures.1) in
     search rules
 
-pub violation_of-in_all_of-requires : goal.violation_of-in_all_of-requires
-violation_of-in_all_of-requires t c =
-    let fewer : 16 * c.in_ok-inner.inner.steps + 10 < 16 * c.args.walk.steps + 6 = omega (arith, c.in_ok-inner.ensures.1) in
-    search rules
-
-pub violation_of-in_branch-requires : goal.violation_of-in_branch-requires
-violation_of-in_branch-requires t c =
-    let fewer : 16 * c.in_ok-inner.inner.steps + 10 < 16 * c.args.walk.steps + 6 = omega (arith, c.in_ok-inner.ensures.1) in
-    search rules
-
-pub violation_of-in_dependents-requires : goal.violation_of-in_dependents-requires
-violation_of-in_dependents-requires t c =
-    let fewer : 16 * c.in_ok-inner.inner.steps + 10 < 16 * c.args.walk.steps + 6 = omega (arith, c.in_ok-inner.ensures.1) in
-    search rules
-
-pub violation_of-in_patterned-requires : goal.violation_of-in_patterned-requires
-violation_of-in_patterned-requires t c =
-    let fewer : 16 * c.in_ok-inner.inner.steps + 10 < 16 * c.args.walk.steps + 6 = omega (arith, c.in_ok-inner.ensures.1) in
+pub violation_of-in_demands-requires : goal.violation_of-in_demands-requires
+violation_of-in_demands-requires t c =
+    let fewer : 16 * c.in_ok-inner.inner.steps + 11 < 16 * c.args.walk.steps + 6 = omega (arith, c.in_ok-inner.ensures.1) in
     search rules
 
 pub violation_of-in_reference-requires : goal.violation_of-in_reference-requires
@@ -156,7 +141,7 @@ violation_of-returns-in-Some-3 t c =
     let s = view c.args.here.now.schema.now in
     let v = tree_of c.args.value.now in
     before c.args.walk inner c.in_ok-inner.ensures s v (Ok (Some c.in-Some-3.found))
-    (subst (λ o. Finds inner (λ f. applies f kw.AllOf s v) s v (Ok o)) c.in-Some-3.is c.in_ok-found.ensures)
+    (subst (λ o. Finds inner (λ f. apply_all f demands s v) s v (Ok o)) c.in-Some-3.is c.in_ok-found.ensures)
 
 pub violation_of-returns-in-Some-4 : goal.violation_of-returns-in-Some-4
 violation_of-returns-in-Some-4 t c =
@@ -164,7 +149,8 @@ violation_of-returns-in-Some-4 t c =
     let s = view c.args.here.now.schema.now in
     let v = tree_of c.args.value.now in
     before c.args.walk inner c.in_ok-inner.ensures s v (Ok (Some c.in-Some-4.found))
-    (subst (λ o. Finds inner (λ f. applies f kw.If s v) s v (Ok o)) c.in-Some-4.is c.in_ok-found-2.ensures)
+    (subst (λ o. Finds inner (λ f. reference_accepts (view inner.ground.now.whole.now.root.now) f s v) s v (Ok o)) c.in-Some-4.is
+    c.in_ok-found-2.ensures)
 
 pub violation_of-returns-in-Some-5 : goal.violation_of-returns-in-Some-5
 violation_of-returns-in-Some-5 t c =
@@ -172,32 +158,7 @@ violation_of-returns-in-Some-5 t c =
     let s = view c.args.here.now.schema.now in
     let v = tree_of c.args.value.now in
     before c.args.walk inner c.in_ok-inner.ensures s v (Ok (Some c.in-Some-5.found))
-    (subst (λ o. Finds inner (λ f. applies f kw.DependentSchemas s v) s v (Ok o)) c.in-Some-5.is c.in_ok-found-3.ensures)
-
-pub violation_of-returns-in-Some-6 : goal.violation_of-returns-in-Some-6
-violation_of-returns-in-Some-6 t c =
-    let inner = c.in_ok-inner.inner in
-    let s = view c.args.here.now.schema.now in
-    let v = tree_of c.args.value.now in
-    before c.args.walk inner c.in_ok-inner.ensures s v (Ok (Some c.in-Some-6.found))
-    (subst (λ o. Finds inner (λ f. applies f kw.PatternProperties s v) s v (Ok o)) c.in-Some-6.is c.in_ok-found-4.ensures)
-
-pub violation_of-returns-in-Some-7 : goal.violation_of-returns-in-Some-7
-violation_of-returns-in-Some-7 t c =
-    let inner = c.in_ok-inner.inner in
-    let s = view c.args.here.now.schema.now in
-    let v = tree_of c.args.value.now in
-    before c.args.walk inner c.in_ok-inner.ensures s v (Ok (Some c.in-Some-7.found))
-    (subst (λ o. Finds inner (λ f. reference_accepts (view inner.ground.now.whole.now.root.now) f s v) s v (Ok o)) c.in-Some-7.is
-    c.in_ok-found-5.ensures)
-
-pub violation_of-returns-in-Some-8 : goal.violation_of-returns-in-Some-8
-violation_of-returns-in-Some-8 t c =
-    let inner = c.in_ok-inner.inner in
-    let s = view c.args.here.now.schema.now in
-    let v = tree_of c.args.value.now in
-    before c.args.walk inner c.in_ok-inner.ensures s v (Ok (Some c.in-Some-8.found))
-    (subst (λ o. Finds inner (λ f. parts_accepted f s v) s v (Ok o)) c.in-Some-8.is c.in_ok-found-6.ensures)
+    (subst (λ o. Finds inner (λ f. parts_accepted f s v) s v (Ok o)) c.in-Some-5.is c.in_ok-found-3.ensures)
 
 pub violation_of-returns : goal.violation_of-returns
 violation_of-returns t c =
@@ -209,13 +170,10 @@ violation_of-returns t c =
     (subst (λ f. IsUnmet f s v None) (sym (ap (λ g. g.now.formats) c.in_ok-inner.ensures.0)) (subst (λ o. IsUnmet c.args.walk.ground.now.formats s v o) c.in_default.is
     c.in_ok-keyword.ensures))
     (subst (λ o. IsUnapplied inner tests s v o) c.in_default-2.is c.in_ok-keyword-2.ensures)
-    (subst (λ o. Finds inner (λ f. applies f kw.AllOf s v) s v (Ok o)) c.in_default-3.is c.in_ok-found.ensures)
-    (subst (λ o. Finds inner (λ f. applies f kw.If s v) s v (Ok o)) c.in_default-4.is c.in_ok-found-2.ensures)
-    (subst (λ o. Finds inner (λ f. applies f kw.DependentSchemas s v) s v (Ok o)) c.in_default-5.is c.in_ok-found-3.ensures)
-    (subst (λ o. Finds inner (λ f. applies f kw.PatternProperties s v) s v (Ok o)) c.in_default-6.is c.in_ok-found-4.ensures)
-    (subst (λ o. Finds inner (λ f. reference_accepts (view inner.ground.now.whole.now.root.now) f s v) s v (Ok o)) c.in_default-7.is
-    c.in_ok-found-5.ensures)
-    (subst (λ o. Finds inner (λ f. parts_accepted f s v) s v (Ok o)) c.in_default-8.is c.in_ok-found-6.ensures)
+    (subst (λ o. Finds inner (λ f. apply_all f demands s v) s v (Ok o)) c.in_default-3.is c.in_ok-found.ensures)
+    (subst (λ o. Finds inner (λ f. reference_accepts (view inner.ground.now.whole.now.root.now) f s v) s v (Ok o)) c.in_default-4.is
+    c.in_ok-found-2.ensures)
+    (subst (λ o. Finds inner (λ f. parts_accepted f s v) s v (Ok o)) c.in_default-5.is c.in_ok-found-3.ensures)
     c.in_rest.ensures)
 
 pub is_accepted-returns : goal.is_accepted-returns
@@ -456,6 +414,22 @@ tested::unmet_count-returns-then-not-least t c g =
 
 -- ---- where a schema in this one is not met
 
+pub in_demands-returns-then-not-may_demand : goal.in_demands-returns-then-not-may_demand
+in_demands-returns-then-not-may_demand t c g =
+    undemanded (says c.args.walk g) (view c.args.here.now.schema.now) (tree_of c.args.value.now)
+    (c.may_demand.ensures c.if-not-may_demand.true)
+
+pub in_demands-returns : goal.in_demands-returns
+in_demands-returns t c =
+    let w = c.args.walk in
+    let s = view c.args.here.now.schema.now in
+    let v = tree_of c.args.value.now in
+    last_demanded w s v c.in_patterned.result
+    (subst (λ o. Finds w (λ f. applies f kw.AllOf s v) s v (Ok o)) c.in_default.is c.in_ok-found.ensures)
+    (subst (λ o. Finds w (λ f. applies f kw.If s v) s v (Ok o)) c.in_default-2.is c.in_ok-found-2.ensures)
+    (subst (λ o. Finds w (λ f. applies f kw.DependentSchemas s v) s v (Ok o)) c.in_default-3.is c.in_ok-found-3.ensures)
+    c.in_patterned.ensures
+
 pub in_all_of-returns-in-Some : goal.in_all_of-returns-in-Some
 in_all_of-returns-in-Some t c =
     let s = view c.args.here.now.schema.now in
@@ -665,6 +639,11 @@ in_found-returns t c g =
     ∙ (c.in_ok-listed.ensures.listed ∙ same_members (tree_of c.args.value.now))))
     ∙ turn_end (λ xs. found_pass q ps (members_of xs)) c.as_slice-members.result.now c.loop-member.member-index true
     c.loop-member-test.false refl (c.loop-member.invariant g)
+
+pub in_reference-returns-then-not-may_refer : goal.in_reference-returns-then-not-may_refer
+in_reference-returns-then-not-may_refer t c g =
+    unreferred (view c.args.walk.ground.now.whole.now.root.now) (says c.args.walk g) (view c.args.here.now.schema.now)
+    (tree_of c.args.value.now) (c.may_refer.ensures c.if-not-may_refer.true)
 
 pub in_reference-returns : goal.in_reference-returns
 in_reference-returns t c =
@@ -1340,36 +1319,6 @@ violation_of-returns-in_err-found-3 t c =
     (if_deep c.in_err-found-3.field-0.0
     (one_deeper w c.in_ok-inner.inner c.in_ok-inner.ensures s v)
     c.in_err-found-3.ensures)
-
-pub violation_of-returns-in_err-found-4 : goal.violation_of-returns-in_err-found-4
-violation_of-returns-in_err-found-4 t c =
-    let w = c.args.walk in
-    let s = view c.args.here.now.schema.now in
-    let v = tree_of c.args.value.now in
-    at_error (Judges w s v) c.in_err-found-4.field-0.0 c.from_residual-in_err-found-4.result c.from_residual-in_err-found-4.ensures.1
-    (if_deep c.in_err-found-4.field-0.0
-    (one_deeper w c.in_ok-inner.inner c.in_ok-inner.ensures s v)
-    c.in_err-found-4.ensures)
-
-pub violation_of-returns-in_err-found-5 : goal.violation_of-returns-in_err-found-5
-violation_of-returns-in_err-found-5 t c =
-    let w = c.args.walk in
-    let s = view c.args.here.now.schema.now in
-    let v = tree_of c.args.value.now in
-    at_error (Judges w s v) c.in_err-found-5.field-0.0 c.from_residual-in_err-found-5.result c.from_residual-in_err-found-5.ensures.1
-    (if_deep c.in_err-found-5.field-0.0
-    (one_deeper w c.in_ok-inner.inner c.in_ok-inner.ensures s v)
-    c.in_err-found-5.ensures)
-
-pub violation_of-returns-in_err-found-6 : goal.violation_of-returns-in_err-found-6
-violation_of-returns-in_err-found-6 t c =
-    let w = c.args.walk in
-    let s = view c.args.here.now.schema.now in
-    let v = tree_of c.args.value.now in
-    at_error (Judges w s v) c.in_err-found-6.field-0.0 c.from_residual-in_err-found-6.result c.from_residual-in_err-found-6.ensures.1
-    (if_deep c.in_err-found-6.field-0.0
-    (one_deeper w c.in_ok-inner.inner c.in_ok-inner.ensures s v)
-    c.in_err-found-6.ensures)
 
 pub is_accepted-returns-in_err-found : goal.is_accepted-returns-in_err-found
 is_accepted-returns-in_err-found t c =

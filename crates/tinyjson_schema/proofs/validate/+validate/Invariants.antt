@@ -57,6 +57,9 @@ decreases-tested::contained l = 16 * l.walk.steps + 13
 abbrev pub decreases-tested::count_passing : goal.decreases-tested::count_passing
 decreases-tested::count_passing l = 16 * l.walk.steps + 12
 
+abbrev pub decreases-in_demands : goal.decreases-in_demands
+decreases-in_demands l = 16 * l.walk.steps + 11
+
 abbrev pub decreases-in_all_of : goal.decreases-in_all_of
 decreases-in_all_of l = 16 * l.walk.steps + 10
 

@@ -13,12 +13,16 @@ returns c apart =
         names = none kw.PropertyNames refl;
         contains = none kw.Contains refl;
       };
-      all_of = none kw.AllOf refl;
-      if_of = none kw.If refl;
-      dependents = none kw.DependentSchemas refl;
-      patterns = none kw.PatternProperties refl;
-      reference = none kw.Ref refl;
-      dynamic = none kw.DynamicRef refl;
+      demands = record {
+        all_of = none kw.AllOf refl;
+        if_of = none kw.If refl;
+        dependents = none kw.DependentSchemas refl;
+        patterns = none kw.PatternProperties refl;
+      };
+      references = record {
+        reference = none kw.Ref refl;
+        dynamic = none kw.DynamicRef refl;
+      };
       properties = none kw.Properties refl;
       additional = none kw.AdditionalProperties refl;
       prefix = none kw.PrefixItems refl;

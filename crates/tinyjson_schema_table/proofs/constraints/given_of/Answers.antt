@@ -1,10 +1,10 @@
-use Rattle.std.proofs.Common.{◌≡◌, ◌&&◌, ◌+◌, drop, sym, ap, ◌∙◌}
+use Rattle.std.proofs.Common.{◌&&◌, sym, ap, ◌∙◌}
 use Rattle.tinyjson.specs.View.{view}
 use Rattle.tinyjson_schema_assertions.specs.Assertions.{meets_all}
 use Rattle.tinyjson_schema_keywords.proofs.Callers.{drop_end}
 use Rattle.tinyjson_schema_table.specs.Givens.{are_had, meets_given}
 use Rattle.tinyjson_schema_table.proofs.Givens.{keyword_next, keywords_end}
-use Rattle.tinyjson_schema_table.proofs.given.given_of.Goals as goal
+use Rattle.tinyjson_schema_table.proofs.constraints.given_of.Goals as goal
 
 pub loop-keyword-init : goal.loop-keyword-init
 loop-keyword-init c =

@@ -6,7 +6,7 @@ use Rattle.tinyjson_document.specs.Numbers.{decimal_of}
 use Rattle.tinyjson_view.proofs.Callers.{number_is}
 use Rattle.tinyjson_view.specs.Views.{tree_of}
 use Rattle.tinyjson_schema_assertions.specs.Assertions.{IsUnmet}
-use Rattle.tinyjson_schema.proofs.assertions.unmet.Goals as goal
+use Rattle.tinyjson_schema.proofs.assertions.unmet_number.Goals as goal
 
 pub returns-in-Made : goal.returns-in-Made
 returns-in-Made c =

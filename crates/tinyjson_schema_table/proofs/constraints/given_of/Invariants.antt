@@ -3,7 +3,7 @@ use Rattle.tinyjson.specs.Tree.{Tree}
 use Rattle.tinyjson.specs.View.{view}
 use Rattle.tinyjson_schema_assertions.specs.Assertions.{meets_all}
 use Rattle.tinyjson_schema_table.specs.Givens.{are_had, meets_given}
-use Rattle.tinyjson_schema_table.proofs.given.given_of.Given as goal
+use Rattle.tinyjson_schema_table.proofs.constraints.given_of.Given as goal
 
 abbrev pub invariant-loop-keyword : goal.invariant-loop-keyword
 invariant-loop-keyword l = (are_had (view l.schema) l.given.items ≡ true)

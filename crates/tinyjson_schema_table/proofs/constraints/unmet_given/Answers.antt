@@ -1,10 +1,9 @@
 use Rattle.std.proofs.Common.{◌&&◌, ◌+◌, true, false, drop, sym, ap, ◌∙◌, refl}
-use Rattle.tinyjson.specs.View.{view}
 use Rattle.tinyjson_view.specs.Views.{tree_of}
 use Rattle.tinyjson_schema_keywords.proofs.Callers.{turn_next, turn_stop, turn_end}
 use Rattle.tinyjson_schema_table.specs.Givens.{meets_given}
 use Rattle.tinyjson_schema_table.proofs.Givens.{had_unmet}
-use Rattle.tinyjson_schema_table.proofs.given.unmet_given.Goals as goal
+use Rattle.tinyjson_schema_table.proofs.constraints.unmet_given.Goals as goal
 
 pub loop-one-preserved : goal.loop-one-preserved
 loop-one-preserved c =
