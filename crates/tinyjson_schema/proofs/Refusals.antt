@@ -21,7 +21,7 @@ use Rattle.tinyjson_schema_keywords.specs.Subschemas.{Way, by_key, by_index, InF
 use Rattle.tinyjson_schema_keywords.specs.Subschemas.{item_parts, entry_parts}
 use Rattle.tinyjson_schema_keywords.specs.declared.subschemas.Part.{Part}
 use Rattle.tinyjson_schema_keywords.proofs.Callers.{Listed, listed_found, IsWay, part_step}
-use Rattle.tinyjson_schema.specs.Operands.{is_pattern_text, are_patterns, has_patterns}
+use Rattle.tinyjson_schema_assertions.specs.Operands.{is_pattern_text, are_patterns, has_patterns}
 use Rattle.tinyjson_schema.specs.Refused.{IsRefusedAt, IsReason, IsTextReason, IsWhole, Refuses, RefusesWhole, has_own_form}
 use Rattle.tinyjson_schema.specs.Refused.{has_shape, is_applied, IsBefore, whole_for}
 use Rattle.tinyjson_schema.specs.Refused.IsRefusedAt.{itself, no_pattern, inside}

@@ -6,7 +6,6 @@ pub mod Every
 pub mod Leads
 pub mod Marks
 pub mod Nested
-pub mod Operands
 pub mod Parts
 pub mod Places
 pub mod Reading

@@ -18,7 +18,7 @@ use Rattle.tinyjson_schema_keywords.specs.declared.document.Document.{Document}
 use Rattle.tinyjson_schema_keywords.specs.declared.keyword.Form.{Form}
 use Rattle.tinyjson_schema_keywords.specs.declared.keyword.Form.TheVariants as form
 use Rattle.tinyjson_schema.specs.Circles.{leads}
-use Rattle.tinyjson_schema.specs.Operands.{has_patterns}
+use Rattle.tinyjson_schema_assertions.specs.Operands.{has_patterns}
 use Rattle.tinyjson_schema.specs.Schemas.{has_form, fits, is_schema, is_schema_list, is_schema_map}
 use Rattle.tinyjson_schema.specs.declared.refused.Reason.{Reason}
 use Rattle.tinyjson_schema.specs.declared.refused.Reason.TheVariants.{Misfit, PatternLimit}

@@ -7,21 +7,21 @@ ghost use Rattle.tinyjson.specs.View.{view, members_listed};
 ghost use Rattle.tinyjson_pointer.specs.Tokens.{tokens_of};
 ghost use Rattle.tinyjson_schema_keywords.specs.Subschemas.{way_of};
 ghost use Rattle.tinyjson_schema_keywords.specs.declared.keyword.Form.TheVariants as form;
-ghost use Rattle.tinyjson_schema.specs.Operands.{is_pattern_text, are_patterns, has_patterns};
+ghost use Rattle.tinyjson_schema_assertions.specs.Operands.{is_pattern_text, are_patterns, has_patterns};
 ghost use Rattle.tinyjson_schema.specs.Refused.{Refuses, RefusesWhole, IsWhole, IsTextReason};
 ghost use Rattle.tinyjson_schema.specs.Refused.{whole_for, whole_of, has_shape, is_applied};
 ghost use Rattle.tinyjson_schema.specs.Refused.{IsBefore};
 ghost use Rattle.tinyjson_schema.specs.Schemas.{is_schema};
 
 use crate::circles::leads;
-use crate::multiple::is_divisor_number;
-use crate::operand::{
-    are_types, is_array, is_base, is_boolean, is_boolean_or_object, is_count, is_dialect,
-    is_key_list, is_key_map, is_number, is_object, is_own_name, is_string,
-};
+use crate::own_name::is_own_name;
 use std::alloc::{AllocError, Global};
 use tinyjson::{JsonValue, sorted_members};
 use tinyjson_pointer::Pointer;
+use tinyjson_schema_assertions::{
+    are_types, is_array, is_base, is_boolean, is_boolean_or_object, is_count, is_dialect,
+    is_divisor_number, is_key_list, is_key_map, is_number, is_object, is_string,
+};
 use tinyjson_schema_keywords::{
     Document, Form, PatternError, Token, is_pattern, is_some_item, items_in, parts_of,
 };

@@ -1,2 +1,3 @@
 pub mod Assertions
 pub mod Formats
+pub mod Operands

@@ -6,7 +6,7 @@ use Rattle.tinyjson.specs.View.{text, members_listed}
 use Rattle.tinyjson_pointer.specs.Tokens.{tokens_of}
 use Rattle.tinyjson_schema_keywords.specs.declared.keyword.Form.TheVariants as form
 use Rattle.tinyjson_schema_keywords.proofs.Callers.{turn_stop}
-use Rattle.tinyjson_schema.specs.Operands.{are_patterns}
+use Rattle.tinyjson_schema_assertions.specs.Operands.{are_patterns}
 use Rattle.tinyjson_schema.specs.Refused.{IsReason, IsTextReason}
 use Rattle.tinyjson_schema.proofs.Refusals.{at_key}
 use Rattle.tinyjson_schema.proofs.refused.refused_key.Goals as goal

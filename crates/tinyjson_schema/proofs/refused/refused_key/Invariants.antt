@@ -1,6 +1,6 @@
 use Rattle.std.proofs.Common.{◌≡◌, drop}
 use Rattle.tinyjson.specs.View.{members_listed}
-use Rattle.tinyjson_schema.specs.Operands.{are_patterns}
+use Rattle.tinyjson_schema_assertions.specs.Operands.{are_patterns}
 use Rattle.tinyjson_schema.proofs.refused.refused_key.Given as goal
 
 abbrev pub invariant-loop-key : goal.invariant-loop-key

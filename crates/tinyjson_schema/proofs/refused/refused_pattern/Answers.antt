@@ -5,7 +5,7 @@ use Rattle.tinyjson.specs.Tree.{object}
 use Rattle.tinyjson.specs.View.{view, members_listed}
 use Rattle.tinyjson_schema_keywords.specs.declared.keyword.Form.TheVariants as form
 use Rattle.tinyjson_schema_keywords.proofs.Callers.{listed_sorted}
-use Rattle.tinyjson_schema.specs.Operands.{has_patterns}
+use Rattle.tinyjson_schema_assertions.specs.Operands.{has_patterns}
 use Rattle.tinyjson_schema.specs.Refused.{Refuses}
 use Rattle.tinyjson_schema.proofs.Refusals.{no_patterns}
 use Rattle.tinyjson_schema.proofs.refused.refused_pattern.Goals as goal

@@ -2,8 +2,8 @@ use Rattle.std.proofs.Common.{◌∙◌, codes, bytes_eq, sym, ap}
 use Rattle.tinyjson.proofs.Callers.{view_String}
 use Rattle.tinyjson.specs.View.{view}
 use Rattle.tinyjson_schema_keywords.proofs.Callers.{text_bytes}
-use Rattle.tinyjson_schema.specs.Operands.{is_dialect}
-use Rattle.tinyjson_schema.proofs.operand.is_dialect.Goals as goal
+use Rattle.tinyjson_schema_assertions.specs.Operands.{is_dialect}
+use Rattle.tinyjson_schema_assertions.proofs.forms.is_dialect.Goals as goal
 
 pub returns-in-String : goal.returns-in-String
 returns-in-String c =

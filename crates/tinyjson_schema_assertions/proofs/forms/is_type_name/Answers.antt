@@ -2,8 +2,8 @@ use Rattle.std.proofs.Common.{◌∙◌, sym, ap}
 use Rattle.tinyjson.proofs.Callers.{view_String}
 use Rattle.tinyjson.specs.View.{view}
 use Rattle.tinyjson_schema_keywords.proofs.Callers.{text_bytes}
-use Rattle.tinyjson_schema.specs.Operands.{is_name_of_type, is_type_name}
-use Rattle.tinyjson_schema.proofs.operand.is_type_name.Goals as goal
+use Rattle.tinyjson_schema_assertions.specs.Operands.{is_name_of_type, is_type_name}
+use Rattle.tinyjson_schema_assertions.proofs.forms.is_type_name.Goals as goal
 
 pub returns-in-String : goal.returns-in-String
 returns-in-String c =

@@ -1,7 +1,7 @@
 use Rattle.std.proofs.Common.{sym, ◌∙◌}
 use Rattle.tinyjson.specs.View.{view}
 use Rattle.tinyjson_schema_keywords.proofs.Callers.{no_plain_name, plain_name}
-use Rattle.tinyjson_schema.proofs.operand.is_own_name.Goals as goal
+use Rattle.tinyjson_schema.proofs.own_name.is_own_name.Goals as goal
 
 pub returns-then-is_plain_name : goal.returns-then-is_plain_name
 returns-then-is_plain_name c =

@@ -1,41 +1,20 @@
-//! Whether the values of keywords have the form that the standard asks for, except for subschemas.
-ghost use Rattle.std.specs.Prelude.{◌≡◌, ◌&&◌, ◌||◌, IfOk, option_map};
-ghost use Rattle.std.specs.String.{string_bytes};
+//! Forms that the values of keywords must have, except for schemas within them.
+ghost use Rattle.std.specs.Prelude.{◌≡◌, ◌&&◌, ◌||◌, IfOk};
 ghost use Rattle.tinyjson.specs.Access.{is_string, is_boolean, is_array, is_number, is_object};
 ghost use Rattle.tinyjson.specs.View.{view, items_view, members_listed};
-ghost use Rattle.tinyjson_schema_keywords.specs.Anchors.{is_own_name, is_name};
-ghost use Rattle.tinyjson_schema.specs.Operands.{is_count, is_type_name, are_type_names, are_types};
-ghost use Rattle.tinyjson_schema.specs.Operands.{is_name_of_type, is_type_list};
-ghost use Rattle.tinyjson_schema.specs.Operands.{are_strings, are_keys, is_key_list};
-ghost use Rattle.tinyjson_schema.specs.Operands.{have_key_lists, is_key_map, is_dialect};
-ghost use Rattle.tinyjson_schema.specs.Refused.{whole_of};
+ghost use Rattle.tinyjson_schema_assertions.specs.Operands.{is_count, is_type_name};
+ghost use Rattle.tinyjson_schema_assertions.specs.Operands.{are_type_names, are_types};
+ghost use Rattle.tinyjson_schema_assertions.specs.Operands.{is_name_of_type, is_type_list};
+ghost use Rattle.tinyjson_schema_assertions.specs.Operands.{are_strings, are_keys, is_key_list};
+ghost use Rattle.tinyjson_schema_assertions.specs.Operands.{have_key_lists, is_key_map};
+ghost use Rattle.tinyjson_schema_assertions.specs.Operands.{is_dialect, is_divisor_number};
 
+use crate::assertion::is_among;
 use std::alloc::{AllocError, Global};
 use tinyjson::{JsonValue, sorted_members};
-use tinyjson_compare::are_distinct;
-use tinyjson_schema_assertions::is_among;
-use tinyjson_schema_keywords::{Document, is_plain_name, is_some_item};
+use tinyjson_compare::{are_distinct, is_divisor};
+use tinyjson_schema_keywords::is_some_item;
 use tinyjson_view::ValueView;
-
-/// Whether it is a plain name, but not the first one that the document has twice.
-pub fn is_own_name(value: &JsonValue, document: Document<'_, '_>) -> bool
-    ensures { result ≡ is_own_name (whole_of document.entry) (view value.now) }
-{
-    match value {
-        JsonValue::String(name) => is_plain_name(name.as_str())
-            && !is_name(document.again, name.as_str()),
-        _ => false,
-    }
-}
-
-fn is_name(again: Option<&String>, name: &str) -> bool
-    ensures { result ≡ is_name (option_map (λ x. string_bytes x.now) again.entry) name.now }
-{
-    match again {
-        Some(other) => other.as_str() == name,
-        None => false,
-    }
-}
 
 /// Whether the value may be an `$id`: a string, and in the root schema only.
 pub fn is_base(value: &JsonValue, is_whole: bool) -> bool
@@ -44,18 +23,21 @@ pub fn is_base(value: &JsonValue, is_whole: bool) -> bool
     is_whole && is_string(value)
 }
 
+/// Whether it is a string.
 pub fn is_string(value: &JsonValue) -> bool
     ensures { result ≡ is_string (view value.now) }
 {
     matches!(value, JsonValue::String(_))
 }
 
+/// Whether it is a truth value.
 pub fn is_boolean(value: &JsonValue) -> bool
     ensures { result ≡ is_boolean (view value.now) }
 {
     matches!(value, JsonValue::Boolean(_))
 }
 
+/// Whether it is an object.
 pub fn is_object(value: &JsonValue) -> bool
     ensures { result ≡ is_object (view value.now) }
 {
@@ -69,18 +51,21 @@ pub fn is_boolean_or_object(value: &JsonValue) -> bool
     is_boolean(value) || is_object(value)
 }
 
+/// Whether it is an array.
 pub fn is_array(value: &JsonValue) -> bool
     ensures { result ≡ is_array (view value.now) }
 {
     matches!(value, JsonValue::Array(_))
 }
 
+/// Whether it is a number.
 pub fn is_number(value: &JsonValue) -> bool
     ensures { result ≡ is_number (view value.now) }
 {
     matches!(value, JsonValue::Number(_))
 }
 
+/// Whether it is a whole number, at least zero.
 pub fn is_count(value: &JsonValue) -> bool
     ensures { result ≡ is_count (view value.now) }
 {
@@ -90,6 +75,7 @@ pub fn is_count(value: &JsonValue) -> bool
     }
 }
 
+/// Whether it is the name of a type, or a list of some, each once.
 pub fn are_types(value: &JsonValue) -> bool
     ensures { result ≡ are_types (view value.now) }
 {
@@ -139,6 +125,7 @@ fn is_name_of_type(name: &str) -> bool
     )
 }
 
+/// Whether it is a list of different strings. The only error is out of memory.
 pub fn is_key_list(value: &JsonValue, alloc: Global) -> Result<bool, AllocError>
     ensures { IfOk result (λ is. is ≡ is_key_list (view value.now)) }
 {
@@ -169,6 +156,7 @@ fn are_strings(values: &[JsonValue]) -> bool
     true
 }
 
+/// Whether it is an object of such lists. The only error is out of memory.
 pub fn is_key_map(value: &JsonValue, alloc: Global) -> Result<bool, AllocError>
     ensures { IfOk result (λ is. is ≡ is_key_map (view value.now)) }
 {
@@ -193,11 +181,22 @@ fn have_key_lists(lists: &[(&String, &JsonValue)], alloc: Global) -> Result<bool
     Ok(true)
 }
 
+/// Whether it is the URI of 2020-12.
 pub fn is_dialect(value: &JsonValue) -> bool
     ensures { result ≡ is_dialect (view value.now) }
 {
     match value {
         JsonValue::String(name) => name.as_str() == "https://json-schema.org/draft/2020-12/schema",
+        _ => false,
+    }
+}
+
+/// Whether the value is a number above zero with at most 1,000 digits.
+pub fn is_divisor_number(value: &JsonValue) -> bool
+    ensures { result ≡ is_divisor_number (view value.now) }
+{
+    match value {
+        JsonValue::Number(number) => is_divisor(number),
         _ => false,
     }
 }
