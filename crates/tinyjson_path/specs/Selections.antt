@@ -3,7 +3,7 @@ use Rattle.std.specs.Prelude.{List, ◌++◌}
 use Rattle.tinyjson_path.specs.Nodes.{Part}
 use Rattle.tinyjson_path.specs.Strings.{Texts, segments_strings, strings_in}
 use Rattle.tinyjson_path.specs.Waiting.{waits_left, waits_view}
-use Rattle.tinyjson_path.specs.declared.select.Selection.{Selection}
+use Rattle.tinyjson_path.specs.declared.selection.Selection.{Selection}
 use Rattle.tinyjson_view.specs.Views.{tree_of}
 
 -- the parts that are still to come, in order

@@ -6,7 +6,7 @@ use Rattle.tinyjson_path.specs.Selections.{left, sources}
 use Rattle.tinyjson_path.specs.Strings.{IsFrom}
 use Rattle.tinyjson_path.proofs.Waits.{one_more, one_less}
 use Rattle.tinyjson_path.proofs.Within.{from_same}
-use Rattle.tinyjson_path.proofs.select.Selection.collect.Goals as goal
+use Rattle.tinyjson_path.proofs.selection.Selection.collect.Goals as goal
 
 pub loop-nodes-smaller : goal.loop-nodes-smaller
 loop-nodes-smaller c =

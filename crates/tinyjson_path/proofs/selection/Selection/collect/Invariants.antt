@@ -1,7 +1,7 @@
 use Rattle.std.proofs.Common.{◌≡◌, ◌++◌, length}
 use Rattle.tinyjson_path.specs.Nodes.{parts_view}
 use Rattle.tinyjson_path.specs.Selections.{left, sources}
-use Rattle.tinyjson_path.proofs.select.Selection.collect.Given as goal
+use Rattle.tinyjson_path.proofs.selection.Selection.collect.Given as goal
 
 abbrev pub invariant-loop-nodes : goal.invariant-loop-nodes
 invariant-loop-nodes l = record {

@@ -4,7 +4,7 @@ use Rattle.tinyjson_path.proofs.Within.{Within, among, within_among, within_tran
 use Rattle.tinyjson_path.specs.Strings.{are_among, segments_strings, strings_in}
 use Rattle.tinyjson_path.specs.Waiting.{waits_strings, waits_view}
 use Rattle.tinyjson_view.specs.Views.{tree_of}
-use Rattle.tinyjson_path.proofs.select.Selection.next.Goals as goal
+use Rattle.tinyjson_path.proofs.selection.Selection.next.Goals as goal
 
 pub returns-in_err-next-clause-err : goal.returns-in_err-next-clause-err
 returns-in_err-next-clause-err c =

@@ -3,7 +3,7 @@ use Rattle.tinyjson_path.proofs.Within.{among, within_same}
 use Rattle.tinyjson_path.specs.Strings.{strings_in}
 use Rattle.tinyjson_path.specs.Waiting.{waits_strings, waits_view}
 use Rattle.tinyjson_view.specs.Views.{tree_of}
-use Rattle.tinyjson_path.proofs.select.Selection.below.Goals as goal
+use Rattle.tinyjson_path.proofs.selection.Selection.below.Goals as goal
 
 pub invariant_of-result : goal.invariant_of-result
 invariant_of-result c =
