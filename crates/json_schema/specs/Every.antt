@@ -3,6 +3,7 @@ use Rattle.std.specs.List.{All}
 use Rattle.std.specs.Prelude.{◌≡◌, ℕ, List, [], ◌∷◌, Option, Some, None, map}
 use Rattle.tinyjson.specs.Grammar.{IsText}
 use Rattle.tinyjson.specs.Tree.{Tree}
+use Rattle.tinyjson_schema.specs.Nested.{Nests}
 use Rattle.tinyjson_schema.specs.Valid.{Root}
 use Rattle.tinyjson_schema_report.specs.Every.{FindsEvery}
 use Rattle.tinyjson_schema_report.specs.Located.{IsLocated}
@@ -13,11 +14,12 @@ use Rattle.json_schema.specs.declared.verdict.Cause.TheVariants as cause
 use Rattle.json_schema.specs.declared.verdict.Verdict.{Verdict}
 use Rattle.json_schema.specs.declared.verdict.Verdict.TheVariants.{Valid, Invalid, Refused as Rejected}
 
--- the first violations of the root schema by the tree t of the text xs, up to the limit, each with its place; or none were looked for
+-- The first violations of the root schema by the tree t of the text xs, up to the limit, each with its place; or more schemas are
+-- nested than may be.
 abbrev pub ValueGivesEvery : ℕ → List ℕ → Root → Tree → Every → Type 0
 ValueGivesEvery most xs s t (Found ls) =
     FindsEvery most step_limit s t (map (λ l. l.finding) ls.items) × All (IsLocated xs) ls.items
-ValueGivesEvery most xs s t (Refused cause.TooDeep) = Unit {0}
+ValueGivesEvery most xs s t (Refused cause.TooDeep) = Nests s.tree step_limit s.tree t
 ValueGivesEvery most xs s t (Refused cause.TooMuch) = Unit {0}
 ValueGivesEvery most xs s t (Refused _) = ⊥
 

@@ -1,10 +1,11 @@
 //! All that a value violates of a schema, with the words.
 ghost use Rattle.std.specs.List.{All};
-ghost use Rattle.std.specs.Prelude.{◌≡◌, IfOk, map};
+ghost use Rattle.std.specs.Prelude.{◌≡◌, IfErr, IfOk, map};
 ghost use Rattle.std.specs.String.{string_bytes};
 ghost use Rattle.tinyjson_view.specs.Views.{tree_of as value_tree};
 ghost use Rattle.tinyjson_pointer.specs.Tokens.{tokens_of};
 ghost use Rattle.tinyjson_schema.specs.Reading.{tree_of, root_in};
+ghost use Rattle.tinyjson_schema.specs.Valid.{IsBeyond};
 ghost use Rattle.tinyjson_schema_report.specs.Every.{FindsEvery};
 ghost use Rattle.tinyjson_schema_report.specs.Finds.{HasWords};
 ghost use Rattle.tinyjson_schema_words.specs.Nearest.{IsWords};
@@ -31,8 +32,10 @@ pub fn find_every<'v, V: AsView<'v>>(
     most: usize,
     alloc: Global,
 ) -> Result<Vec<Finding>, CheckError>
-    ensures { IfOk result (λ found. FindsEvery most checks.limits.nested
+    ensures found { IfOk result (λ found. FindsEvery most checks.limits.nested
         (root_in schema.now checks.formats) (V.tree value) found.items) }
+    ensures deep { IfErr result (IsBeyond checks.limits.nested
+        (root_in schema.now checks.formats) (V.tree value)) }
 {
     let view = value.as_view();
     let violations = schema.invalid_places_by(value, checks, most, alloc)?;

@@ -6,13 +6,13 @@ use Rattle.json_schema.specs.Verdicts.{depth_limit, step_limit}
 use Rattle.json_schema.proofs.every.check_value.Goals as goal
 
 pub locate_every-requires : goal.locate_every-requires
-locate_every-requires c = (depth_limit, tree c.args.value, c.requires, c.in-Ok.ensures.3)
+locate_every-requires c = (depth_limit, tree c.args.value, c.requires, c.in-Ok.ensures.found.3)
 
 pub returns-in_ok-located-in-Ok : goal.returns-in_ok-located-in-Ok
 returns-in_ok-located-in-Ok c =
     let t = tree c.args.value in
     let s = root_in c.args.judge.schema.now c.args.judge.formats in
-    let found = subst (λ n. FindsEvery c.args.most n s t c.in-Ok.found.items) c.limits_of.ensures c.in-Ok.ensures in (
+    let found = subst (λ n. FindsEvery c.args.most n s t c.in-Ok.found.items) c.limits_of.ensures c.in-Ok.ensures.found in (
       subst (FindsEvery c.args.most step_limit s t) (sym c.in_ok-located-in-Ok.ensures.findings) found,
       c.in_ok-located-in-Ok.ensures.places,
     )
