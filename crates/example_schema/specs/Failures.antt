@@ -13,13 +13,13 @@ use Rattle.example_schema.specs.declared.failure.Failure.TheVariants as is
 abbrev pub IsJudged : Tree → List ℕ → Option Violation → Type 0
 IsJudged s value place = (t : Tree) × IsText (Some 100) value t × Validates 200 s t (Ok place)
 
--- The schema can't be applied at this place; or the value is no JSON, or memory ran out; or the check needs
--- too many nested schemas.
+-- The schema can't be applied at this place; or the value is no JSON, or memory ran out; or to check its tree
+-- more than 200 schemas are nested (`TooDeep`).
 abbrev pub IsFailureBy : Tree → List ℕ → Failure → Type 0
 IsFailureBy s value (is.SchemaText e) = ⊥
 IsFailureBy s value (is.Schema e) = ReadsSchema s (Err e)
 IsFailureBy s value (is.ValueText e) = error_kind e ≢ kind.OutOfMemory → ¬ IsAccepted (Some 100) value
-IsFailureBy s value (is.Check e) = Unit {0}
+IsFailureBy s value (is.Check e) = (t : Tree) × IsText (Some 100) value t × Validates 200 s t (Err e)
 
 -- The schema is no JSON, or memory ran out; or the value was not checked by it.
 abbrev pub IsFailure : List ℕ → List ℕ → Failure → Type 0
