@@ -1,0 +1,127 @@
+-- The example of the standard (JSON Schema 2020-12, Core, 8.2.3.2 and appendix C), and one with contested names: what a
+-- dynamic scope decides, by computing.
+use Rattle.std.proofs.Common.{◌≡◌, ℕ, Bool, true, false, List, [], ◌∷◌, Some, None, refl, codes}
+use Rattle.std.specs.Str.{is_utf8, chars}
+use lib.Utf8.{encode}
+use Rattle.tinyjson.specs.Tree.{Tree, boolean, string, array, object, Items, no_items, item, Members, no_members, member}
+use Rattle.tinyjson_schema_bundle.specs.Bundles.{marks_of, base_in}
+use Rattle.tinyjson_schema_bundle.specs.Scopes.{Reached, some_contested, bundled}
+use Rattle.tinyjson_schema_bundle.specs.declared.mark.Kind.TheVariants as kind
+use Rattle.tinyjson_schema.specs.Evaluated.{Answers}
+use Rattle.tinyjson_schema.specs.Valid.{plain, judge}
+use Rattle.tinyjson_schema_laws.specs.Leading.{all_lead}
+use Rattle.tinyjson_schema_laws.specs.Scoped.{Scoped, Scope, judged, led_to, outer}
+
+abbrev text : List ℕ → Tree
+text cs = string cs
+
+-- nodes with `children`, which are nodes again
+abbrev tree_schema : Tree
+tree_schema = object (member (codes "$dynamicAnchor") (text (codes "node")) (member (codes "$id") (text (codes "tree"))
+    (member (codes "properties") (object (member (codes "children")
+    (object (member (codes "items") (object (member (codes "$dynamicRef") (text (codes "#node")) no_members)) no_members))
+    (member (codes "data") (boolean true) no_members))) no_members)))
+
+-- the same, where no node has other members
+abbrev strict_schema : Tree
+strict_schema = object (member (codes "$defs") (object (member (codes "tree") tree_schema no_members))
+    (member (codes "$dynamicAnchor") (text (codes "node")) (member (codes "$id") (text (codes "strict-tree"))
+    (member (codes "$ref") (text (codes "tree")) (member (codes "unevaluatedProperties") (boolean false) no_members)))))
+
+-- `$ref` leads to the tree, and `$dynamicRef` from there to the strict one
+tree_led : led_to (marks_of strict_schema) (outer strict_schema) false (text (codes "tree")) ≡ Some (codes "/$defs/tree")
+unfolding is_utf8 chars encode
+tree_led = refl
+
+node_led : led_to (marks_of strict_schema) (codes "tree" ∷ outer strict_schema) true (text (codes "#node")) ≡ Some []
+unfolding is_utf8 chars encode
+node_led = refl
+
+strict_alone : some_contested (marks_of strict_schema) (base_in [] strict_schema) (marks_of strict_schema) ≡ false
+unfolding is_utf8 chars encode
+strict_alone = refl
+
+strict_leads : all_lead strict_schema ≡ true
+unfolding is_utf8 chars encode
+strict_leads = refl
+
+abbrev one_child : List ℕ → Tree
+one_child key = object (member (codes "children") (array (item (object (member key (boolean true) no_members)) no_items)) no_members)
+
+-- the misspelt `daat` of a child is refused, in the document and in the bundled one
+misspelt_refused : (g : Scoped) → judged strict_schema false 7 g (one_child (codes "daat")) ≡ false
+unfolding is_utf8 chars encode
+misspelt_refused g = refl
+
+data_accepted : (g : Scoped) → judged strict_schema false 7 g (one_child (codes "data")) ≡ true
+unfolding is_utf8 chars encode
+data_accepted g = refl
+
+misspelt_bundled : (g : Answers) → judge (plain (bundled [] strict_schema)) 7 g (bundled [] strict_schema) (one_child (codes "daat")) ≡ false
+unfolding is_utf8 chars encode
+misspelt_bundled g = refl
+
+data_bundled : (g : Answers) → judge (plain (bundled [] strict_schema)) 7 g (bundled [] strict_schema) (one_child (codes "data")) ≡ true
+unfolding is_utf8 chars encode
+data_bundled g = refl
+
+-- ---- a name that three resources have
+
+abbrev named : Members → Tree
+named ms = object (member (codes "n") (object (member (codes "$dynamicAnchor") (text (codes "n")) ms)) no_members)
+
+abbrev list_schema : Tree
+list_schema = object (member (codes "$defs") (named no_members) (member (codes "$id") (text (codes "list"))
+    (member (codes "items") (object (member (codes "$dynamicRef") (text (codes "#n")) no_members)) no_members)))
+
+-- a list, with this type of its items
+abbrev list_of : List ℕ → List ℕ → Tree
+list_of uri type = object (member (codes "$defs") (named (member (codes "type") (text type) no_members))
+    (member (codes "$id") (text uri) (member (codes "$ref") (text (codes "list")) no_members)))
+
+abbrev refers : List ℕ → Tree
+refers uri = object (member (codes "$ref") (text uri) no_members)
+
+abbrev lists_schema : Tree
+lists_schema = object (member (codes "$defs") (object (member (codes "l") list_schema (member (codes "s") (list_of (codes "texts") (codes "string"))
+    (member (codes "t") (list_of (codes "truths") (codes "boolean")) no_members))))
+    (member (codes "properties") (object (member (codes "s") (refers (codes "texts")) (member (codes "t") (refers (codes "truths")) no_members)))
+    no_members))
+
+-- the list is reached from both others, so it has two copies
+abbrev both_copies : List Reached
+both_copies = ((kind.DynamicName, codes "texts#n", codes "/$defs/s/$defs/n") ∷ [], codes "/$defs/l")
+    ∷ ((kind.DynamicName, codes "truths#n", codes "/$defs/t/$defs/n") ∷ [], codes "/$defs/l") ∷ []
+
+abbrev lists : Tree → Tree → Tree
+lists s t = object (member (codes "s") (array (item s no_items)) (member (codes "t") (array (item t no_items)) no_members))
+
+right_accepted : (g : Scoped) → judged lists_schema false 6 g (lists (text []) (boolean true)) ≡ true
+unfolding is_utf8 chars encode
+right_accepted g = refl
+
+wrong_refused : (g : Scoped) → judged lists_schema false 6 g (lists (text []) (text [])) ≡ false
+unfolding is_utf8 chars encode
+wrong_refused g = refl
+
+right_bundled : (g : Answers)
+    → judge (plain (bundled both_copies lists_schema)) 6 g (bundled both_copies lists_schema) (lists (text []) (boolean true)) ≡ true
+unfolding is_utf8 chars encode
+right_bundled g = refl
+
+wrong_bundled : (g : Answers)
+    → judge (plain (bundled both_copies lists_schema)) 6 g (bundled both_copies lists_schema) (lists (text []) (text [])) ≡ false
+unfolding is_utf8 chars encode
+wrong_bundled g = refl
+
+-- ---- what no law can say
+
+-- Without a premise on the copies the two differ: here a copy is for a scope with the same place, under another name.
+abbrev wrong_copies : List Reached
+wrong_copies = ((kind.DynamicName, codes "texts#m", codes "/$defs/s/$defs/n") ∷ [], codes "/$defs/l")
+    ∷ ((kind.DynamicName, codes "truths#m", codes "/$defs/t/$defs/n") ∷ [], codes "/$defs/l") ∷ []
+
+wrong_copied : (g : Answers)
+    → judge (plain (bundled wrong_copies lists_schema)) 6 g (bundled wrong_copies lists_schema) (lists (text []) (text [])) ≡ true
+unfolding is_utf8 chars encode
+wrong_copied g = refl

@@ -1,0 +1,10 @@
+pub mod Alike
+pub mod Contested
+pub mod Dynamic
+pub mod Examples
+pub mod Places
+pub mod Pointed
+pub mod Referring
+pub mod SameLaws
+pub mod Simulation
+pub mod Walk

@@ -1,0 +1,76 @@
+-- What the laws state.
+use Rattle.std.specs.Option.{option_or}
+use Rattle.std.specs.Prelude.{◌≡◌, ℕ, Bool, true, false, List, [], ◌∷◌, Some, ⊤, unwrap_or}
+use Rattle.tinyjson.specs.Soundness.{IsTree}
+use Rattle.tinyjson.specs.Tree.{Tree}
+use Rattle.uri_reference.specs.Resolving.{without_fragment}
+use Rattle.tinyjson_schema_bundle.specs.Bundles as bundle
+use Rattle.tinyjson_schema_bundle.specs.Bundles.{Marked, marks_of, base_in, is_bundle, with_name, dynamic_place, begins_pointer}
+use Rattle.tinyjson_schema_bundle.specs.Scopes.{some_contested, bundled, entered, settled}
+use Rattle.tinyjson_schema.specs.Evaluated.{Answers, Child}
+use Rattle.tinyjson_schema.specs.Schemas.{is_schema}
+use Rattle.tinyjson_schema.specs.Valid.{Root, judge}
+use Rattle.tinyjson_schema_laws.specs.Leading.{all_lead}
+use Rattle.tinyjson_schema_laws.specs.Scoped.{Scoped, Scope, judged, outermost}
+
+-- The document has several resources, no dynamic reference in it depends on what has led to it, and bundled it can be
+-- applied. Each of its references leads to a place in it.
+pub record IsUncontested (t : Tree) : Type 0 where
+  pub sound : IsTree t
+  pub several : is_bundle (marks_of t) ≡ true
+  pub none : some_contested (marks_of t) (base_in [] t) (marks_of t) ≡ false
+  pub applied : is_schema (bundled [] t) true (bundled [] t) ≡ true
+  pub leading : all_lead t ≡ true
+
+-- the bundled document as the root schema
+abbrev pub bundled_root : Tree → Bool → Root
+bundled_root t formats = record { tree = bundled [] t; formats = formats }
+
+-- each schema has the same results for all values
+abbrev pub constant : Bool → Bool → Answers
+constant x y = record { accepts = λ s u. x; evaluates = λ s u c. y }
+
+-- At each number of nested schemas, the document judges by its dynamic scope as the bundled document does, if all
+-- schemas that are nested deeper have the same results.
+abbrev pub SameResults : Type 0
+SameResults = (t : Tree) → IsUncontested t → (formats : Bool) (n : ℕ) (x y : Bool) (u : Tree)
+    → judged t formats n (λ c. constant x y) u ≡ judge (bundled_root t formats) n (constant x y) (bundled [] t) u
+
+-- The document decides whether it accepts the value: so at some number of nested schemas, whatever the results of
+-- deeper ones are.
+abbrev pub Decides : Tree → Bool → Tree → Bool → Type 0
+Decides t formats u is = (n : ℕ) × ((g : Scoped) → judged t formats n g u ≡ is)
+
+-- so does the bundled document
+abbrev pub BundledDecides : Tree → Bool → Tree → Bool → Type 0
+BundledDecides t formats u is = (n : ℕ) × ((g : Answers) → judge (bundled_root t formats) n g (bundled [] t) u ≡ is)
+
+-- A document and the bundled one that both decide on a value decide the same.
+abbrev pub OneVerdict : Type 0
+OneVerdict = (t : Tree) → IsUncontested t → (formats : Bool) (u : Tree) (a b : Bool) → Decides t formats u a → BundledDecides t formats u b → a ≡ b
+
+-- ---- scopes with contested names
+
+-- the outermost resource of the scope is r
+abbrev pub BeginsIn : List ℕ → Scope → Type 0
+BeginsIn r [] = ⊥
+BeginsIn r (u ∷ []) = u ≡ r
+BeginsIn r (u ∷ v ∷ c) = BeginsIn r (v ∷ c)
+
+-- the URIs of resources have no fragment
+abbrev pub AreUris : Scope → Type 0
+AreUris [] = ⊤
+AreUris (u ∷ c) = (without_fragment u ≡ u) × AreUris c
+
+-- what the bundled document keeps of a dynamic scope: the contested names of the resources entered
+abbrev pub kept : List Marked → List ℕ → Scope → List Marked
+kept all r [] = []
+kept all r (u ∷ c) = entered all r u (kept all r c)
+
+-- Where a dynamic reference first leads to a schema at q with its name n by `$dynamicAnchor`, the bundled document goes
+-- on as the standard wants, with what it keeps of the scope.
+abbrev pub ScopeDecides : Type 0
+ScopeDecides = (t : Tree) (c : Scope) → BeginsIn (base_in [] t) c → AreUris c → (u n q : List ℕ) → without_fragment u ≡ u
+    → begins_pointer n ≡ false → dynamic_place (marks_of t) (with_name u n) ≡ Some q
+    → unwrap_or (option_or (bundle.outermost (marks_of t) (base_in [] t) n q) (settled (kept (marks_of t) (base_in [] t) c) n)) q
+    ≡ unwrap_or (outermost (marks_of t) c n) q

@@ -1,0 +1,51 @@
+-- Documents of which all references lead to places in it.
+use Rattle.std.specs.Prelude.{ℕ, Bool, true, false, ◌&&◌, List, [], ◌∷◌, is_some, encode_utf8_all}
+use Rattle.tinyjson.specs.Tree.{Tree, array, object, Items, no_items, item, Members, no_members, member}
+use Rattle.tinyjson_schema_keywords.specs.Forms.{form_at}
+use Rattle.tinyjson_schema_keywords.specs.declared.keyword.Form.{Form}
+use Rattle.tinyjson_schema_keywords.specs.declared.keyword.Form.TheVariants as form
+use Rattle.tinyjson_schema_bundle.specs.Bundles.{Marked, marks_of, base_in, is_dynamic}
+use Rattle.tinyjson_schema_laws.specs.Scoped.{led_to}
+
+-- Whether the references in a keyword's value lead on. The flags are given: it is a reference that does, or those in a
+-- schema, a list of schemas or an object of schemas do.
+abbrev pub lead_by : Form → Bool → Bool → Bool → Bool → Bool
+lead_by form.Reference leads one list entries = leads
+lead_by form.Schema leads one list entries = one
+lead_by form.Schemas leads one list entries = list
+lead_by form.SchemaMap leads one list entries = entries
+lead_by form.PatternMap leads one list entries = entries
+lead_by _ leads one list entries = true
+
+module _ (ms : List Marked) where
+  abbrev mutual
+    -- Each reference in the schema, and in its subschemas, leads to a place of the document with these marks; b is the
+    -- base URI around it.
+    pub lead_in : List ℕ → Tree → Bool
+    lead_in b (object ns) = lead_among (base_in b (object ns)) ns
+    lead_in b _ = true
+
+    pub lead_among : List ℕ → Members → Bool
+    lead_among b no_members = true
+    lead_among b (member k w ns) = lead_by (form_at (encode_utf8_all k)) (is_some (led_to ms (b ∷ []) (is_dynamic (encode_utf8_all k)) w))
+        (lead_in b w) (lead_in_list b w) (lead_in_map b w) && lead_among b ns
+
+    pub lead_in_list : List ℕ → Tree → Bool
+    lead_in_list b (array ts) = lead_of_items b ts
+    lead_in_list b _ = true
+
+    pub lead_in_map : List ℕ → Tree → Bool
+    lead_in_map b (object ns) = lead_of_members b ns
+    lead_in_map b _ = true
+
+    pub lead_of_items : List ℕ → Items → Bool
+    lead_of_items b no_items = true
+    lead_of_items b (item t ts) = lead_in b t && lead_of_items b ts
+
+    pub lead_of_members : List ℕ → Members → Bool
+    lead_of_members b no_members = true
+    lead_of_members b (member k t ns) = lead_in b t && lead_of_members b ns
+
+-- Each reference in the document leads to a place in it.
+abbrev pub all_lead : Tree → Bool
+all_lead t = lead_in (marks_of t) [] t

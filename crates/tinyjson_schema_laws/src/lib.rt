@@ -1,0 +1,25 @@
+//! Laws of JSON Schema: a document with several schema resources, judged by its dynamic scope, and the
+//! document of one resource that `tinyjson_schema_bundle` makes of it.
+//!
+//! Each law is the contract of a public function that does nothing. The statements are in `specs/`.
+#![tactic(auto)]
+
+ghost use Rattle.tinyjson_schema_laws.specs.Laws.{OneVerdict, SameResults, ScopeDecides};
+
+/// At each number of nested schemas, a document without contested names judges a value by its dynamic
+/// scope as the bundled document does.
+#[tactic(auto, using(crate::proofs::SameLaws::same_results))]
+pub fn same_results()
+    ensures { SameResults }
+{}
+
+/// Such a document and the bundled one never decide otherwise on a value.
+pub fn one_verdict()
+    ensures { OneVerdict }
+{}
+
+/// What the bundled document keeps of a dynamic scope decides as the scope does.
+#[tactic(auto, using(crate::proofs::Contested::scope_decides))]
+pub fn scope_decides()
+    ensures { ScopeDecides }
+{}
