@@ -1,28 +1,27 @@
 -- Two schemas of which the keywords have the same values, or subschemas with the same results, have the same results.
 use Rattle.std.proofs.Common.{◌≡◌, ℕ, zero, suc, ◌+◌, ◌==◌, Bool, true, false, not, ◌&&◌, ◌||◌, List, [], ◌∷◌, Option, Some, None}
-use Rattle.std.proofs.Common.{cond, is_some, refl, sym, ap, ◌∙◌, true≢false, codes, bytes_eq, subst}
+use Rattle.std.proofs.Common.{cond, is_some, refl, sym, ap, ◌∙◌, true≢false, bytes_eq, subst}
 use Rattle.std.proofs.lemmas.Bool.{and_parts}
 use Rattle.std.specs.Option.{option_map_or}
 use Rattle.std.specs.Prelude.{option_and_then, ⊤}
 use Rattle.tinyjson.specs.Index.{tree_at, tree_at_key, nth}
-use Rattle.tinyjson.specs.Tree.{Tree, string, array, object, Items, no_items, item, Members, no_members, member, find}
+use Rattle.tinyjson.specs.Tree.{Tree, array, object, Items, no_items, item, Members, no_members, member, find}
 use Rattle.i_regexp.specs.PatternDeciding.{is_found}
 use Rattle.tinyjson_schema_keywords.specs.Applied.{schema_at, schemas_at, schema_map_at, items_in, members_in, branch}
 use Rattle.tinyjson_schema_keywords.specs.Forms.{form_of, is_some_item}
-use Rattle.tinyjson_schema_keywords.specs.Names.{name}
 use Rattle.tinyjson_schema_keywords.specs.declared.keyword.Form.{Form}
 use Rattle.tinyjson_schema_keywords.specs.declared.keyword.Form.TheVariants as form
 use Rattle.tinyjson_schema_keywords.specs.declared.keyword.Keyword.{Keyword}
 use Rattle.tinyjson_schema_keywords.specs.declared.keyword.Keyword.TheVariants as kw
-use Rattle.tinyjson_schema_assertions.specs.Assertions.{meets, meets_all, constraints, assertions, accepts}
+use Rattle.tinyjson_schema_assertions.specs.Assertions.{meets_all, assertions, accepts}
 use Rattle.tinyjson_schema_assertions.specs.Assertions.{is_count_at_most, is_count_at_least}
-use Rattle.tinyjson_schema.specs.Applicators.{Judge, all_accept, some_accepts, any_of, accepting, one_of, keys_pass, items_passing, contained}
-use Rattle.tinyjson_schema.specs.Applicators.{is_zero, contains_some, contains_at_most, contains_at_least, branch_accepts, dependents_accept}
-use Rattle.tinyjson_schema.specs.Applicators.{found_pass, patterns_accept, applies, apply_all, counts, tests, demands, member_accepted}
-use Rattle.tinyjson_schema.specs.Applicators.{members_accepted, item_accepted, items_accepted, parts_accepted}
+use Rattle.tinyjson_schema.specs.Applicators.{all_accept, some_accepts, accepting, keys_pass, items_passing, contained}
+use Rattle.tinyjson_schema.specs.Applicators.{is_zero, branch_accepts, dependents_accept}
+use Rattle.tinyjson_schema.specs.Applicators.{found_pass, patterns_accept, apply_all, tests, demands}
+use Rattle.tinyjson_schema.specs.Applicators.{members_accepted, items_accepted, parts_accepted}
 use Rattle.tinyjson_schema.specs.Evaluated.{Answers, Child, member_at, item_at, value_of, rest_keyword, applies_to, some_evaluate}
-use Rattle.tinyjson_schema.specs.Evaluated.{accepting_evaluate, branch_evaluates, dependents_evaluate, members_pass, items_pass, children_pass}
-use Rattle.tinyjson_schema.specs.Parts.{property, some_found, is_patterned, additional, prefix_item, or_else, member_schema, item_schema}
+use Rattle.tinyjson_schema.specs.Evaluated.{accepting_evaluate, branch_evaluates, dependents_evaluate, children_pass}
+use Rattle.tinyjson_schema.specs.Parts.{property, some_found, additional, prefix_item, or_else, member_schema, item_schema}
 use Rattle.tinyjson_schema.specs.Valid.{refuses_all}
 
 -- The results are the same: of the first schema in the first results, and of the second in the second ones.

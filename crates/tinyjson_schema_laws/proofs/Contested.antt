@@ -1,18 +1,17 @@
 -- What the bundled document keeps of a dynamic scope decides as the scope does.
-use Rattle.std.proofs.Common.{◌≡◌, ℕ, Bool, true, false, not, ◌&&◌, ◌||◌, ◌==◌, List, [], ◌∷◌, ◌++◌, Option, Some, None}
+use Rattle.std.proofs.Common.{◌≡◌, ℕ, Bool, true, false, ◌&&◌, List, [], ◌∷◌, ◌++◌, Option, Some, None}
 use Rattle.std.proofs.Common.{cond, refl, sym, ap, ◌∙◌, true≢false, bytes_eq, subst, codes, eqb-true}
 use Rattle.std.proofs.lemmas.Bool.{and_parts}
 use Rattle.std.proofs.lemmas.Option.{same_Some}
 use Rattle.std.proofs.lemmas.Slice.Eq.{bytes_eq-Decides}
 use Rattle.std.specs.Option.{option_or}
 use Rattle.std.specs.Prelude.{unwrap_or, is_none}
-use Rattle.tinyjson.specs.Tree.{Tree}
 use Rattle.uri_reference.specs.Letters.{is_number_sign, before, from, after}
 use Rattle.uri_reference.specs.Resolving.{without_fragment, fragment_of}
 use Rattle.tinyjson_schema_bundle.specs.Bundles as bundle
 use Rattle.tinyjson_schema_bundle.specs.Bundles.{Marked, marks_of, base_in, with_name, is_dynamic_name, is_dynamic_at, dynamic_place, is_named, is_only}
 use Rattle.tinyjson_schema_bundle.specs.Bundles.{begins_pointer}
-use Rattle.tinyjson_schema_bundle.specs.Scopes.{settled, name_in, is_contested, is_entering, entered_by, entered}
+use Rattle.tinyjson_schema_bundle.specs.Scopes.{settled, name_in, is_contested, is_entering, entered_by}
 use Rattle.tinyjson_schema_laws.specs.Laws.{ScopeDecides, AreUris, kept}
 use Rattle.tinyjson_schema_laws.specs.Scoped.{Scope, outermost}
 use Rattle.tinyjson_schema_laws.proofs.Dynamic.{IsBase, AreBases, cut_base, name_of, only, same_outermost}

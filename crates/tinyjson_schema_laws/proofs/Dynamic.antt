@@ -1,12 +1,12 @@
 -- In a document without contested names, the dynamic scope decides as the marks of the document do.
-use Rattle.std.proofs.Common.{◌≡◌, ℕ, Bool, true, false, not, ◌&&◌, ◌||◌, ◌==◌, List, [], ◌∷◌, ◌++◌, Option, Some, None}
-use Rattle.std.proofs.Common.{cond, is_some, refl, sym, ap, ◌∙◌, true≢false, bytes_eq, subst, option_map, encode_utf8_all, codes}
+use Rattle.std.proofs.Common.{◌≡◌, ℕ, Bool, true, false, not, ◌&&◌, ◌||◌, List, [], ◌∷◌, ◌++◌, Option, Some, None}
+use Rattle.std.proofs.Common.{cond, refl, sym, ap, ◌∙◌, true≢false, bytes_eq, option_map, encode_utf8_all, codes}
 use Rattle.std.proofs.lemmas.Bool.{and_parts}
 use Rattle.std.proofs.lemmas.Option.{same_Some}
 use Rattle.std.proofs.lemmas.Slice.Eq.{bytes_eq-Decides}
 use Rattle.std.specs.Option.{option_map_or, option_or}
 use Rattle.std.specs.Prelude.{⊤, option_and_then, unwrap_or, is_none}
-use Rattle.std.specs.Str.{chars, is_utf8}
+use Rattle.std.specs.Str.{is_utf8}
 use Rattle.tinyjson.specs.Tree.{Tree, string}
 use Rattle.uri_reference.specs.Letters.{is_number_sign, before, from, after}
 use Rattle.uri_reference.specs.Resolving.{resolved, without_fragment, fragment_of}
@@ -17,9 +17,9 @@ use Rattle.tinyjson_schema_bundle.specs.Bundles.{Marked, Leads, with_name, base_
 use Rattle.tinyjson_schema_bundle.specs.Bundles.{dynamic_place, is_named, is_other, is_only, begins_pointer, place_below, leads_by, first_place}
 use Rattle.tinyjson_schema_bundle.specs.Bundles.{destination}
 use Rattle.tinyjson_schema_bundle.specs.Bundles as bundle
-use Rattle.tinyjson_schema_bundle.specs.Scopes.{Reached, name_in, is_contested, some_contested, leads_over, leads_of, from_root, settled, scope_at}
+use Rattle.tinyjson_schema_bundle.specs.Scopes.{Reached, name_in, is_contested, some_contested, leads_over, leads_of, settled, scope_at}
 use Rattle.tinyjson_schema_laws.specs.Laws.{BeginsIn}
-use Rattle.tinyjson_schema_laws.specs.Scoped.{Scope, base, entered, outermost, dynamic_in, leads_in, led_to}
+use Rattle.tinyjson_schema_laws.specs.Scoped.{Scope, outermost, leads_in}
 
 -- ---- base URIs have no fragment
 

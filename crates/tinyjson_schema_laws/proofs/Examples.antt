@@ -1,16 +1,19 @@
 -- The example of the standard (JSON Schema 2020-12, Core, 8.2.3.2 and appendix C), and one with contested names: what a
 -- dynamic scope decides, by computing.
-use Rattle.std.proofs.Common.{◌≡◌, ℕ, Bool, true, false, List, [], ◌∷◌, Some, None, refl, codes}
+use Rattle.std.proofs.Common.{◌≡◌, ℕ, true, false, List, [], ◌∷◌, ◌++◌, Some, None, refl, codes}
+use Rattle.std.specs.Fmt.{digits}
 use Rattle.std.specs.Str.{is_utf8, chars}
 use lib.Utf8.{encode}
-use Rattle.tinyjson.specs.Tree.{Tree, boolean, string, array, object, Items, no_items, item, Members, no_members, member}
-use Rattle.tinyjson_schema_bundle.specs.Bundles.{marks_of, base_in}
-use Rattle.tinyjson_schema_bundle.specs.Scopes.{Reached, some_contested, bundled}
+use Rattle.tinyjson.specs.Tree.{Tree, boolean, string, array, object, no_items, item, Members, no_members, member}
+use Rattle.tinyjson.specs.Soundness.{IsTree}
+use Rattle.tinyjson_schema_bundle.specs.Bundles.{Marked, marks_of}
+use Rattle.tinyjson_schema_bundle.specs.Scopes.{Reached, bundled}
 use Rattle.tinyjson_schema_bundle.specs.declared.mark.Kind.TheVariants as kind
 use Rattle.tinyjson_schema.specs.Evaluated.{Answers}
+use Rattle.tinyjson_schema.specs.Schemas.{is_schema}
 use Rattle.tinyjson_schema.specs.Valid.{plain, judge}
-use Rattle.tinyjson_schema_laws.specs.Leading.{all_lead}
-use Rattle.tinyjson_schema_laws.specs.Scoped.{Scoped, Scope, judged, led_to, outer}
+use Rattle.tinyjson_schema_laws.specs.Laws.{IsUncontested}
+use Rattle.tinyjson_schema_laws.specs.Scoped.{Scoped, judged, led_to, located_at, outer}
 
 abbrev text : List ℕ → Tree
 text cs = string cs
@@ -37,13 +40,26 @@ node_led : led_to (marks_of strict_schema) (codes "tree" ∷ outer strict_schema
 unfolding is_utf8 chars encode
 node_led = refl
 
-strict_alone : some_contested (marks_of strict_schema) (base_in [] strict_schema) (marks_of strict_schema) ≡ false
-unfolding is_utf8 chars encode
-strict_alone = refl
+tree_sound : IsTree tree_schema
+unfolding encode
+tree_sound = (
+  (refl, refl, (refl, refl, (refl, ((refl, ((refl, ((refl, refl, tt), (tt, tt)), tt), (tt, tt)), (refl, tt, tt)), (refl, (tt, tt))), tt))),
+  (refl, (refl, (tt, tt))),
+)
 
-strict_leads : all_lead strict_schema ≡ true
+-- so it is a document that the laws are about
+strict_uncontested : IsUncontested strict_schema
 unfolding is_utf8 chars encode
-strict_leads = refl
+strict_uncontested = record {
+  sound = (
+    (refl, ((refl, tree_sound, tt), (tt, tt)), (refl, refl, (refl, refl, (refl, refl, (refl, tt, tt))))),
+    (refl, (refl, (refl, (refl, (tt, tt))))),
+  );
+  several = refl;
+  none = refl;
+  applied = refl;
+  leading = refl;
+}
 
 abbrev one_child : List ℕ → Tree
 one_child key = object (member (codes "children") (array (item (object (member key (boolean true) no_members)) no_items)) no_members)
@@ -106,22 +122,50 @@ wrong_refused g = refl
 
 right_bundled : (g : Answers)
     → judge (plain (bundled both_copies lists_schema)) 6 g (bundled both_copies lists_schema) (lists (text []) (boolean true)) ≡ true
-unfolding is_utf8 chars encode
+unfolding is_utf8 chars encode digits
 right_bundled g = refl
 
 wrong_bundled : (g : Answers)
     → judge (plain (bundled both_copies lists_schema)) 6 g (bundled both_copies lists_schema) (lists (text []) (text [])) ≡ false
-unfolding is_utf8 chars encode
+unfolding is_utf8 chars encode digits
 wrong_bundled g = refl
 
 -- ---- what no law can say
 
--- Without a premise on the copies the two differ: here a copy is for a scope with the same place, under another name.
+-- Not for all copies do both agree: those for a scope that has the same place under another name are for no scope of the
+-- document, and still every reference leads to a schema.
+abbrev other_name : List ℕ → List ℕ → List Marked
+other_name uri place = (kind.DynamicName, uri, place) ∷ []
+
+abbrev and_list : List Marked → List Marked
+and_list c = c ++ (kind.DynamicName, codes "list#n", codes "/$defs/l/$defs/n") ∷ []
+
 abbrev wrong_copies : List Reached
-wrong_copies = ((kind.DynamicName, codes "texts#m", codes "/$defs/s/$defs/n") ∷ [], codes "/$defs/l")
-    ∷ ((kind.DynamicName, codes "truths#m", codes "/$defs/t/$defs/n") ∷ [], codes "/$defs/l") ∷ []
+wrong_copies = (other_name (codes "texts#m") (codes "/$defs/s/$defs/n"), codes "/$defs/l")
+    ∷ (other_name (codes "truths#m") (codes "/$defs/t/$defs/n"), codes "/$defs/l")
+    ∷ (and_list (other_name (codes "texts#m") (codes "/$defs/s/$defs/n")), codes "/$defs/l")
+    ∷ (and_list (other_name (codes "truths#m") (codes "/$defs/t/$defs/n")), codes "/$defs/l") ∷ []
 
 wrong_copied : (g : Answers)
     → judge (plain (bundled wrong_copies lists_schema)) 6 g (bundled wrong_copies lists_schema) (lists (text []) (text [])) ≡ true
-unfolding is_utf8 chars encode
+unfolding is_utf8 chars encode digits
 wrong_copied g = refl
+
+wrong_copies_applied : is_schema (bundled wrong_copies lists_schema) true (bundled wrong_copies lists_schema) ≡ true
+unfolding is_utf8 chars encode digits
+wrong_copies_applied = refl
+
+-- A pointer to the place of a copy leads nowhere in the document, but to the copy in the bundled one.
+abbrev astray_schema : Tree
+astray_schema = object (member (codes "$defs") (object (member (codes "l") list_schema (member (codes "s") (list_of (codes "texts") (codes "string"))
+    (member (codes "t") (list_of (codes "truths") (codes "boolean")) no_members))))
+    (member (codes "properties") (object (member (codes "s") (refers (codes "texts")) (member (codes "t") (refers (codes "truths"))
+    (member (codes "u") (refers (codes "#/$defs/zz0")) no_members)))) no_members))
+
+astray_nowhere : located_at astray_schema (codes "/$defs/zz0") ≡ None
+unfolding is_utf8 chars encode
+astray_nowhere = refl
+
+astray_applied : is_schema (bundled both_copies astray_schema) true (bundled both_copies astray_schema) ≡ true
+unfolding is_utf8 chars encode digits
+astray_applied = refl

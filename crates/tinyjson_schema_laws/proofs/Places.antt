@@ -1,12 +1,11 @@
 -- The places of a document are texts, and each is empty or begins with a `/`.
-use Rattle.std.proofs.Common.{◌≡◌, ℕ, zero, suc, Bool, true, false, not, ◌&&◌, ◌==◌, List, [], ◌∷◌, ◌++◌, Option, Some, None, IsTrue}
-use Rattle.std.proofs.Common.{cond, refl, sym, ap, ◌∙◌, true≢false, bytes_eq, subst, option_map, encode_utf8_all, arith, codes, eqb-true}
+use Rattle.std.proofs.Common.{◌≡◌, ℕ, suc, Bool, true, false, ◌&&◌, ◌==◌, List, [], ◌∷◌, ◌++◌, Option, Some, None, IsTrue}
+use Rattle.std.proofs.Common.{cond, refl, sym, bytes_eq, subst, option_map, encode_utf8_all, arith, codes, eqb-true}
 use Rattle.std.proofs.lemmas.Bool.{and_parts, and_from}
 use Rattle.std.proofs.lemmas.Slice.Eq.{bytes_eq-Decides}
 use Rattle.std.proofs.lemmas.Str.{IsUtf8-append, IsUtf8-nil, IsUtf8-from_is_utf8, scalars-chars}
 use Rattle.std.proofs.DigitsParse.{digits-IsUtf8}
 use Rattle.std.specs.Fmt.{decimal}
-use Rattle.std.specs.Option.{option_map_or, option_or}
 use Rattle.std.specs.Prelude.{⊤, option_and_then, unwrap_or}
 use Rattle.std.specs.Str.{IsUtf8, is_utf8, chars, all_scalars}
 use lib.Utf8.{encode, scalar}
@@ -14,13 +13,13 @@ use Rattle.tinyjson.specs.Characters.{solidus, tilde}
 use Rattle.tinyjson.specs.Tree.{Tree, string, array, object, Items, no_items, item, Members, no_members, member}
 use Rattle.tinyjson_number.specs.Numeral.{power_width}
 use Rattle.tinyjson_grammar.specs.Soundness.{IsTree, AreItemsAt, AreMembersAt}
-use Rattle.tinyjson_pointer.specs.Text.{pointer_text, pointer_tokens, escape, escape_char, split}
+use Rattle.tinyjson_pointer.specs.Text.{pointer_text, escape, escape_char, split}
 use Rattle.tinyjson_schema_keywords.specs.Forms.{form_at}
 use Rattle.tinyjson_schema_keywords.specs.References.{percent, percent_decoded}
 use Rattle.tinyjson_schema_keywords.specs.declared.keyword.Form.{Form}
 use Rattle.tinyjson_schema_keywords.specs.declared.keyword.Form.TheVariants as form
 use Rattle.uri_reference.specs.Resolving.{without_fragment, fragment_of}
-use Rattle.tinyjson_schema_bundle.specs.Bundles.{Marked, Leads, token_char, token_text, at_key, at_index, is_empty, base_in, is_resource}
+use Rattle.tinyjson_schema_bundle.specs.Bundles.{Marked, Leads, token_char, token_text, at_key, at_index, base_in, is_resource}
 use Rattle.tinyjson_schema_bundle.specs.Bundles.{resource_marks, name_kind, name_marks, reference_marks, marks_by, marks_in, marks_among}
 use Rattle.tinyjson_schema_bundle.specs.Bundles.{marks_in_list, marks_in_map, marks_of_items, marks_of_members, marks_of, is_place, place_of}
 use Rattle.tinyjson_schema_bundle.specs.Bundles.{is_dynamic_at, dynamic_place, begins_pointer, place_after, place_below, leads_in, leads_by}

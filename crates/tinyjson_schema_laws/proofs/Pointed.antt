@@ -1,15 +1,15 @@
 -- The bundled schema has the same keywords as the schema, with bundled subschemas.
-use Rattle.std.proofs.Common.{◌≡◌, ℕ, zero, suc, Bool, true, false, not, ◌&&◌, List, [], ◌∷◌, Option, Some, None, Less}
+use Rattle.std.proofs.Common.{◌≡◌, ℕ, suc, Bool, true, false, List, Option, Some, None}
 use Rattle.std.proofs.Common.{cond, refl, sym, ap, ◌∙◌, true≢false, bytes_eq, subst, option_map, encode_utf8_all}
 use Rattle.std.proofs.lemmas.Slice.Eq.{bytes_eq-Decides}
 use Rattle.std.specs.Prelude.{⊤}
 use lib.Utf8.{encode}
 use Rattle.tinyjson.proofs.Callers.{find_below, find_put}
-use Rattle.tinyjson.specs.Index.{tree_at_key, nth}
-use Rattle.tinyjson.specs.Tree.{Tree, string, array, object, Items, no_items, item, Members, no_members, member, find, put}
+use Rattle.tinyjson.specs.Index.{nth}
+use Rattle.tinyjson.specs.Tree.{Tree, array, object, Items, no_items, item, Members, no_members, member, find, put}
 use Rattle.tinyjson_grammar.specs.Soundness.{IsBelow, IsSorted}
-use Rattle.tinyjson_grammar.specs.Tree.{key_cmp, put_at}
-use Rattle.tinyjson_schema_keywords.specs.Applied.{schema_at, items_in, members_in}
+use Rattle.tinyjson_grammar.specs.Tree.{put_at}
+use Rattle.tinyjson_schema_keywords.specs.Applied.{items_in, members_in}
 use Rattle.tinyjson_schema_keywords.specs.Forms.{form_of, form_at}
 use Rattle.tinyjson_schema_keywords.specs.Names.{name}
 use Rattle.tinyjson_schema_keywords.specs.declared.keyword.Form.{Form}
@@ -17,9 +17,9 @@ use Rattle.tinyjson_schema_keywords.specs.declared.keyword.Form.TheVariants as f
 use Rattle.tinyjson_schema_keywords.specs.declared.keyword.Keyword.{Keyword}
 use Rattle.tinyjson_schema_keywords.specs.declared.keyword.Keyword.TheVariants as kw
 use Rattle.tinyjson_schema_bundle.specs.Bundles.{Leads, pointed, pointed_among, pointed_list, pointed_map, pointed_items, pointed_members}
-use Rattle.tinyjson_schema_bundle.specs.Bundles.{kept_by, kept_id, kept_anchor, pointing, put_some, is_dynamic, at_key, at_index, base_in}
+use Rattle.tinyjson_schema_bundle.specs.Bundles.{kept_by, kept_id, kept_anchor, pointing, put_some, is_dynamic, at_key, at_index}
 use Rattle.tinyjson_schema.specs.Evaluated.{Answers}
-use Rattle.tinyjson_schema_laws.proofs.Alike.{Same, OptSame, AllSame, MapSame, ValueSame}
+use Rattle.tinyjson_schema_laws.proofs.Alike.{Same, AllSame, MapSame, ValueSame}
 
 -- ---- keys in order
 

@@ -1,7 +1,6 @@
 -- A bundled reference leads to the bundled schema to which the reference leads.
-use Rattle.std.proofs.Common.{◌≡◌, ℕ, zero, suc, Bool, true, false, not, ◌&&◌, ◌==◌, List, [], ◌∷◌, ◌++◌, Option, Some, None}
-use Rattle.std.proofs.Common.{cond, is_some, refl, sym, ap, ◌∙◌, true≢false, bytes_eq, subst, option_map, encode_utf8_all, eqb-true}
-use Rattle.std.proofs.lemmas.Bool.{and_parts}
+use Rattle.std.proofs.Common.{◌≡◌, ℕ, Bool, true, false, ◌&&◌, List, [], ◌∷◌, Option, Some, None}
+use Rattle.std.proofs.Common.{cond, is_some, refl, sym, ap, ◌∙◌, true≢false, subst, option_map, encode_utf8_all, eqb-true}
 use Rattle.std.proofs.lemmas.Option.{same_Some}
 use Rattle.std.proofs.lemmas.Str.{IsUtf8-append, IsUtf8-from_is_utf8, encodes-chars}
 use Rattle.std.specs.Option.{option_map_or, option_or}
@@ -22,7 +21,6 @@ use Rattle.tinyjson_schema_keywords.specs.References.{referenced, form_in}
 use Rattle.tinyjson_schema_keywords.specs.declared.keyword.Form.{Form}
 use Rattle.tinyjson_schema_keywords.specs.declared.keyword.Form.TheVariants as form
 use Rattle.tinyjson_schema_keywords.specs.declared.keyword.Keyword.{Keyword}
-use Rattle.tinyjson_schema_keywords.specs.declared.keyword.Keyword.TheVariants as kw
 use Rattle.tinyjson_schema_bundle.specs.Bundles.{Marked, Leads, marks_of, place_of, dynamic_place, with_name, base_in, is_dynamic, string_of}
 use Rattle.tinyjson_schema_bundle.specs.Bundles.{begins_pointer, place_below, leads_by, first_place, destination, pointing, pointed, pointed_among}
 use Rattle.tinyjson_schema_bundle.specs.Bundles.{pointed_list, pointed_map, at_key}
@@ -32,7 +30,7 @@ use Rattle.tinyjson_schema_laws.specs.Scoped.{Scope, base, outermost, dynamic_in
 use Rattle.tinyjson_schema_laws.specs.Laws.{BeginsIn}
 use Rattle.tinyjson_schema_laws.specs.Leading.{lead_by, lead_in, lead_among, lead_in_list, lead_in_map, all_lead}
 use Rattle.tinyjson_schema_laws.proofs.Pointed.{is_kept, picked, changed, found_pointed}
-use Rattle.tinyjson_schema_laws.proofs.Walk.{IsBundled, AreMatched, led, lead_found, walked}
+use Rattle.tinyjson_schema_laws.proofs.Walk.{IsBundled, AreMatched, lead_found, walked}
 use Rattle.tinyjson_schema_laws.proofs.Places.{IsPlace, IfPlace, place_found, dynamic_found, first_found}
 use Rattle.tinyjson_schema_laws.proofs.Dynamic.{IsBase, AreBases, empty_base, in_base, destination_same}
 

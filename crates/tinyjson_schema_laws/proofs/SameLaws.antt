@@ -1,13 +1,13 @@
 -- The laws of documents without contested names.
-use Rattle.std.proofs.Common.{◌≡◌, ℕ, zero, suc, ◌+◌, Bool, true, false, List, [], refl, sym, ap, ◌∙◌, cond, subst, arith}
+use Rattle.std.proofs.Common.{◌≡◌, ℕ, zero, suc, ◌+◌, Bool, true, [], refl, sym, ap, ◌∙◌, cond, subst, arith}
 use Rattle.tinyjson.specs.Tree.{Tree}
-use Rattle.tinyjson_schema_bundle.specs.Bundles.{marks_of, base_in, is_bundle, place_of, pointed}
+use Rattle.tinyjson_schema_bundle.specs.Bundles.{marks_of, base_in, place_of, pointed}
 use Rattle.tinyjson_schema_bundle.specs.Scopes.{letters, some_contested, bundled, leads_of, from_root, with_copies}
-use Rattle.tinyjson_schema.specs.Evaluated.{Answers}
+use Rattle.tinyjson_schema.specs.Evaluated.{Answers, Child}
 use Rattle.tinyjson_schema.specs.Schemas.{is_schema}
 use Rattle.tinyjson_schema.specs.Valid as valid
 use Rattle.tinyjson_schema.specs.Valid.{Root}
-use Rattle.tinyjson_schema_laws.specs.Laws.{IsUncontested, SameResults, OneVerdict, bundled_root, constant}
+use Rattle.tinyjson_schema_laws.specs.Laws.{IsUncontested, SameResults, OneVerdict, bundled_root, by_value}
 use Rattle.tinyjson_schema_laws.specs.Scoped as scoped
 use Rattle.tinyjson_schema_laws.specs.Scoped.{Scoped, judged}
 use Rattle.tinyjson_schema_laws.proofs.Referring.{root}
@@ -22,12 +22,12 @@ module _ (t : Tree) (is : IsUncontested t) where
       (some_contested (marks_of t) (base_in [] t) (marks_of t)) [] t []) t) is.several
       ∙ ap (λ x. pointed (leads_of (place_of (marks_of t)) (marks_of t) (base_in [] t) (letters t) x [] from_root) [] [] t) is.none)
 
-  pub same : (formats : Bool) (n : ℕ) (x y : Bool) (u : Tree)
-      → judged t formats n (λ c. constant x y) u ≡ valid.judge (bundled_root t formats) n (constant x y) (bundled [] t) u
+  pub same : (formats : Bool) (n : ℕ) (x : Tree → Bool) (y : Tree → Child → Bool) (u : Tree)
+      → judged t formats n (λ c. by_value x y) u ≡ valid.judge (bundled_root t formats) n (by_value x y) (bundled [] t) u
   same formats n x y u =
       whole_same t is.sound (letters t) [] is.none (subst (λ b. is_schema b true b ≡ true) (sym made_bundled) is.applied) is.leading formats n
-      (λ c. constant x y) (constant x y) (λ c s r ends bases m. (λ v. refl, λ v d. refl)) u
-      ∙ ap (λ b. valid.judge (record { tree = b; formats = formats }) n (constant x y) b u) made_bundled
+      (λ c. by_value x y) (by_value x y) (λ c s r ends bases m. (λ v. refl, λ v d. refl)) u
+      ∙ ap (λ b. valid.judge (record { tree = b; formats = formats }) n (by_value x y) b u) made_bundled
 
 pub same_results : SameResults
 same_results t is formats n x y u = same t is formats n x y u
@@ -49,12 +49,12 @@ valid_more root (suc n) m g = ap (valid.by_rules root) (valid_more root n m g) �
 
 pub one_verdict : OneVerdict
 one_verdict t is formats u a b d e =
-    let g : Scoped = λ c. constant true true in
-    let h : Answers = constant true true in
+    let g : Scoped = λ c. by_value (λ v. true) (λ v c. true) in
+    let h : Answers = by_value (λ v. true) (λ v c. true) in
     let more : e.0 + d.0 ≡ d.0 + e.0 = omega arith in
     sym (d.1 (scoped.answers t formats e.0 g))
     ∙ (ap (λ s. (s (scoped.outer t)).accepts t u) (scoped_more t formats d.0 e.0 g)
-    ∙ (same t is formats (d.0 + e.0) true true u
+    ∙ (same t is formats (d.0 + e.0) (λ v. true) (λ v c. true) u
     ∙ (ap (λ k. valid.judge (bundled_root t formats) k h (bundled [] t) u) (sym more)
     ∙ (ap (λ s. s.accepts (bundled [] t) u) (sym (valid_more (bundled_root t formats) e.0 d.0 h))
     ∙ e.1 (valid.answers (bundled_root t formats) d.0 h)))))

@@ -1,16 +1,15 @@
 -- The bundled document has the results of the document by its dynamic scope.
-use Rattle.std.proofs.Common.{◌≡◌, ℕ, zero, suc, ◌+◌, Bool, true, false, not, ◌&&◌, ◌||◌, List, [], ◌∷◌, Option, Some, None}
-use Rattle.std.proofs.Common.{cond, is_some, refl, sym, ap, ◌∙◌, true≢false, bytes_eq, subst, option_map, encode_utf8_all, arith}
+use Rattle.std.proofs.Common.{◌≡◌, ℕ, zero, suc, Bool, true, false, ◌&&◌, ◌||◌, List, [], ◌∷◌, Option, Some, None}
+use Rattle.std.proofs.Common.{cond, refl, sym, ap, ◌∙◌, true≢false, subst, option_map, encode_utf8_all}
 use Rattle.std.proofs.lemmas.Option.{same_Some}
 use Rattle.std.specs.Option.{option_map_or}
-use Rattle.std.specs.Prelude.{⊤}
 use lib.Utf8.{encode}
 use Rattle.tinyjson.specs.Access.{is_string}
 use Rattle.tinyjson.specs.Index.{nth}
-use Rattle.tinyjson.specs.Tree.{Tree, boolean, string, array, object, Items, Members, find}
+use Rattle.tinyjson.specs.Tree.{Tree, string, array, object, Members, find}
 use Rattle.tinyjson_grammar.specs.Soundness.{IsTree}
-use Rattle.tinyjson_schema_keywords.specs.Applied.{schema_at, items_in, members_in}
-use Rattle.tinyjson_schema_keywords.specs.Forms.{form_of, form_at, is_some_item}
+use Rattle.tinyjson_schema_keywords.specs.Applied.{schema_at}
+use Rattle.tinyjson_schema_keywords.specs.Forms.{form_of, is_some_item}
 use Rattle.tinyjson_schema_keywords.specs.Names.{name}
 use Rattle.tinyjson_schema_keywords.specs.References.{referenced}
 use Rattle.tinyjson_schema_keywords.specs.declared.keyword.Form.{Form}
@@ -23,7 +22,7 @@ use Rattle.tinyjson_schema_bundle.specs.Bundles.{pointed_members, pointing, is_d
 use Rattle.tinyjson_schema_bundle.specs.Scopes.{Reached, some_contested}
 use Rattle.tinyjson_schema.specs.Evaluated as evaluated
 use Rattle.tinyjson_schema.specs.Evaluated.{Answers, Child}
-use Rattle.tinyjson_schema.specs.Schemas.{is_schema, keywords_fit, are_schemas}
+use Rattle.tinyjson_schema.specs.Schemas.{is_schema, keywords_fit}
 use Rattle.tinyjson_schema.specs.Valid as valid
 use Rattle.tinyjson_schema.specs.Valid.{Root, refuses_all}
 use Rattle.tinyjson_schema_laws.specs.Laws.{BeginsIn}
@@ -32,7 +31,7 @@ use Rattle.tinyjson_schema_laws.specs.Scoped as scoped
 use Rattle.tinyjson_schema_laws.specs.Scoped.{Scope, Scoped, base, entered, inner, outer, target_in}
 use Rattle.tinyjson_schema_laws.proofs.Alike.{Same, ValueSame, accepts_same, evaluates_same}
 use Rattle.tinyjson_schema_laws.proofs.Pointed.{is_kept, picked, changed, found_pointed, form_named, AreParts, keyword_same, no_schema_same}
-use Rattle.tinyjson_schema_laws.proofs.Walk.{is_live, Fit, Lead, fit_member, fit_item, fit_entry, lead_member, lead_item, lead_entry}
+use Rattle.tinyjson_schema_laws.proofs.Walk.{Fit, Lead, fit_member, fit_item, fit_entry, lead_member, lead_item, lead_entry}
 use Rattle.tinyjson_schema_laws.proofs.Walk.{found_sound, nth_sound, nth_pointed, find_pointed}
 use Rattle.tinyjson_schema_laws.proofs.Dynamic.{IsBase, AreBases, empty_base, in_base, ends_more}
 use Rattle.tinyjson_schema_laws.proofs.Referring.{guide, root, Bundled, AreLed, keyword_led}

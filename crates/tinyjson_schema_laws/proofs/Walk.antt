@@ -1,5 +1,5 @@
 -- Tokens lead in the bundled document to the bundled schema that is where they lead in the document.
-use Rattle.std.proofs.Common.{◌≡◌, ℕ, zero, suc, Bool, true, false, not, ◌&&◌, List, [], ◌∷◌, Option, Some, None}
+use Rattle.std.proofs.Common.{◌≡◌, ℕ, zero, suc, Bool, true, false, List, [], ◌∷◌, Option, Some, None}
 use Rattle.std.proofs.Common.{cond, is_some, refl, sym, ap, ◌∙◌, true≢false, bytes_eq, subst, option_map, encode_utf8_all}
 use Rattle.std.proofs.lemmas.Bool.{and_parts}
 use Rattle.std.proofs.lemmas.Option.{same_Some}
@@ -17,7 +17,7 @@ use Rattle.tinyjson_schema_keywords.specs.References.{form_in, form_after, is_sc
 use Rattle.tinyjson_schema_keywords.specs.declared.keyword.Form.{Form}
 use Rattle.tinyjson_schema_keywords.specs.declared.keyword.Form.TheVariants as form
 use Rattle.tinyjson_schema_bundle.specs.Bundles.{Leads, pointed, pointed_among, pointed_list, pointed_map, pointed_items, pointed_members}
-use Rattle.tinyjson_schema_bundle.specs.Bundles.{Marked, pointing, is_dynamic, at_key, at_index, base_in}
+use Rattle.tinyjson_schema_bundle.specs.Bundles.{Marked, is_dynamic, at_key, at_index, base_in}
 use Rattle.tinyjson_schema.specs.Circles.{leads}
 use Rattle.tinyjson_schema.specs.Operands.{has_patterns}
 use Rattle.tinyjson_schema.specs.Schemas.{fits, is_schema, keywords_fit, is_schema_list, is_schema_map, are_schemas, have_schemas}

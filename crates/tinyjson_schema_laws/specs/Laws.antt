@@ -26,18 +26,18 @@ pub record IsUncontested (t : Tree) : Type 0 where
 abbrev pub bundled_root : Tree → Bool → Root
 bundled_root t formats = record { tree = bundled [] t; formats = formats }
 
--- each schema has the same results for all values
-abbrev pub constant : Bool → Bool → Answers
-constant x y = record { accepts = λ s u. x; evaluates = λ s u c. y }
+-- each schema has the same results, by the value alone
+abbrev pub by_value : (Tree → Bool) → (Tree → Child → Bool) → Answers
+by_value accepts evaluates = record { accepts = λ s u. accepts u; evaluates = λ s u c. evaluates u c }
 
--- At each number of nested schemas, the document judges by its dynamic scope as the bundled document does, if all
--- schemas that are nested deeper have the same results.
+-- At each number of nested schemas, the document judges by its dynamic scope as the bundled document does, if schemas
+-- that are nested deeper have the same results.
 abbrev pub SameResults : Type 0
-SameResults = (t : Tree) → IsUncontested t → (formats : Bool) (n : ℕ) (x y : Bool) (u : Tree)
-    → judged t formats n (λ c. constant x y) u ≡ judge (bundled_root t formats) n (constant x y) (bundled [] t) u
+SameResults = (t : Tree) → IsUncontested t → (formats : Bool) (n : ℕ) (accepts : Tree → Bool) (evaluates : Tree → Child → Bool) (u : Tree)
+    → judged t formats n (λ c. by_value accepts evaluates) u
+    ≡ judge (bundled_root t formats) n (by_value accepts evaluates) (bundled [] t) u
 
--- The document decides whether it accepts the value: so at some number of nested schemas, whatever the results of
--- deeper ones are.
+-- The document accepts the value or not: so at some number of nested schemas, whatever the results of deeper ones are.
 abbrev pub Decides : Tree → Bool → Tree → Bool → Type 0
 Decides t formats u is = (n : ℕ) × ((g : Scoped) → judged t formats n g u ≡ is)
 
