@@ -220,7 +220,8 @@ module _ (a b : Answers) where
 
   -- ---- two schemas
 
-  module _ (s t : Tree) (refused : refuses_all s ≡ refuses_all t) (same : (k : Keyword) → ValueSame (form_of k) (schema_at s k) (schema_at t k))
+  module _ (s t : Tree) (refused : refuses_all s ≡ refuses_all t) (same : (k : Keyword)
+      → ValueSame (form_of k) (schema_at s k) (schema_at t k))
     where
       value : (k : Keyword) → is_plain (form_of k) ≡ true → schema_at s k ≡ schema_at t k
       value k e = plain_same (form_of k) (schema_at s k) (schema_at t k) e (same k)
@@ -304,7 +305,8 @@ module _ (a b : Answers) where
 
       module _ (u : Tree) (e f : Child → Bool) (led : (x : Child) → e x ≡ f x) where
         abbrev others : Answers → Tree → (Child → Bool) → Child → Bool
-        others d r g x = applies_to d.accepts r x || (some_evaluate d (schemas_at r kw.AllOf) u x || (accepting_evaluate d (schemas_at r kw.AnyOf) u x
+        others d r g x = applies_to d.accepts r x || (some_evaluate d (schemas_at r kw.AllOf) u x
+            || (accepting_evaluate d (schemas_at r kw.AnyOf) u x
             || (accepting_evaluate d (schemas_at r kw.OneOf) u x || (branch_evaluates d r u x
             || (dependents_evaluate d (schema_map_at r kw.DependentSchemas) u x || g x)))))
 
@@ -315,8 +317,10 @@ module _ (a b : Answers) where
 
         branches_same : (x : Child) → branch_evaluates a s u x ≡ branch_evaluates b t u x
         branches_same x = map_or_same
-            (λ r. (a.accepts r u && a.evaluates r u x) || option_map_or (λ q. a.evaluates q u x) (schema_at s (branch (a.accepts r u))) false)
-            (λ r. (b.accepts r u && b.evaluates r u x) || option_map_or (λ q. b.evaluates q u x) (schema_at t (branch (b.accepts r u))) false)
+            (λ r. (a.accepts r u && a.evaluates r u x) || option_map_or (λ q. a.evaluates q u x) (schema_at s (branch
+            (a.accepts r u))) false)
+            (λ r. (b.accepts r u && b.evaluates r u x) || option_map_or (λ q. b.evaluates q u x) (schema_at t (branch
+            (b.accepts r u))) false)
             false _ _
             (λ r q h. λ i. (h.0 u i && h.1 u x i) || (chosen_same x (a.accepts r u)
             ∙ ap (λ c. option_map_or (λ w. b.evaluates w u x) (schema_at t (branch c)) false) (h.0 u)) i) (same kw.If)
@@ -334,7 +338,8 @@ module _ (a b : Answers) where
         rest d r g x = option_map_or (λ q. others d r g x || d.accepts q (value_of x)) (schema_at r (rest_keyword x)) true
 
         rests_same : (x : Child) → rest a s e x ≡ rest b t f x
-        rests_same x = map_or_same (λ q. others a s e x || a.accepts q (value_of x)) (λ q. others b t f x || b.accepts q (value_of x)) true _ _
+        rests_same x = map_or_same (λ q. others a s e x || a.accepts q (value_of x)) (λ q. others b t f x
+            || b.accepts q (value_of x)) true _ _
             (λ r q h. λ i. others_same x i || h.0 (value_of x) i) (rest_same x)
 
         pub accepts_same : (formats x y : Bool) → x ≡ y

@@ -9,7 +9,8 @@ use Rattle.std.specs.Prelude.{unwrap_or, is_none}
 use Rattle.uri_reference.specs.Letters.{is_number_sign, before, from, after}
 use Rattle.uri_reference.specs.Resolving.{without_fragment, fragment_of}
 use Rattle.tinyjson_schema_bundle.specs.Bundles as bundle
-use Rattle.tinyjson_schema_bundle.specs.Bundles.{Marked, marks_of, base_in, with_name, is_dynamic_name, is_dynamic_at, dynamic_place, is_named, is_only}
+use Rattle.tinyjson_schema_bundle.specs.Bundles.{Marked, marks_of, base_in, with_name, is_dynamic_name, is_dynamic_at, dynamic_place}
+use Rattle.tinyjson_schema_bundle.specs.Bundles.{is_named, is_only}
 use Rattle.tinyjson_schema_bundle.specs.Bundles.{begins_pointer}
 use Rattle.tinyjson_schema_bundle.specs.Scopes.{settled, name_in, is_contested, is_entering, entered_by}
 use Rattle.tinyjson_schema_laws.specs.Laws.{ScopeDecides, AreUris, kept}
@@ -60,7 +61,8 @@ or_or : (x y z : Option (List ℕ)) → option_or (option_or x y) z ≡ option_o
 or_or None y z = refl
 or_or (Some p) y z = refl
 
-settled_last : (c : List Marked) (m : Marked) (n : List ℕ) → settled (c ++ m ∷ []) n ≡ option_or (settled c n) (cond (is_named m n) (Some m.2) None)
+settled_last : (c : List Marked) (m : Marked) (n : List ℕ) → settled (c ++ m ∷ []) n
+    ≡ option_or (settled c n) (cond (is_named m n) (Some m.2) None)
 settled_last [] m n = refl
 settled_last (l ∷ c) m n = by (settled_last c m n) (is_named l n)
   where
@@ -70,7 +72,8 @@ settled_last (l ∷ c) m n = by (settled_last c m n) (is_named l n)
     by later false = later
 
 module _ (all : List Marked) (r n : List ℕ) (is_name : begins_pointer n ≡ false) (q : List ℕ)
-    (contested : is_none (bundle.outermost all r n q) ≡ true) (v : List ℕ) (base : IsBase v) (at : dynamic_place all (with_name v n) ≡ Some q) where
+    (contested : is_none (bundle.outermost all r n q) ≡ true) (v : List ℕ) (base : IsBase v) (at : dynamic_place all (with_name v n)
+    ≡ Some q) where
   none_here : dynamic_place all (with_name r n) ≡ None
   none_here = by (dynamic_place all (with_name r n)) contested
     where
@@ -101,7 +104,8 @@ module _ (all : List Marked) (r n : List ℕ) (is_name : begins_pointer n ≡ fa
         ≡ option_or (settled c n) (cond (is_dynamic_at m (with_name u n)) (Some m.2) o)
     one_more c m o = by (is_dynamic_at m (with_name u n)) refl
       where
-        kept_on : (x : Bool) (p : Option (List ℕ)) → settled c n ≡ p → is_contested all r m ≡ true → bytes_eq (without_fragment m.1) u ≡ true
+        kept_on : (x : Bool) (p : Option (List ℕ)) → settled c n ≡ p → is_contested all r m ≡ true
+            → bytes_eq (without_fragment m.1) u ≡ true
             → name_in m ≡ n → is_named m n ≡ true
             → option_or (settled (cond (is_entering all r c u m) (c ++ m ∷ []) c) n) o
             ≡ option_or p (Some m.2)
@@ -135,7 +139,8 @@ module _ (all : List Marked) (r n : List ℕ) (is_name : begins_pointer n ≡ fa
             let both = and_parts (is_dynamic_name m.0) (bytes_eq m.1 (with_name u n)) e in
             let uri : m.1 ≡ with_name u n = (bytes_eq-Decides m.1 (with_name u n)).0 both.1 in
             let name : name_in m ≡ n = ap (λ x. unwrap_or (fragment_of x) []) uri ∙ name_of u n (subst IsBase cut (cut_base u)) in
-            let resource : without_fragment m.1 ≡ u = ap without_fragment uri ∙ (sym (ap (λ y. without_fragment (with_name y n)) cut) ∙ (cut_name u n ∙ cut)) in
+            let resource : without_fragment m.1 ≡ u = ap without_fragment uri ∙ (sym (ap (λ y. without_fragment (with_name y n)) cut)
+            ∙ (cut_name u n ∙ cut)) in
             kept_on true (settled c n) refl (all_contested m both.0 name) ((bytes_eq-Decides (without_fragment m.1) u).1 resource) name
             (λ i. both.0 i && (bytes_eq-Decides (name_in m) n).1 name i)
         by false e = passed (is_entering all r c u m) refl e
@@ -167,4 +172,5 @@ scope_decides t c ends uris u n q cut is_name e = by (is_none (bundle.outermost 
         nothing : (o : Option (List ℕ)) → is_none o ≡ true → o ≡ None
         nothing None g = refl
         nothing (Some p) g = absurd (true≢false (sym g))
-    by false f = same_outermost (marks_of t) (base_in [] t) n c q (settled (kept (marks_of t) (base_in [] t) c) n) ends (uris_bases c uris) f
+    by false f = same_outermost (marks_of t) (base_in [] t) n c q (settled (kept (marks_of t) (base_in [] t) c) n) ends
+        (uris_bases c uris) f

@@ -14,7 +14,8 @@ use Rattle.tinyjson_schema_keywords.specs.Applied.{schema_at}
 use Rattle.tinyjson_schema_keywords.specs.References.{percent_decoded}
 use Rattle.tinyjson_schema_keywords.specs.declared.keyword.Keyword.TheVariants as kw
 use Rattle.tinyjson_schema_bundle.specs.Bundles.{Marked, Leads, with_name, base_by, base_in, place_of, is_dynamic_name, is_dynamic_at}
-use Rattle.tinyjson_schema_bundle.specs.Bundles.{dynamic_place, is_named, is_other, is_only, begins_pointer, place_below, leads_by, first_place}
+use Rattle.tinyjson_schema_bundle.specs.Bundles.{dynamic_place, is_named, is_other, is_only, begins_pointer, place_below, leads_by}
+use Rattle.tinyjson_schema_bundle.specs.Bundles.{first_place}
 use Rattle.tinyjson_schema_bundle.specs.Bundles.{destination}
 use Rattle.tinyjson_schema_bundle.specs.Bundles as bundle
 use Rattle.tinyjson_schema_bundle.specs.Scopes.{Reached, name_in, is_contested, some_contested, leads_over, leads_of, settled, scope_at}
@@ -34,7 +35,8 @@ before_base (c ∷ x) n = by (before_base x n) (is_number_sign c) refl
     by : from is_number_sign (before is_number_sign x ++ 35 ∷ n) ≡ 35 ∷ n → (b : Bool) → is_number_sign c ≡ b
         → from is_number_sign (cond b [] (c ∷ before is_number_sign x) ++ 35 ∷ n) ≡ 35 ∷ n
     by later true e = refl
-    by later false e = ap (λ b. cond b (c ∷ (before is_number_sign x ++ 35 ∷ n)) (from is_number_sign (before is_number_sign x ++ 35 ∷ n))) e
+    by later false e = ap (λ b. cond b (c ∷ (before is_number_sign x ++ 35 ∷ n)) (from is_number_sign
+        (before is_number_sign x ++ 35 ∷ n))) e
         ∙ later
 
 pub cut_base : (x : List ℕ) → IsBase (without_fragment x)
@@ -88,7 +90,8 @@ module _ (all : List Marked) (r n : List ℕ) where
       parts : (is_contested all r m ≡ false) × (some_contested all r ms ≡ false)
       parts = or_parts (is_contested all r m) (some_contested all r ms) f
 
-      by : (dynamic_place ms (with_name u n) ≡ Some q → is_none (bundle.outermost all r n q) ≡ false) → (x : Bool) → is_dynamic_at m (with_name u n) ≡ x → cond x (Some m.2) (dynamic_place ms (with_name u n)) ≡ Some q
+      by : (dynamic_place ms (with_name u n) ≡ Some q → is_none (bundle.outermost all r n q) ≡ false) → (x : Bool)
+          → is_dynamic_at m (with_name u n) ≡ x → cond x (Some m.2) (dynamic_place ms (with_name u n)) ≡ Some q
           → is_none (bundle.outermost all r n q) ≡ false
       by later true g e =
           let both = and_parts (is_dynamic_name m.0) (bytes_eq m.1 (with_name u n)) g in
@@ -152,7 +155,8 @@ module _ (all : List Marked) (r n : List ℕ) where
   first_in (u ∷ v ∷ c) p h e = ap (λ o. option_or o (dynamic_place all (with_name u n))) (first_in (v ∷ c) p h e)
 
   -- the scope decides as the marks do
-  pub same_outermost : (c : Scope) (q : List ℕ) (o : Option (List ℕ)) → BeginsIn r c → AreBases c → is_none (bundle.outermost all r n q) ≡ false
+  pub same_outermost : (c : Scope) (q : List ℕ) (o : Option (List ℕ)) → BeginsIn r c → AreBases c
+      → is_none (bundle.outermost all r n q) ≡ false
       → unwrap_or (option_or (bundle.outermost all r n q) o) q ≡ unwrap_or (outermost all c n) q
   same_outermost c q o ends bases f = by (dynamic_place all (with_name r n)) refl f
     where
@@ -161,14 +165,16 @@ module _ (all : List Marked) (r n : List ℕ) where
       only_here true g h = unwrapped q (outermost all c n) (only_in c q bases g)
       only_here false g h = absurd (true≢false h)
 
-      by : (d : Option (List ℕ)) → dynamic_place all (with_name r n) ≡ d → is_none (option_or d (cond (is_only all n q) (Some q) None)) ≡ false
+      by : (d : Option (List ℕ)) → dynamic_place all (with_name r n) ≡ d
+          → is_none (option_or d (cond (is_only all n q) (Some q) None)) ≡ false
           → unwrap_or (option_or (option_or d (cond (is_only all n q) (Some q) None)) o) q ≡ unwrap_or (outermost all c n) q
       by (Some p) e h = sym (ap (λ x. unwrap_or x q) (first_in c p ends e))
       by None e h = only_here (is_only all n q) refl h
 
 -- ---- where references lead
 
-module _ (all : List Marked) (r z : List ℕ) (copies : List Reached) (s : Reached) (settled_all : some_contested all r all ≡ false) (c : Scope)
+module _ (all : List Marked) (r z : List ℕ) (copies : List Reached) (s : Reached) (settled_all : some_contested all r all
+    ≡ false) (c : Scope)
     (ends : BeginsIn r c) (bases : AreBases c) where
   abbrev guide : Leads
   guide = leads_of (place_of all) all r z false copies s

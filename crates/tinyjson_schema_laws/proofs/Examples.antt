@@ -73,7 +73,8 @@ data_accepted : (g : Scoped) → judged strict_schema false 7 g (one_child (code
 unfolding is_utf8 chars encode
 data_accepted g = refl
 
-misspelt_bundled : (g : Answers) → judge (plain (bundled [] strict_schema)) 7 g (bundled [] strict_schema) (one_child (codes "daat")) ≡ false
+misspelt_bundled : (g : Answers) → judge (plain (bundled [] strict_schema)) 7 g (bundled [] strict_schema) (one_child (codes "daat"))
+    ≡ false
 unfolding is_utf8 chars encode
 misspelt_bundled g = refl
 
@@ -99,9 +100,11 @@ abbrev refers : List ℕ → Tree
 refers uri = object (member (codes "$ref") (text uri) no_members)
 
 abbrev lists_schema : Tree
-lists_schema = object (member (codes "$defs") (object (member (codes "l") list_schema (member (codes "s") (list_of (codes "texts") (codes "string"))
+lists_schema = object (member (codes "$defs") (object (member (codes "l") list_schema (member (codes "s") (list_of (codes "texts")
+    (codes "string"))
     (member (codes "t") (list_of (codes "truths") (codes "boolean")) no_members))))
-    (member (codes "properties") (object (member (codes "s") (refers (codes "texts")) (member (codes "t") (refers (codes "truths")) no_members)))
+    (member (codes "properties") (object (member (codes "s") (refers (codes "texts")) (member (codes "t") (refers
+    (codes "truths")) no_members)))
     no_members))
 
 -- the list is reached from both others, so it has two copies
@@ -157,7 +160,8 @@ wrong_copies_applied = refl
 
 -- A pointer to the place of a copy leads nowhere in the document, but to the copy in the bundled one.
 abbrev astray_schema : Tree
-astray_schema = object (member (codes "$defs") (object (member (codes "l") list_schema (member (codes "s") (list_of (codes "texts") (codes "string"))
+astray_schema = object (member (codes "$defs") (object (member (codes "l") list_schema (member (codes "s") (list_of (codes "texts")
+    (codes "string"))
     (member (codes "t") (list_of (codes "truths") (codes "boolean")) no_members))))
     (member (codes "properties") (object (member (codes "s") (refers (codes "texts")) (member (codes "t") (refers (codes "truths"))
     (member (codes "u") (refers (codes "#/$defs/zz0")) no_members)))) no_members))

@@ -21,7 +21,8 @@ use Rattle.tinyjson_schema_keywords.specs.declared.keyword.Form.TheVariants as f
 use Rattle.uri_reference.specs.Resolving.{without_fragment, fragment_of}
 use Rattle.tinyjson_schema_bundle.specs.Bundles.{Marked, Leads, token_char, token_text, at_key, at_index, base_in, is_resource}
 use Rattle.tinyjson_schema_bundle.specs.Bundles.{resource_marks, name_kind, name_marks, reference_marks, marks_by, marks_in, marks_among}
-use Rattle.tinyjson_schema_bundle.specs.Bundles.{marks_in_list, marks_in_map, marks_of_items, marks_of_members, marks_of, is_place, place_of}
+use Rattle.tinyjson_schema_bundle.specs.Bundles.{marks_in_list, marks_in_map, marks_of_items, marks_of_members, marks_of, is_place}
+use Rattle.tinyjson_schema_bundle.specs.Bundles.{place_of}
 use Rattle.tinyjson_schema_bundle.specs.Bundles.{is_dynamic_at, dynamic_place, begins_pointer, place_after, place_below, leads_in, leads_by}
 use Rattle.tinyjson_schema_bundle.specs.Bundles.{first_place, with_name}
 use Rattle.tinyjson_schema_bundle.specs.declared.mark.Kind.{Kind}
@@ -215,12 +216,14 @@ below_place p ds h u = by (bytes_eq (pointer_text tokens) (chars ds)) refl
     by : (x : Bool) → bytes_eq (pointer_text (split false (chars ds)).1) (chars ds) ≡ x
         → IfPlace (option_map (place_after p) (cond x (Some (split false (chars ds)).1) None))
     by true e = after_place p (split false (chars ds)).1 h (tokens_scalars (split false (chars ds)).1
-        (subst (λ xs. IsTrue (all_scalars xs)) (sym ((bytes_eq-Decides (pointer_text (split false (chars ds)).1) (chars ds)).0 e)) (scalars-chars ds u)))
+        (subst (λ xs. IsTrue (all_scalars xs)) (sym ((bytes_eq-Decides (pointer_text (split false (chars ds)).1) (chars ds)).0 e))
+        (scalars-chars ds u)))
     by false e = tt
 
 -- ---- the first place to which a URI leads
 
-module _ (to : Leads) (found : (u : List ℕ) → IfPlace (to.0 u)) (named : (b u n : List ℕ) → IfPlace (to.1 b u n)) (dynamic : Bool) (b t : List ℕ)
+module _ (to : Leads) (found : (u : List ℕ) → IfPlace (to.0 u)) (named : (b u n : List ℕ)
+    → IfPlace (to.1 b u n)) (dynamic : Bool) (b t : List ℕ)
   where
     below_some : (o : Option (List ℕ)) (ds : List ℕ) → IfPlace o → IsUtf8 ds → IfPlace (option_and_then (λ p. place_below p ds) o)
     below_some None ds h u = tt
@@ -234,7 +237,8 @@ module _ (to : Leads) (found : (u : List ℕ) → IfPlace (to.0 u)) (named : (b 
     decoded_place ds = by (is_utf8 ds) refl
       where
         by : (x : Bool) → is_utf8 ds ≡ x → IfPlace (cond x (leads_in to dynamic b (without_fragment t) ds) None)
-        by true e = either (begins_pointer ds) _ _ (below_some (to.0 (without_fragment t)) ds (found (without_fragment t)) (IsUtf8-from_is_utf8 ds e))
+        by true e = either (begins_pointer ds) _ _ (below_some (to.0 (without_fragment t)) ds (found (without_fragment t))
+            (IsUtf8-from_is_utf8 ds e))
             (either dynamic _ _ (named b (without_fragment t) ds) (found (with_name (without_fragment t) ds)))
         by false e = tt
 

@@ -100,7 +100,8 @@ form_named _ = refl
 
 module _ (a c : Answers) (P : Tree → Tree → Type 0) (same : (r v : Tree) → P r v → Same a c r v) (to : Leads) (b : List ℕ) where
   items_same : (p : List ℕ) (i : ℕ) (ts : Items)
-      → ((j : ℕ) (r v : Tree) → nth ts j ≡ Some r → nth (pointed_items to b p i ts) j ≡ Some v → P r v) → AllSame a c ts (pointed_items to b p i ts)
+      → ((j : ℕ) (r v : Tree) → nth ts j ≡ Some r → nth (pointed_items to b p i ts) j ≡ Some v → P r v)
+      → AllSame a c ts (pointed_items to b p i ts)
   items_same p i no_items h = tt
   items_same p i (item t ts) h =
       (same t (pointed to b (at_index p i) t) (h 0 t (pointed to b (at_index p i) t) refl refl), items_same p (suc i) ts (λ j. h (suc j)))
@@ -122,7 +123,8 @@ module _ (a c : Answers) (P : Tree → Tree → Type 0) (same : (r v : Tree) →
       here : (x y : Option Tree) → cond (bytes_eq k k) x y ≡ x
       here x y = ap (λ t. cond t x y) ((bytes_eq-Decides k k).1 refl)
 
-      later : (l : List ℕ) (r v : Tree) → find l ms ≡ Some r → find l (pointed_members to b p ms) ≡ Some v → (x : Bool) → bytes_eq l k ≡ x → P r v
+      later : (l : List ℕ) (r v : Tree) → find l ms ≡ Some r → find l (pointed_members to b p ms) ≡ Some v → (x : Bool)
+          → bytes_eq l k ≡ x → P r v
       later l r v e f true g = absurd (some_none r (sym e ∙ (ap (λ x. find x ms) ((bytes_eq-Decides l k).0 g) ∙ find_below k ms s.0 s.1)))
       later l r v e f false g = h l r v (ap (λ t. cond t (Some u) (find l ms)) g ∙ e)
           (find_put l k (pointed to b (at_key p k) u) (pointed_members to b p ms)
@@ -138,18 +140,21 @@ module _ (a c : Answers) (P : Tree → Tree → Type 0) (same : (r v : Tree) →
       × ((k : List ℕ) (r v : Tree) → find k (members_in w) ≡ Some r → find k (members_in x) ≡ Some v → P r v)
   AreParts _ w x = ⊤
 
-  list_same : (p : List ℕ) (w : Tree) → AreParts form.Schemas w (pointed_list to b p w) → AllSame a c (items_in w) (items_in (pointed_list to b p w))
+  list_same : (p : List ℕ) (w : Tree) → AreParts form.Schemas w (pointed_list to b p w)
+      → AllSame a c (items_in w) (items_in (pointed_list to b p w))
   list_same p (array ts) h = items_same p 0 ts h
   list_same p _ h = tt
 
-  map_same : (p : List ℕ) (w : Tree) → AreParts form.SchemaMap w (pointed_map to b p w) → MapSame a c (members_in w) (members_in (pointed_map to b p w))
+  map_same : (p : List ℕ) (w : Tree) → AreParts form.SchemaMap w (pointed_map to b p w)
+      → MapSame a c (members_in w) (members_in (pointed_map to b p w))
   map_same p (object ms) h = members_same p ms h.0 h.1
   map_same p _ h = tt
 
   abbrev bundled_as : Form → List ℕ → Tree → Tree → Tree
   bundled_as f p r w = picked f w r (pointed to b p w) (pointed_list to b p w) (pointed_map to b p w)
 
-  some_same : (f : Form) (p : List ℕ) (w r : Tree) → AreParts f w (bundled_as f p r w) → ValueSame a c f (Some w) (Some (bundled_as f p r w))
+  some_same : (f : Form) (p : List ℕ) (w r : Tree) → AreParts f w (bundled_as f p r w)
+      → ValueSame a c f (Some w) (Some (bundled_as f p r w))
   some_same form.Base p w r h = tt
   some_same form.Anchor p w r h = tt
   some_same form.Reference p w r h = tt
@@ -189,7 +194,8 @@ module _ (a c : Answers) (P : Tree → Tree → Type 0) (same : (r v : Tree) →
     where
       by : (x : Bool) → is_kept (form_of k) ≡ x → ValueSame a c (form_of k) (find (name k) ms) (find (name k) (pointed_among to b p ms))
       by false e = dead_same (form_of k) _ _ e
-      by true e = subst (ValueSame a c (form_of k) (find (name k) ms)) (sym (found_pointed to b p (name k) ms (ap is_kept (form_named k) ∙ e)
+      by true e = subst (ValueSame a c (form_of k) (find (name k) ms)) (sym (found_pointed to b p (name k) ms (ap is_kept
+          (form_named k) ∙ e)
           ∙ ap (λ f. option_map (λ w. bundled_as f (at_key p (name k)) (referring k w) w) (find (name k) ms)) (form_named k)))
           (opt_same (form_of k) (at_key p (name k)) (find (name k) ms) (referring k) h)
 

@@ -16,17 +16,21 @@ use Rattle.tinyjson_schema_keywords.specs.Anchors.{anchors_in, anchored, is_plai
 use Rattle.tinyjson_schema_keywords.specs.Applied.{schema_at}
 use Rattle.tinyjson_schema_keywords.specs.Forms.{form_at}
 use Rattle.tinyjson_schema_keywords.specs.Names.{name}
-use Rattle.tinyjson_schema_keywords.specs.References.{percent_decoded, schema_from, at_pointer, at_text, at_fragment, reference_bytes, target}
+use Rattle.tinyjson_schema_keywords.specs.References.{percent_decoded, schema_from, at_pointer, at_text, at_fragment, reference_bytes}
+use Rattle.tinyjson_schema_keywords.specs.References.{target}
 use Rattle.tinyjson_schema_keywords.specs.References.{referenced, form_in}
 use Rattle.tinyjson_schema_keywords.specs.declared.keyword.Form.{Form}
 use Rattle.tinyjson_schema_keywords.specs.declared.keyword.Form.TheVariants as form
 use Rattle.tinyjson_schema_keywords.specs.declared.keyword.Keyword.{Keyword}
-use Rattle.tinyjson_schema_bundle.specs.Bundles.{Marked, Leads, marks_of, place_of, dynamic_place, with_name, base_in, is_dynamic, string_of}
-use Rattle.tinyjson_schema_bundle.specs.Bundles.{begins_pointer, place_below, leads_by, first_place, destination, pointing, pointed, pointed_among}
+use Rattle.tinyjson_schema_bundle.specs.Bundles.{Marked, Leads, marks_of, place_of, dynamic_place, with_name, base_in, is_dynamic}
+use Rattle.tinyjson_schema_bundle.specs.Bundles.{string_of}
+use Rattle.tinyjson_schema_bundle.specs.Bundles.{begins_pointer, place_below, leads_by, first_place, destination, pointing, pointed}
+use Rattle.tinyjson_schema_bundle.specs.Bundles.{pointed_among}
 use Rattle.tinyjson_schema_bundle.specs.Bundles.{pointed_list, pointed_map, at_key}
 use Rattle.tinyjson_schema_bundle.specs.Scopes.{Reached, some_contested, leads_of, from_root}
 use Rattle.tinyjson_schema.specs.Schemas.{is_schema}
-use Rattle.tinyjson_schema_laws.specs.Scoped.{Scope, base, outermost, dynamic_in, leads_in, led_to, located, located_at, target_in, base_within}
+use Rattle.tinyjson_schema_laws.specs.Scoped.{Scope, base, outermost, dynamic_in, leads_in, led_to, located, located_at, target_in}
+use Rattle.tinyjson_schema_laws.specs.Scoped.{base_within}
 use Rattle.tinyjson_schema_laws.specs.Laws.{BeginsIn}
 use Rattle.tinyjson_schema_laws.specs.Leading.{lead_by, lead_in, lead_among, lead_in_list, lead_in_map, all_lead}
 use Rattle.tinyjson_schema_laws.proofs.Pointed.{is_kept, picked, changed, found_pointed}
@@ -75,9 +79,11 @@ module _ (all : List Marked) (c d : Scope) where
 
   some_first : (dynamic : Bool) (b t : List ℕ)
       → is_some (first_place (leads_in all c) dynamic b t) ≡ is_some (first_place (leads_in all d) dynamic b t)
-  some_first dynamic b t = some_then (leads_by (leads_in all c) dynamic b (without_fragment t)) (leads_by (leads_in all d) dynamic b (without_fragment t))
+  some_first dynamic b t = some_then (leads_by (leads_in all c) dynamic b (without_fragment t)) (leads_by (leads_in all d) dynamic b
+      (without_fragment t))
       (percent_decoded (unwrap_or (fragment_of t) []))
-      (λ ds. some_cond (is_utf8 ds) _ None _ None (some_cond (begins_pointer ds) (option_and_then (λ p. place_below p ds) (place_of all (without_fragment t))) _
+      (λ ds. some_cond (is_utf8 ds) _ None _ None (some_cond (begins_pointer ds) (option_and_then (λ p. place_below p ds)
+      (place_of all (without_fragment t))) _
       (option_and_then (λ p. place_below p ds) (place_of all (without_fragment t))) _ refl
       (some_cond dynamic _ (place_of all (with_name (without_fragment t) ds)) _ (place_of all (with_name (without_fragment t) ds))
       (some_dynamic (without_fragment t) ds) refl)) refl)
@@ -149,7 +155,8 @@ module _ (t : Tree) (sound : IsTree t) (z : List ℕ) (copies : List Reached)
         → Matched (at_fragment root ds) (cond (is_utf8 ds) (option_and_then (located form.Schema [] t) (pointer_tokens (chars ds))) None)
     at_bytes ds h = by (is_utf8 ds)
       where
-        by : (x : Bool) → Matched (cond x (at_text root ds) None) (cond x (option_and_then (located form.Schema [] t) (pointer_tokens (chars ds))) None)
+        by : (x : Bool) → Matched (cond x (at_text root ds) None) (cond x (option_and_then (located form.Schema [] t) (pointer_tokens
+            (chars ds))) None)
         by true = subst (λ o. Matched o (option_and_then (located form.Schema [] t) (pointer_tokens (chars ds))))
             (sym (ap (λ x. cond x (anchored (anchors_in root) ds) (at_pointer root (chars ds))) (no_plain ds h)))
             (at_tokens (pointer_tokens (chars ds)))
@@ -223,11 +230,14 @@ module _ (t : Tree) (sound : IsTree t) (z : List ℕ) (copies : List Reached)
               (resolved (base c) (encode_utf8_all cs))
 
           by : (d : Option (List ℕ)) → d ≡ first_place (leads_in (marks_of t) c) dynamic (base c) (resolved (base c) (encode_utf8_all cs))
-              → (o : Option (List ℕ)) → first_place (leads_in (marks_of t) c) dynamic (base c) (resolved (base c) (encode_utf8_all cs)) ≡ o → IfPlace o
+              → (o : Option (List ℕ)) → first_place (leads_in (marks_of t) c) dynamic (base c) (resolved (base c)
+              (encode_utf8_all cs)) ≡ o → IfPlace o
               → AreLed (target root (option_map_or (λ p. string_of (35 ∷ p)) d (string cs)))
               (option_map in_scope (option_and_then (located_at t) o))
-          by d e None f g = absurd (true≢false (sym h ∙ (sym (some_led (marks_of t) c (base c ∷ []) dynamic (string cs) refl) ∙ ap is_some f)))
-          by d e (Some q) f g = subst (λ x. AreLed (target root (option_map_or (λ p. string_of (35 ∷ p)) x (string cs))) (option_map in_scope (located_at t q)))
+          by d e None f g = absurd (true≢false (sym h ∙ (sym (some_led (marks_of t) c (base c ∷ []) dynamic (string cs) refl)
+              ∙ ap is_some f)))
+          by d e (Some q) f g = subst (λ x. AreLed (target root (option_map_or (λ p. string_of (35 ∷ p)) x (string cs)))
+              (option_map in_scope (located_at t q)))
               (sym (e ∙ f)) (lifted (target root (string_of (35 ∷ q))) (located_at t q) (place_base t q) (at_place q g))
       reference_led dynamic _ h = absurd (true≢false (sym h))
 
@@ -235,9 +245,11 @@ module _ (t : Tree) (sound : IsTree t) (z : List ℕ) (copies : List Reached)
       module _ (k : Keyword) (is : form_at (encode_utf8_all (name k)) ≡ form.Reference) (same : encode_utf8_all (name k) ≡ name k) where
         in_members : (p : List ℕ) (ms : Members) → lead_among (marks_of t) (base c) ms ≡ true
             → AreLed (option_and_then (target root) (find (name k) (pointed_among guide (base c) p ms)))
-            (option_map in_scope (option_and_then (located_at t) (option_and_then (led_to (marks_of t) c (is_dynamic (name k))) (find (name k) ms))))
+            (option_map in_scope (option_and_then (located_at t) (option_and_then (led_to (marks_of t) c (is_dynamic (name k))) (find
+            (name k) ms))))
         in_members p ms lead = subst (λ o. AreLed (option_and_then (target root) o)
-            (option_map in_scope (option_and_then (located_at t) (option_and_then (led_to (marks_of t) c (is_dynamic (name k))) (find (name k) ms)))))
+            (option_map in_scope (option_and_then (located_at t) (option_and_then (led_to (marks_of t) c (is_dynamic (name k))) (find
+            (name k) ms)))))
             (sym (found_pointed guide (base c) p (name k) ms (ap is_kept is)))
             (by (find (name k) ms) refl)
           where
@@ -248,7 +260,8 @@ module _ (t : Tree) (sound : IsTree t) (z : List ℕ) (copies : List Reached)
                 (pointed_map guide (base c) (at_key p (name k)) w)) is
                 ∙ ap (λ x. pointing guide (is_dynamic x) (base c) w) same
 
-            by : (o : Option Tree) → find (name k) ms ≡ o → AreLed (option_and_then (target root) (option_map (changed guide (base c) p (name k)) o))
+            by : (o : Option Tree) → find (name k) ms ≡ o → AreLed (option_and_then (target root) (option_map (changed guide
+                (base c) p (name k)) o))
                 (option_map in_scope (option_and_then (located_at t) (option_and_then (led_to (marks_of t) c (is_dynamic (name k))) o)))
             by None e = tt
             by (Some w) e = subst (λ x. AreLed (target root x)
@@ -265,6 +278,7 @@ module _ (t : Tree) (sound : IsTree t) (z : List ℕ) (copies : List Reached)
           where
             by : (s : Tree) (d : List ℕ) → base_in d s ≡ base c → lead_in (marks_of t) d s ≡ true
                 → AreLed (option_and_then (target root) (schema_at (pointed guide d h.place s) k)) (target_in t c k s)
-            by (object ms) d e lead = subst (λ b. AreLed (option_and_then (target root) (find (name k) (pointed_among guide b h.place ms))) (target_in t c k (object ms)))
+            by (object ms) d e lead = subst (λ b. AreLed (option_and_then (target root) (find (name k)
+                (pointed_among guide b h.place ms))) (target_in t c k (object ms)))
                 (sym e) (in_members h.place ms (subst (λ b. lead_among (marks_of t) b ms ≡ true) e lead))
             by _ d e lead = tt

@@ -25,7 +25,8 @@ module _ (t : Tree) (is : IsUncontested t) where
   pub same : (formats : Bool) (n : ℕ) (x : Tree → Bool) (y : Tree → Child → Bool) (u : Tree)
       → judged t formats n (λ c. by_value x y) u ≡ valid.judge (bundled_root t formats) n (by_value x y) (bundled [] t) u
   same formats n x y u =
-      whole_same t is.sound (letters t) [] is.none (subst (λ b. is_schema b true b ≡ true) (sym made_bundled) is.applied) is.leading formats n
+      whole_same t is.sound (letters t) [] is.none (subst (λ b. is_schema b true b
+      ≡ true) (sym made_bundled) is.applied) is.leading formats n
       (λ c. by_value x y) (by_value x y) (λ c s r ends bases m. (λ v. refl, λ v d. refl)) u
       ∙ ap (λ b. valid.judge (record { tree = b; formats = formats }) n (by_value x y) b u) made_bundled
 

@@ -17,7 +17,8 @@ use Rattle.tinyjson_schema_keywords.specs.declared.keyword.Form.TheVariants as f
 use Rattle.tinyjson_schema_keywords.specs.declared.keyword.Keyword.{Keyword}
 use Rattle.tinyjson_schema_keywords.specs.declared.keyword.Keyword.TheVariants as kw
 use Rattle.std.proofs.lemmas.Bool.{and_parts}
-use Rattle.tinyjson_schema_bundle.specs.Bundles.{marks_of, base_by, base_in, pointed, pointed_among, pointed_list, pointed_map, pointed_items}
+use Rattle.tinyjson_schema_bundle.specs.Bundles.{marks_of, base_by, base_in, pointed, pointed_among, pointed_list, pointed_map}
+use Rattle.tinyjson_schema_bundle.specs.Bundles.{pointed_items}
 use Rattle.tinyjson_schema_bundle.specs.Bundles.{pointed_members, pointing, is_dynamic, at_key}
 use Rattle.tinyjson_schema_bundle.specs.Scopes.{Reached, some_contested}
 use Rattle.tinyjson_schema.specs.Evaluated as evaluated
@@ -69,7 +70,8 @@ module _ (r : List ℕ) (c : Scope) (s : Tree) (ends : BeginsIn r c) (bases : Ar
 
 module _ (t : Tree) (sound : IsTree t) (z : List ℕ) (copies : List Reached)
     (none : some_contested (marks_of t) (base_in [] t) (marks_of t) ≡ false)
-    (fit : is_schema (root t sound z copies none) true (root t sound z copies none) ≡ true) (leading : all_lead t ≡ true) (formats : Bool) where
+    (fit : is_schema (root t sound z copies none) true (root t sound z copies none) ≡ true) (leading : all_lead t
+    ≡ true) (formats : Bool) where
   abbrev whole : Tree
   whole = root t sound z copies none
 
@@ -95,7 +97,8 @@ module _ (t : Tree) (sound : IsTree t) (z : List ℕ) (copies : List Reached)
     Parts = AreParts (inner a c) b IsPart part_same (guide t sound z copies none) (base c)
 
     abbrev made : Form → List ℕ → Tree → Tree → Tree
-    made f q x w = picked f w x (pointed (guide t sound z copies none) (base c) q w) (pointed_list (guide t sound z copies none) (base c) q w)
+    made f q x w = picked f w x (pointed (guide t sound z copies none) (base c) q w) (pointed_list (guide t sound z copies none)
+        (base c) q w)
         (pointed_map (guide t sound z copies none) (base c) q w)
 
     one_part : (q : List ℕ) (w v : Tree) → v ≡ pointed (guide t sound z copies none) (base c) q w → IsTree w
@@ -168,7 +171,8 @@ module _ (t : Tree) (sound : IsTree t) (z : List ℕ) (copies : List Reached)
               ∙ ap (option_map (changed (guide t sound z copies none) (base c) p (name k))) e)))
 
       members_alike : (k : Keyword)
-          → ValueSame (inner a c) b (form_of k) (find (name k) ms) (find (name k) (pointed_among (guide t sound z copies none) (base c) p ms))
+          → ValueSame (inner a c) b (form_of k) (find (name k) ms) (find (name k) (pointed_among (guide t sound z copies none)
+          (base c) p ms))
       members_alike k = keyword_same (inner a c) b IsPart part_same (guide t sound z copies none) (base c) p ms k (keyword_parts k)
 
     made_alike : (d p : List ℕ) (s : Tree) (x : Bool) → base_in d s ≡ base c → IsTree s → lead_in (marks_of t) d s ≡ true

@@ -19,7 +19,6 @@ use Rattle.tinyjson_schema_keywords.specs.declared.keyword.Form.TheVariants as f
 use Rattle.tinyjson_schema_bundle.specs.Bundles.{Leads, pointed, pointed_among, pointed_list, pointed_map, pointed_items, pointed_members}
 use Rattle.tinyjson_schema_bundle.specs.Bundles.{Marked, is_dynamic, at_key, at_index, base_in}
 use Rattle.tinyjson_schema.specs.Circles.{leads}
-use Rattle.tinyjson_schema.specs.Operands.{has_patterns}
 use Rattle.tinyjson_schema.specs.Schemas.{fits, is_schema, keywords_fit, is_schema_list, is_schema_map, are_schemas, have_schemas}
 use Rattle.tinyjson_schema_laws.specs.Scoped.{located, base_within, led_to}
 use Rattle.tinyjson_schema_laws.specs.Leading.{lead_by, lead_in, lead_among, lead_in_list, lead_in_map, lead_of_items, lead_of_members}
@@ -119,7 +118,8 @@ module _ (marks : List Marked) where
       → Lead (form_at (encode_utf8_all k)) b v
   lead_member b k ms v h e = lead_from (form_at (encode_utf8_all k)) _ b v (lead_found b k ms v h e)
 
-  pub lead_item : (b : List ℕ) (ts : Items) (i : ℕ) (v : Tree) → lead_of_items marks b ts ≡ true → nth ts i ≡ Some v → lead_in marks b v ≡ true
+  pub lead_item : (b : List ℕ) (ts : Items) (i : ℕ) (v : Tree) → lead_of_items marks b ts ≡ true → nth ts i ≡ Some v
+      → lead_in marks b v ≡ true
   lead_item b no_items i v h e = absurd (no_some v e)
   lead_item b (item t ts) zero v h e = subst (λ w. lead_in marks b w ≡ true) (same_Some t v e)
       (and_parts (lead_in marks b t) (lead_of_items marks b ts) h).0
@@ -151,14 +151,15 @@ module _ (root : Tree) where
   fit_from form.Schema whole w h = (false, h)
   fit_from form.Schemas whole w h = h
   fit_from form.SchemaMap whole w h = h
-  fit_from form.PatternMap whole w h = (and_parts (has_patterns w) (is_schema_map root w) h).1
+  fit_from form.PatternMap whole w h = (and_parts _ (is_schema_map root w) h).1
   fit_from form.Reference whole w h = h
   fit_from _ whole w h = tt
 
   pub fit_member : (k : List ℕ) (ms : Members) (v : Tree) (whole : Bool) → keywords_fit root whole ms ≡ true → find k ms ≡ Some v
       → Fit (form_at (encode_utf8_all k)) v
   fit_member k no_members v whole h e = absurd (no_some v e)
-  fit_member k (member l u ms) v whole h e = by (fit_member k ms v whole (and_parts _ (keywords_fit root whole ms) h).1) (bytes_eq k l) refl e
+  fit_member k (member l u ms) v whole h e = by (fit_member k ms v whole (and_parts _ (keywords_fit root whole ms) h).1)
+      (bytes_eq k l) refl e
     where
       by : (find k ms ≡ Some v → Fit (form_at (encode_utf8_all k)) v) → (b : Bool) → bytes_eq k l ≡ b → cond b (Some u) (find k ms) ≡ Some v
           → Fit (form_at (encode_utf8_all k)) v
@@ -218,9 +219,11 @@ module _ (root : Tree) where
         → AreMatched (led f ks (Some (form_pointed f b p w))) (located f b w ks)
 
     next : (ks : List (List ℕ)) (f : Form) → Leading ks f → (b q : List ℕ) (o : Option Tree) (x : Option Tree)
-        → x ≡ option_map (form_pointed f b q) o → ((v : Tree) → o ≡ Some v → IsTree v) → ((v : Tree) → o ≡ Some v → Lead marks f b v) → ((v : Tree) → x ≡ Some v → Fit f v)
+        → x ≡ option_map (form_pointed f b q) o → ((v : Tree) → o ≡ Some v → IsTree v) → ((v : Tree) → o ≡ Some v → Lead marks f b v)
+        → ((v : Tree) → x ≡ Some v → Fit f v)
         → AreMatched (led f ks x) (option_and_then (λ v. located f b v ks) o)
-    next ks f ih b q None x e sound lead fit = subst (λ y. AreMatched y None) (sym (ap (led f ks) e ∙ cond_none (is_schema_form (form_after f ks)))) tt
+    next ks f ih b q None x e sound lead fit = subst (λ y. AreMatched y None) (sym (ap (led f ks) e
+        ∙ cond_none (is_schema_form (form_after f ks)))) tt
     next ks f ih b q (Some v) x e sound lead fit = subst (λ y. AreMatched (led f ks y) (located f b v ks)) (sym e)
         (ih b q v (sound v refl) (lead v refl) (fit (form_pointed f b q v) e))
 
@@ -248,12 +251,14 @@ module _ (root : Tree) where
     map_same : (g h : Tree → Tree) (o : Option Tree) → ((v : Tree) → g v ≡ h v) → option_map g o ≡ option_map h o
     map_same g h o e = λ i. option_map (λ v. e v i) o
 
-    pub nth_pointed : (b p : List ℕ) (j : ℕ) (ts : Items) (i : ℕ) → (q : List ℕ) × (nth (pointed_items to b p j ts) i ≡ option_map (pointed to b q) (nth ts i))
+    pub nth_pointed : (b p : List ℕ) (j : ℕ) (ts : Items) (i : ℕ) → (q : List ℕ) × (nth (pointed_items to b p j ts) i
+        ≡ option_map (pointed to b q) (nth ts i))
     nth_pointed b p j no_items i = (p, refl)
     nth_pointed b p j (item t ts) zero = (at_index p j, refl)
     nth_pointed b p j (item t ts) (suc i) = nth_pointed b p (suc j) ts i
 
-    pub find_pointed : (b p k : List ℕ) (ms : Members) → find k (pointed_members to b p ms) ≡ option_map (pointed to b (at_key p k)) (find k ms)
+    pub find_pointed : (b p k : List ℕ) (ms : Members) → find k (pointed_members to b p ms)
+        ≡ option_map (pointed to b (at_key p k)) (find k ms)
     find_pointed b p k no_members = refl
     find_pointed b p k (member l u ms) = find_put k l (pointed to b (at_key p l) u) (pointed_members to b p ms)
         ∙ by (find_pointed b p k ms) (bytes_eq k l) refl
@@ -284,22 +289,27 @@ module _ (root : Tree) where
             (λ v. live_changed (form_at (encode_utf8_all k)) b (at_key p k) v _ e))
             (λ v. found_sound k ms v sound) (λ v. lead_member marks b k ms v lead) (λ v. fit_member k (pointed_among to b p ms) v whole fit)
 
-    in_list : (k : List ℕ) (ks : List (List ℕ)) (b p : List ℕ) (ts : Items) (o : Option ℕ) → Leading ks form.Schema → AreItemsAt power_width ts
+    in_list : (k : List ℕ) (ks : List (List ℕ)) (b p : List ℕ) (ts : Items) (o : Option ℕ) → Leading ks form.Schema
+        → AreItemsAt power_width ts
         → lead_of_items marks b ts ≡ true
         → are_schemas root (pointed_items to b p 0 ts) ≡ true
-        → AreMatched (led form.Schema ks (item_of (pointed_items to b p 0 ts) o)) (option_and_then (λ v. located form.Schema b v ks) (item_of ts o))
+        → AreMatched (led form.Schema ks (item_of (pointed_items to b p 0 ts) o)) (option_and_then (λ v. located form.Schema b v ks)
+        (item_of ts o))
     in_list k ks b p ts None ih sound lead fit = no_step form.Schema form.Schema ks b
     in_list k ks b p ts (Some i) ih sound lead fit =
         let n = nth_pointed b p 0 ts i in
-        next ks form.Schema ih b n.0 (nth ts i) (nth (pointed_items to b p 0 ts) i) n.1 (λ v. nth_sound ts i v sound) (λ v. lead_item marks b ts i v lead)
+        next ks form.Schema ih b n.0 (nth ts i) (nth (pointed_items to b p 0 ts) i) n.1 (λ v. nth_sound ts i v sound)
+        (λ v. lead_item marks b ts i v lead)
         (λ v. fit_item (pointed_items to b p 0 ts) i v fit)
 
     in_map : (k : List ℕ) (ks : List (List ℕ)) (b p : List ℕ) (ms : Members) → Leading ks form.Schema → AreMembersAt power_width ms
         → lead_of_members marks b ms ≡ true
         → have_schemas root (pointed_members to b p ms) ≡ true
-        → AreMatched (led form.Schema ks (find k (pointed_members to b p ms))) (option_and_then (λ v. located form.Schema b v ks) (find k ms))
+        → AreMatched (led form.Schema ks (find k (pointed_members to b p ms))) (option_and_then (λ v. located form.Schema b v ks)
+        (find k ms))
     in_map k ks b p ms ih sound lead fit = next ks form.Schema ih b (at_key p k) (find k ms) (find k (pointed_members to b p ms))
-        (find_pointed b p k ms) (λ v. found_sound k ms v sound) (λ v. lead_entry marks b k ms v lead) (λ v. fit_entry k (pointed_members to b p ms) v fit)
+        (find_pointed b p k ms) (λ v. found_sound k ms v sound) (λ v. lead_entry marks b k ms v lead) (λ v. fit_entry k
+        (pointed_members to b p ms) v fit)
 
     pub walked : (ks : List (List ℕ)) (f : Form) (b p : List ℕ) (w : Tree) → IsTree w → Lead marks f b w → Fit f (form_pointed f b p w)
         → AreMatched (led f ks (Some (form_pointed f b p w))) (located f b w ks)

@@ -47,7 +47,8 @@ BundledDecides t formats u is = (n : ℕ) × ((g : Answers) → judge (bundled_r
 
 -- A document and the bundled one that both decide on a value decide the same.
 abbrev pub OneVerdict : Type 0
-OneVerdict = (t : Tree) → IsUncontested t → (formats : Bool) (u : Tree) (a b : Bool) → Decides t formats u a → BundledDecides t formats u b → a ≡ b
+OneVerdict = (t : Tree) → IsUncontested t → (formats : Bool) (u : Tree) (a b : Bool) → Decides t formats u a
+    → BundledDecides t formats u b → a ≡ b
 
 -- ---- scopes with contested names
 

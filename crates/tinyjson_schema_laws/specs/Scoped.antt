@@ -17,7 +17,8 @@ use Rattle.tinyjson_schema_keywords.specs.declared.keyword.Form.TheVariants as f
 use Rattle.tinyjson_schema_keywords.specs.declared.keyword.Keyword.{Keyword}
 use Rattle.tinyjson_schema_keywords.specs.declared.keyword.Keyword.TheVariants as kw
 use Rattle.tinyjson_schema_assertions.specs.Assertions.{meets_all, assertions}
-use Rattle.tinyjson_schema_bundle.specs.Bundles.{Marked, Leads, marks_of, place_of, dynamic_place, with_name, base_in, is_dynamic, first_place}
+use Rattle.tinyjson_schema_bundle.specs.Bundles.{Marked, Leads, marks_of, place_of, dynamic_place, with_name, base_in, is_dynamic}
+use Rattle.tinyjson_schema_bundle.specs.Bundles.{first_place}
 use Rattle.tinyjson_schema.specs.Applicators.{apply_all, tests, demands, parts_accepted}
 use Rattle.tinyjson_schema.specs.Evaluated.{Answers, Child, value_of, rest_keyword, applies_to, some_evaluate, accepting_evaluate}
 use Rattle.tinyjson_schema.specs.Evaluated.{branch_evaluates, dependents_evaluate, children_pass}
@@ -105,7 +106,8 @@ module _ (t : Tree) (formats : Bool) where
 
   -- a schema evaluates the child that s applies to the value itself
   abbrev pub inner_evaluate : Scoped → Scope → Tree → Tree → Child → Bool
-  inner_evaluate a c s u x = some_evaluate (inner a c) (schemas_at s kw.AllOf) u x || (accepting_evaluate (inner a c) (schemas_at s kw.AnyOf) u x
+  inner_evaluate a c s u x = some_evaluate (inner a c) (schemas_at s kw.AllOf) u x
+      || (accepting_evaluate (inner a c) (schemas_at s kw.AnyOf) u x
       || (accepting_evaluate (inner a c) (schemas_at s kw.OneOf) u x || (branch_evaluates (inner a c) s u x
       || (dependents_evaluate (inner a c) (schema_map_at s kw.DependentSchemas) u x || reference_evaluates a c s u x))))
 
