@@ -13,4 +13,4 @@ mod draft_6;
 mod draft_7;
 mod meta;
 
-pub use meta::{MetaSchema, meta_schemas};
+pub use meta::{MetaSchema, has_document, meta_schemas};

@@ -1,6 +1,6 @@
 //! The documents of the drafts by their URIs.
 ghost use Rattle.std.specs.Prelude.{◌≡◌, map, option_map};
-ghost use Rattle.tinyjson_schema_meta.specs.Meta.{has_document, uri_of, uris_with};
+ghost use Rattle.tinyjson_schema_meta.specs.Meta.{documents_with, has_document, published};
 
 use crate::draft_4::DRAFT_4;
 use crate::draft_6::DRAFT_6;
@@ -24,7 +24,7 @@ pub struct MetaSchema {
 /// let found = meta_schemas("https://json-schema.org/draft/2019-09/meta/core"); // seven, the one of the draft first
 /// ```
 pub fn meta_schemas(uri: &str) -> Option<&'static [MetaSchema]>
-    ensures { option_map (λ found. map uri_of found.now) result ≡ uris_with uri.now }
+    ensures { option_map (λ found. map published found.now) result ≡ documents_with uri.now }
 {
     if has_document(&DRAFT_2020_12, uri) {
         return Some(&DRAFT_2020_12);
@@ -45,8 +45,12 @@ pub fn meta_schemas(uri: &str) -> Option<&'static [MetaSchema]>
 }
 
 /// Whether one of the documents has the URI.
-fn has_document(documents: &[MetaSchema], uri: &str) -> bool
-    ensures { result ≡ has_document (map uri_of documents.now) uri.now }
+///
+/// ```
+/// let found = has_document(documents, "http://json-schema.org/draft-07/schema");
+/// ```
+pub fn has_document(documents: &[MetaSchema], uri: &str) -> bool
+    ensures { result ≡ has_document (map published documents.now) uri.now }
 {
     for document in documents {
         if document.uri == uri {
