@@ -14,6 +14,8 @@ use Rattle.tinyjson_cli.specs.declared.failure.Failure.{Failure}
 use Rattle.tinyjson_cli.specs.declared.failure.Failure.TheVariants as failure
 use Rattle.tinyjson_cli.specs.declared.status.Status.{Status}
 use Rattle.tinyjson_cli.specs.declared.status.Status.TheVariants.{Misused, Refused}
+use Rattle.tinyjson_schema_references.specs.declared.compound.EmbedError.{EmbedError}
+use Rattle.tinyjson_schema_references.specs.declared.compound.EmbedError.TheVariants as embed
 use Rattle.tinyjson_schema_words.specs.Refused.{TellsRefused}
 use Rattle.tinyjson_schema_words.specs.declared.refused.Refusal.{Refusal}
 use Rattle.json_schema.specs.Told.{too_deep, too_much}
@@ -60,6 +62,11 @@ TellsSchemaText e f =
 abbrev pub TellsDocument : List ℕ → JsonParseError → Failure → Type 0
 TellsDocument name e f = ((error_kind e ≡ kind.OutOfMemory) × (f ≡ failure.OutOfMemory))
     ⊎ (¬ (error_kind e ≡ kind.OutOfMemory) × (Is Misused (document_message name e) f ⊎ (f ≡ failure.OutOfMemory)))
+
+-- The same for a meta-schema; or out of memory.
+abbrev pub TellsEmbed : EmbedError → Failure → Type 0
+TellsEmbed (embed.NotJson m e) f = TellsDocument m.uri.now e f
+TellsEmbed embed.OutOfMemory f = f ≡ failure.OutOfMemory
 
 -- Status 3 and the reason why a text can't be checked, with the parser's place if it is no JSON; or out of memory.
 abbrev pub TellsText : Cause → Failure → Type 0

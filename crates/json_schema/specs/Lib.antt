@@ -6,3 +6,4 @@ pub mod Report
 pub mod Run
 pub mod Told
 pub mod Verdicts
+pub mod Meta

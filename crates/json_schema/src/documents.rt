@@ -1,45 +1,50 @@
 //! The further documents that the references of a schema lead into.
+ghost use Rattle.std.specs.Prelude.{◌≡◌, option_map, IfOk};
+ghost use Rattle.std.specs.String.{string_bytes};
+ghost use Rattle.tinyjson_schema_references.specs.References.{seen};
+ghost use Rattle.json_schema.specs.Meta.{document_uri, found_in};
 
 use crate::failure::{SchemaFailure, document_failure, schema_failure};
 use crate::folder::{is_folder, json_files};
 use crate::names::{joined, located, plain, reference};
+use crate::tell_unknown;
 use crate::verdict::DEPTH_LIMIT;
-use crate::{draft_of, is_older, tell_unknown};
 use std::alloc::{AllocError, Global};
 use std::fs;
 use std::os::unix::fs::MetadataExt;
 use tinyjson::JsonValue;
 use tinyjson_cli::{Failure, Text, read_named};
-use tinyjson_schema_documents::{found_at, has_definition, with_document};
-use tinyjson_schema_drafts::{Draft, read_as};
-
-/// A schema in the words of 2020-12, with its documents in `$defs`.
-#[derive(Drop)]
-pub struct Whole {
-    pub tree: JsonValue,
-    /// Whether one of the documents is of an older draft.
-    pub is_older: bool,
-}
+use tinyjson_schema_documents::{found_at, has_definition};
+use tinyjson_schema_drafts::Draft;
+use tinyjson_schema_references::{Compound, embed};
 
 /// The schema of this file with the documents that the texts of `-r` name. A document that names no draft is read in the
 /// schema's. The schema was found at `/` and its file's name, so that they can refer to it.
 pub fn with_documents(
     rt: &HostRuntime,
-    whole: Whole,
+    compound: Compound,
     file: &str,
     draft: Draft,
     texts: &[Text<'_>],
-) -> Result<Whole, Failure> {
-    let uri = joined(rt.alloc(), "/", plain(file))?;
+) -> Result<Compound, Failure> {
     let documents = documents_of(rt, file, texts)?;
-    let mut whole = Whole {
-        tree: found_at(whole.tree, uri.as_str(), rt.alloc())?,
-        ..whole
-    };
+    let mut compound = found_in(rt.alloc(), compound, file)?;
     for document in &documents {
-        whole = with_file(rt, whole, document, draft)?;
+        compound = with_file(rt, compound, document, draft)?;
     }
-    Ok(whole)
+    Ok(compound)
+}
+
+/// The schema that was found in this file.
+fn found_in(alloc: Global, compound: Compound, file: &str) -> Result<Compound, AllocError>
+    ensures { IfOk result (λ c. seen c ≡ found_in file.now (seen compound)) }
+{
+    let uri = joined(alloc, "/", plain(file))?;
+    let tree = found_at(compound.tree, uri.as_str(), alloc)?;
+    Ok(Compound {
+        tree,
+        is_older: compound.is_older,
+    })
 }
 
 /// A further document.
@@ -57,13 +62,29 @@ fn document_of(
     schema: &str,
     uri: Option<&str>,
     file: &str,
-) -> Result<Document, AllocError> {
-    let uri = match uri {
-        Some(uri) => String::from_str(alloc, uri)?,
-        None => reference(alloc, plain(schema), plain(file))?,
-    };
+) -> Result<Document, AllocError>
+    ensures file { IfOk result (λ d. string_bytes d.file ≡ file.now) }
+    ensures uri { IfOk result (λ d. string_bytes d.uri
+        ≡ document_uri schema.now (option_map (λ u. u.now) uri.entry) file.now) }
+{
+    let uri = document_uri(alloc, schema, uri, file)?;
     let file = String::from_str(alloc, file)?;
     Ok(Document { uri, file })
+}
+
+fn document_uri(
+    alloc: Global,
+    schema: &str,
+    uri: Option<&str>,
+    file: &str,
+) -> Result<String, AllocError>
+    ensures { IfOk result (λ s. string_bytes s
+        ≡ document_uri schema.now (option_map (λ u. u.now) uri.entry) file.now) }
+{
+    match uri {
+        Some(uri) => String::from_str(alloc, uri),
+        None => reference(alloc, plain(schema), plain(file)),
+    }
 }
 
 /// The documents that the texts of `-r` name.
@@ -127,33 +148,17 @@ fn is_same(rt: &HostRuntime, one: &str, other: &str) -> bool {
 /// The schema with the document of a file.
 fn with_file(
     rt: &HostRuntime,
-    whole: Whole,
+    compound: Compound,
     document: &Document,
     default: Draft,
-) -> Result<Whole, Failure> {
+) -> Result<Compound, Failure> {
     let uri = document.uri.as_str();
-    if has_definition(&whole.tree, uri) {
+    if has_definition(&compound.tree, uri) {
         return Err(schema_failure(rt.alloc(), &SchemaFailure::Twice(uri)));
     }
     let tree = document_tree(rt, document.file.as_str())?;
     tell_unknown(rt, &tree)?;
-    with_tree(rt.alloc(), whole, uri, tree, default)
-}
-
-/// The schema with the document that was found at the URI.
-pub fn with_tree(
-    alloc: Global,
-    whole: Whole,
-    uri: &str,
-    document: JsonValue,
-    default: Draft,
-) -> Result<Whole, Failure> {
-    let is_older = whole.is_older || is_older(draft_of(&document, default));
-    let document = read_as(document, default, alloc)?;
-    Ok(Whole {
-        tree: with_document(whole.tree, uri, document, alloc)?,
-        is_older,
-    })
+    Ok(embed(compound, uri, tree, default, rt.alloc())?)
 }
 
 /// Parses a document's file. Not inlined, so that a later check has all of the stack.

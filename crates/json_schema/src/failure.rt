@@ -1,7 +1,7 @@
 //! The failures of the program.
 ghost use Rattle.std.specs.Prelude.{Some};
 ghost use Rattle.json_schema.specs.Failures.{schema_message, TellsSchema, TellsSchemaText, TellsText};
-ghost use Rattle.json_schema.specs.Failures.{TellsDocument};
+ghost use Rattle.json_schema.specs.Failures.{TellsDocument, TellsEmbed};
 ghost use Rattle.json_schema.specs.Failures.{FailsRefused};
 
 use crate::verdict::Cause;
@@ -9,6 +9,7 @@ use std::alloc::Global;
 use std::fmt;
 use tinyjson::{JsonParseError, JsonParseErrorKind};
 use tinyjson_cli::{Failure, Shown};
+use tinyjson_schema_references::EmbedError;
 use tinyjson_schema_words::{Refusal, refused_words};
 
 /// Why a schema is not applied.
@@ -106,6 +107,16 @@ pub fn document_failure(alloc: Global, file: &str, error: JsonParseError) -> Fai
     match error.kind() {
         JsonParseErrorKind::OutOfMemory => Failure::OutOfMemory,
         _ => schema_failure(alloc, &SchemaFailure::Document { file, error }),
+    }
+}
+
+/// The failure for a meta-schema that is not embedded.
+pub fn embed_failure(alloc: Global, error: EmbedError) -> Failure
+    ensures { TellsEmbed error result }
+{
+    match error {
+        EmbedError::NotJson(document, error) => document_failure(alloc, document.uri, error),
+        EmbedError::OutOfMemory => Failure::OutOfMemory,
     }
 }
 

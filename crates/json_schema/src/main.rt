@@ -17,11 +17,11 @@ mod report;
 mod unknown;
 mod verdict;
 
-use documents::{Whole, with_documents};
+use documents::with_documents;
 use every::{Every, check_as};
 use failure::{SchemaFailure, refused_failure, schema_failure, schema_text_failure, text_failure};
 use lines::{Check, Shows, check_lines};
-use meta::{MetaSchemas, with_meta_schemas};
+use meta::{MetaSchemas, whole_of};
 use report::{write_report, write_text};
 use std::alloc::Global;
 use std::cell::Cell;
@@ -35,7 +35,8 @@ use tinyjson_cli::{
     report, writing_error,
 };
 use tinyjson_schema::{Schema, SchemaError, unknown_formats, unknown_words};
-use tinyjson_schema_drafts::{Dialect, Draft, dialect_of, read_as, unknown_dialect};
+use tinyjson_schema_drafts::{Draft, read_as, unknown_dialect};
+use tinyjson_schema_references::{Compound, draft_of, is_older};
 use tinyjson_schema_report::Located;
 use tinyjson_schema_words::Refusal;
 use unknown::{tell_dialect, tell_formats, tell_words};
@@ -335,15 +336,15 @@ fn check_values(
     let tree = schema_tree(rt, schema)?;
     tell_unknown(rt, &tree)?;
     let draft = draft_of(&tree, default);
-    let whole = Whole {
+    let compound = Compound {
         tree: read_as(tree, default, rt.alloc())?,
         is_older: is_older(draft),
     };
-    let whole = match request.documents {
-        [] => whole,
-        documents => with_documents(rt, whole, schema, draft, documents)?,
+    let compound = match request.documents {
+        [] => compound,
+        documents => with_documents(rt, compound, schema, draft, documents)?,
     };
-    let Whole { tree, is_older } = with_meta_schemas(rt.alloc(), whole)?;
+    let Compound { tree, is_older } = whole_of(rt.alloc(), compound)?;
     let checked = check_by(rt, &tree, is_older, request);
     tree.dismantle();
     checked
@@ -454,19 +455,6 @@ fn by_texts(rt: &HostRuntime, request: &Request<'_, '_>, by: By<'_, '_>) -> Stat
         }
     }
     status
-}
-
-/// The draft that the schema names, or else the default.
-fn draft_of(tree: &JsonValue, default: Draft) -> Draft {
-    match dialect_of(tree) {
-        Dialect::Known(draft) => draft,
-        Dialect::Missing | Dialect::Unknown => default,
-    }
-}
-
-/// Whether it is another draft than 2020-12.
-fn is_older(draft: Draft) -> bool {
-    !matches!(draft, Draft::Draft202012)
 }
 
 fn read_schema(alloc: Global, tree: &JsonValue, is_older: bool) -> Result<Schema<'_>, Failure> {

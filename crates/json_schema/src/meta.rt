@@ -1,119 +1,40 @@
-//! The meta-schemas: those that the references of a schema lead into, and those that schemas are checked by.
+//! Schemas that are checked by their meta-schemas.
+ghost use Rattle.std.specs.Prelude.{IfOk};
+ghost use Rattle.std.specs.Str.{chars};
+ghost use Rattle.tinyjson.specs.View.{view};
+ghost use Rattle.tinyjson_schema_references.specs.References.{seen, meta_schema_of, HasMetaSchemas};
+ghost use Rattle.json_schema.specs.Every.{TextGivesAs};
+ghost use Rattle.json_schema.specs.Meta.{judged_by, GivesBy, SchemaGives, TellsUnknown, WholeGives};
 
-use crate::documents::{Whole, with_documents, with_tree};
+use crate::documents::with_documents;
 use crate::every::{Every, check_as};
-use crate::failure::{document_failure, refused_failure};
+use crate::failure::{embed_failure, refused_failure};
 use crate::verdict::{Cause, DEPTH_LIMIT, Judge};
-use std::alloc::{AllocError, Global};
+use std::alloc::Global;
 use std::collections::HashMap;
 use tinyjson::JsonValue;
 use tinyjson_buffers::Buffers;
 use tinyjson_cli::{Failure, Shown, Text};
-use tinyjson_pointer::put_member;
 use tinyjson_schema::{Schema, SchemaError};
-use tinyjson_schema_bundle::bundled;
-use tinyjson_schema_documents::has_definition;
-use tinyjson_schema_drafts::{Dialect, Draft, dialect_of, unknown_dialect};
-use tinyjson_schema_keywords::{Keyword, SchemaMember, schema_members};
-use tinyjson_schema_meta::{MetaSchema, meta_schemas};
+use tinyjson_schema_drafts::Draft;
+use tinyjson_schema_references::{Compound, meta_schema_of, referring, uri_of, with_meta_schemas};
 use tinyjson_schema_words::Refusal;
-use uri_reference::without_fragment;
 
-/// The schema as a document of one resource. The meta-schemas are embedded first that it does not have, and that its
-/// references lead into.
-pub fn with_meta_schemas(alloc: Global, whole: Whole) -> Result<Whole, Failure> {
-    let bundle = bundled(&whole.tree, alloc)?;
-    let wanted = wanted_by(alloc, &bundle)?;
-    if wanted.is_empty() {
-        whole.tree.dismantle();
-        return Ok(Whole {
-            tree: bundle,
-            ..whole
-        });
+/// The schema as a document of one resource, with the meta-schemas that its references lead into.
+pub fn whole_of(alloc: Global, compound: Compound) -> Result<Compound, Failure>
+    ensures { IfOk result (λ c. HasMetaSchemas (seen compound) (seen c)) }
+{
+    match with_meta_schemas(compound, alloc) {
+        Ok(whole) => Ok(whole),
+        Err(error) => Err(embed_failure(alloc, error)),
     }
-    bundle.dismantle();
-    let mut whole = whole;
-    for documents in &wanted {
-        whole = with_all(alloc, whole, documents)?;
-    }
-    let tree = bundled(&whole.tree, alloc)?;
-    whole.tree.dismantle();
-    Ok(Whole { tree, ..whole })
-}
-
-/// The meta-schemas into which references lead that lead nowhere in the bundle.
-fn wanted_by(alloc: Global, bundle: &JsonValue) -> Result<Vec<&'static [MetaSchema]>, AllocError> {
-    let mut wanted: Vec<&'static [MetaSchema]> = Vec::new(alloc);
-    for member in &schema_members(bundle, alloc)? {
-        let Some(documents) = meta_schemas_at(*member) else {
-            continue;
-        };
-        if !is_among(wanted.as_slice(), documents) {
-            wanted.push(documents)?;
-        }
-    }
-    Ok(wanted)
-}
-
-/// Whether these documents are among the others.
-fn is_among(others: &[&[MetaSchema]], documents: &[MetaSchema]) -> bool {
-    for other in others {
-        if let ([first, ..], [document, ..]) = (*other, documents) {
-            if first.uri == document.uri {
-                return true;
-            }
-        }
-    }
-    false
-}
-
-/// The meta-schemas into which the member leads, if it is a reference.
-fn meta_schemas_at(member: SchemaMember<'_>) -> Option<&'static [MetaSchema]> {
-    if !matches!(member.keyword, Some(Keyword::Ref | Keyword::DynamicRef)) {
-        return None;
-    }
-    match member.value {
-        JsonValue::String(uri) => meta_schemas(without_fragment(uri.as_str())),
-        _ => None,
-    }
-}
-
-/// The schema with those of the documents that it does not have.
-fn with_all(alloc: Global, whole: Whole, documents: &[MetaSchema]) -> Result<Whole, Failure> {
-    let mut whole = whole;
-    for document in documents {
-        if has_document(alloc, &whole.tree, document.uri)? {
-            continue;
-        }
-        let tree = match JsonValue::from_str(alloc, document.text) {
-            Ok(tree) => tree,
-            Err(error) => return Err(document_failure(alloc, document.uri, error)),
-        };
-        whole = with_tree(alloc, whole, document.uri, tree, Draft::Draft202012)?;
-    }
-    Ok(whole)
-}
-
-/// Whether the schema has a document with the URI.
-fn has_document(alloc: Global, schema: &JsonValue, uri: &str) -> Result<bool, AllocError> {
-    if has_definition(schema, uri) {
-        return Ok(true);
-    }
-    for member in &schema_members(schema, alloc)? {
-        if let (Some(Keyword::Id), JsonValue::String(id)) = (member.keyword, member.value) {
-            if id.as_str() == uri {
-                return Ok(true);
-            }
-        }
-    }
-    Ok(false)
 }
 
 /// What schemas are checked by: each by its meta-schema.
 #[derive(Drop)]
 pub struct MetaSchemas {
     /// A schema without keywords, with the further documents.
-    documents: Whole,
+    documents: Compound,
     /// The draft of a schema that names none.
     draft: Draft,
     /// Whether `format` is an assertion.
@@ -131,7 +52,7 @@ impl MetaSchemas {
         most: Option<usize>,
         texts: &[Text<'_>],
     ) -> Result<MetaSchemas, Failure> {
-        let empty = Whole {
+        let empty = Compound {
             tree: JsonValue::Object(HashMap::new(rt.alloc())),
             is_older: false,
         };
@@ -154,82 +75,81 @@ impl MetaSchemas {
     /// Checks the schema of a text by its meta-schema. It fails if that is not known.
     // Not inlined, so that the check has all of the stack.
     #[inline(never)]
-    pub fn check(&self, alloc: Global, text: &str) -> Result<Every, Failure> {
-        let schema = match JsonValue::from_str_with_depth_limit(alloc, text, DEPTH_LIMIT) {
-            Ok(schema) => schema,
-            Err(error) if error.is_out_of_memory() => return Err(Failure::OutOfMemory),
-            Err(error) => return Ok(Every::Refused(Cause::NotJson(error))),
-        };
-        let uri = self.uri_for(alloc, &schema);
-        schema.dismantle();
-        self.check_by(alloc, uri?.as_str(), text)
+    pub fn check(&self, alloc: Global, text: &str) -> Result<Every, Failure>
+        ensures { IfOk result (SchemaGives self.now (chars text.now)) }
+    {
+        match JsonValue::from_str_with_depth_limit(alloc, text, DEPTH_LIMIT) {
+            Ok(schema) => self.check_schema(alloc, schema, text),
+            Err(error) => {
+                if error.is_out_of_memory() {
+                    return Err(Failure::OutOfMemory);
+                }
+                Ok(Every::Refused(Cause::NotJson(error)))
+            }
+        }
     }
 
-    /// The URI of the meta-schema of a schema.
-    fn uri_for(&self, alloc: Global, schema: &JsonValue) -> Result<String, AllocError> {
-        if let Some(uri) = unknown_dialect(schema) {
-            return String::from_str(alloc, uri);
-        }
-        match dialect_of(schema) {
-            Dialect::Known(draft) => String::from_str(alloc, uri_of(draft)),
-            Dialect::Missing | Dialect::Unknown => String::from_str(alloc, uri_of(self.draft)),
-        }
+    /// Checks the text of a schema by its meta-schema.
+    fn check_schema(&self, alloc: Global, schema: JsonValue, text: &str) -> Result<Every, Failure>
+        ensures { IfOk result (GivesBy self.now (meta_schema_of self.now.draft (view schema))
+            (chars text.now)) }
+    {
+        let uri = String::from_str(alloc, meta_schema_of(&schema, self.draft))?;
+        schema.dismantle();
+        self.check_by(alloc, uri.as_str(), text)
     }
 
     /// Checks a text by a reference to the meta-schema with this URI.
-    fn check_by(&self, alloc: Global, uri: &str, text: &str) -> Result<Every, Failure> {
-        let whole = Whole {
-            tree: referring(alloc, &self.documents.tree, uri)?,
+    fn check_by(&self, alloc: Global, uri: &str, text: &str) -> Result<Every, Failure>
+        ensures { IfOk result (GivesBy self.now uri.now (chars text.now)) }
+    {
+        let tree = referring(&self.documents.tree, uri, alloc)?;
+        let compound = Compound {
+            tree,
             is_older: self.documents.is_older,
         };
-        let Whole { tree, is_older } = with_meta_schemas(alloc, whole)?;
-        let verdict = match Schema::read(&tree, alloc) {
+        let whole = whole_of(alloc, compound)?;
+        let every = self.check_whole(alloc, &whole, uri, text);
+        whole.tree.dismantle();
+        every
+    }
+
+    /// Checks a text by a schema that refers to the meta-schema with this URI.
+    fn check_whole(
+        &self,
+        alloc: Global,
+        whole: &Compound,
+        uri: &str,
+        text: &str,
+    ) -> Result<Every, Failure>
+        ensures { IfOk result (WholeGives self.now (seen whole.now) (chars text.now)) }
+    {
+        match Schema::read(&whole.tree, alloc) {
             Ok(schema) => self.verdict_by(alloc, &schema, text),
             Err(SchemaError::OutOfMemory) => Err(Failure::OutOfMemory),
             Err(SchemaError::Refused(place) | SchemaError::PatternLimit(place)) => {
                 let refusal = Refusal {
-                    root: &tree,
+                    root: &whole.tree,
                     place: &place,
-                    is_older,
+                    is_older: whole.is_older,
                 };
                 Err(failure_by(alloc, uri, refusal))
             }
-        };
-        tree.dismantle();
-        verdict
+        }
     }
 
-    fn verdict_by(&self, alloc: Global, schema: &Schema<'_>, text: &str) -> Result<Every, Failure> {
+    fn verdict_by(&self, alloc: Global, schema: &Schema<'_>, text: &str) -> Result<Every, Failure>
+        ensures { IfOk result
+            (TextGivesAs self.now.most (judged_by self.now schema.entry.now) (chars text.now)) }
+    {
         let buffers = Buffers::new(alloc);
         let judge = Judge {
             schema,
             formats: self.formats,
             buffers: &buffers,
         };
-        Ok(check_as(alloc, judge, text, self.most)?)
-    }
-}
-
-/// The URI of a draft's meta-schema.
-fn uri_of(draft: Draft) -> &'static str {
-    match draft {
-        Draft::Draft4 => "http://json-schema.org/draft-04/schema",
-        Draft::Draft6 => "http://json-schema.org/draft-06/schema",
-        Draft::Draft7 => "http://json-schema.org/draft-07/schema",
-        Draft::Draft201909 => "https://json-schema.org/draft/2019-09/schema",
-        Draft::Draft202012 => "https://json-schema.org/draft/2020-12/schema",
-    }
-}
-
-/// The schema with a reference to this URI.
-fn referring(alloc: Global, schema: &JsonValue, uri: &str) -> Result<JsonValue, AllocError> {
-    let reference = JsonValue::String(String::from_str(alloc, uri)?);
-    match schema.try_clone(alloc)? {
-        JsonValue::Object(mut members) => {
-            put_member(&mut members, Keyword::Ref.name(), reference, alloc)?;
-            Ok(JsonValue::Object(members))
-        }
-        other => Ok(other),
+        let every = check_as(alloc, judge, text, self.most)?;
+        Ok(every)
     }
 }
 
@@ -243,7 +163,9 @@ fn failure_by(alloc: Global, uri: &str, refusal: Refusal<'_>) -> Failure {
 }
 
 /// The failure of a schema whose `$schema` is not known.
-fn unknown_failure(alloc: Global, uri: &str) -> Failure {
+fn unknown_failure(alloc: Global, uri: &str) -> Failure
+    ensures { TellsUnknown uri.now result }
+{
     match format!(in alloc; "\"{}\" is an unknown $schema", Shown(uri)) {
         Ok(words) => Failure::Refused(words),
         Err(_) => Failure::OutOfMemory,

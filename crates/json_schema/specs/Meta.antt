@@ -1,0 +1,57 @@
+-- The verdict on a schema by its meta-schema (JSON Schema 2020-12, Core, 8.1.1), and the URIs of documents.
+use Rattle.std.specs.Prelude.{◌≡◌, ℕ, ◌⊎◌, List, ◌++◌, Option, codes, unwrap_or, Ok}
+use Rattle.std.specs.Str.{chars}
+use Rattle.tinyjson.specs.Grammar.{IsText}
+use Rattle.tinyjson.specs.Tree.{Tree}
+use Rattle.tinyjson.specs.View.{view}
+use Rattle.tinyjson.specs.declared.parser.error.JsonParseError.{JsonParseError}
+use Rattle.tinyjson_cli.specs.Shown.{shown}
+use Rattle.tinyjson_cli.specs.declared.failure.Failure.{Failure}
+use Rattle.tinyjson_cli.specs.declared.failure.Failure.TheVariants as failure
+use Rattle.tinyjson_cli.specs.declared.status.Status.TheVariants as status
+use Rattle.tinyjson_schema.specs.Reading.{ReadsSchema, root_in}
+use Rattle.tinyjson_schema.specs.Valid.{Root}
+use Rattle.tinyjson_schema.specs.declared.schema.Schema.{Schema}
+use Rattle.tinyjson_schema_documents.specs.Documents.{found_at}
+use Rattle.tinyjson_schema_references.specs.References.{HasMetaSchemas, Seen, meta_schema_of, referring}
+use Rattle.json_schema.specs.Every.{TextGivesAs}
+use Rattle.json_schema.specs.Failures.{Is}
+use Rattle.json_schema.specs.Names.{joined, plain, reference}
+use Rattle.json_schema.specs.Verdicts.{IsNoText, depth_limit}
+use Rattle.json_schema.specs.declared.every.Every.{Every}
+use Rattle.json_schema.specs.declared.every.Every.TheVariants.{Refused}
+use Rattle.json_schema.specs.declared.meta.MetaSchemas.{MetaSchemas}
+use Rattle.json_schema.specs.declared.verdict.Cause.TheVariants as cause
+
+-- ---- schemas by their meta-schemas
+
+abbrev pub judged_by : MetaSchemas → Schema → Root
+judged_by m s = root_in s m.formats
+
+-- what the text xs violates of the schema r
+abbrev pub WholeGives : MetaSchemas → Seen → List ℕ → Every → Type 0
+WholeGives m r xs v = (s : Schema) × ReadsSchema r.0 (Ok s) × TextGivesAs m.most (judged_by m s) xs v
+
+-- what it violates of the meta-schema with the URI u: of a schema that refers to it, with all that references lead into
+abbrev pub GivesBy : MetaSchemas → List ℕ → List ℕ → Every → Type 0
+GivesBy m u xs v =
+    (r : Seen) × HasMetaSchemas (referring u (view m.documents.tree), m.documents.is_older) r × WholeGives m r xs v
+
+-- the text is JSON, and this is what it violates of the meta-schema that its `$schema` names; or it is no JSON
+abbrev pub SchemaGives : MetaSchemas → List ℕ → Every → Type 0
+SchemaGives m xs v = ((t : Tree) × IsText depth_limit xs t × GivesBy m (meta_schema_of m.draft t) xs v)
+    ⊎ ((e : JsonParseError) × IsNoText xs e × (v ≡ Refused (cause.NotJson e)))
+
+-- Status 3 and the message for a `$schema` that is not known; or out of memory.
+abbrev pub TellsUnknown : List ℕ → Failure → Type 0
+TellsUnknown u f = Is status.Refused (codes "\"" ++ (shown (chars u) ++ codes "\" is an unknown $schema")) f ⊎ (f ≡ failure.OutOfMemory)
+
+-- ---- the URIs of documents
+
+-- the schema that was found in this file
+abbrev pub found_in : List ℕ → Seen → Seen
+found_in file c = (found_at (joined (codes "/") (plain file)) c.0, c.1)
+
+-- the URI of a document: the one that is given, or else the reference from the schema's file
+abbrev pub document_uri : List ℕ → Option (List ℕ) → List ℕ → List ℕ
+document_uri schema u file = unwrap_or u (reference (plain schema) (plain file))

@@ -1,0 +1,4 @@
+pub mod Embedding
+pub mod Gathering
+pub mod Strings
+pub mod Wanting
