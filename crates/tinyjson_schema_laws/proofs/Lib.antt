@@ -1,10 +1,16 @@
 pub mod Alike
+pub mod Bisimilar
 pub mod Contested
 pub mod Dynamic
+pub mod Exactly
 pub mod Examples
 pub mod Places
 pub mod Pointed
 pub mod Referring
+pub mod Relations
 pub mod SameLaws
+pub mod Settled
 pub mod Simulation
+pub mod Sizes
+pub mod Stepping
 pub mod Walk

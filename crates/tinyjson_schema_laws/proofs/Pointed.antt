@@ -18,8 +18,7 @@ use Rattle.tinyjson_schema_keywords.specs.declared.keyword.Keyword.{Keyword}
 use Rattle.tinyjson_schema_keywords.specs.declared.keyword.Keyword.TheVariants as kw
 use Rattle.tinyjson_schema_bundle.specs.Bundles.{Leads, pointed, pointed_among, pointed_list, pointed_map, pointed_items, pointed_members}
 use Rattle.tinyjson_schema_bundle.specs.Bundles.{kept_by, kept_id, kept_anchor, pointing, put_some, is_dynamic, at_key, at_index}
-use Rattle.tinyjson_schema.specs.Evaluated.{Answers}
-use Rattle.tinyjson_schema_laws.proofs.Alike.{Same, AllSame, MapSame, ValueSame}
+use Rattle.tinyjson_schema_laws.proofs.Bisimilar.{AllRel, MapRel, ValueRel}
 
 -- ---- keys in order
 
@@ -98,25 +97,25 @@ unfolding encode
 form_named kw.Schema = refl
 form_named _ = refl
 
-module _ (a c : Answers) (P : Tree → Tree → Type 0) (same : (r v : Tree) → P r v → Same a c r v) (to : Leads) (b : List ℕ) where
+-- P relates the subschemas to those of the bundled schema
+module _ (P : Tree → Tree → Type 0) (to : Leads) (b : List ℕ) where
   items_same : (p : List ℕ) (i : ℕ) (ts : Items)
       → ((j : ℕ) (r v : Tree) → nth ts j ≡ Some r → nth (pointed_items to b p i ts) j ≡ Some v → P r v)
-      → AllSame a c ts (pointed_items to b p i ts)
+      → AllRel P ts (pointed_items to b p i ts)
   items_same p i no_items h = tt
-  items_same p i (item t ts) h =
-      (same t (pointed to b (at_index p i) t) (h 0 t (pointed to b (at_index p i) t) refl refl), items_same p (suc i) ts (λ j. h (suc j)))
+  items_same p i (item t ts) h = (h 0 t (pointed to b (at_index p i) t) refl refl, items_same p (suc i) ts (λ j. h (suc j)))
 
   some_none : (r : Tree) → Some r ≡ None → ⊥
   some_none r e = cc
 
   members_same : (p : List ℕ) (ms : Members) → IsSorted ms
       → ((k : List ℕ) (r v : Tree) → find k ms ≡ Some r → find k (pointed_members to b p ms) ≡ Some v → P r v)
-      → MapSame a c ms (pointed_members to b p ms)
+      → MapRel P ms (pointed_members to b p ms)
   members_same p no_members s h = tt
-  members_same p (member k u ms) s h = subst (MapSame a c (member k u ms)) (sym (members_pointed to b p k u ms s)) (
+  members_same p (member k u ms) s h = subst (MapRel P (member k u ms)) (sym (members_pointed to b p k u ms s)) (
     refl,
-    same u (pointed to b (at_key p k) u) (h k u (pointed to b (at_key p k) u) (here (Some u) (find k ms))
-        (find_put k k (pointed to b (at_key p k) u) (pointed_members to b p ms) ∙ here (Some (pointed to b (at_key p k) u)) _)),
+    h k u (pointed to b (at_key p k) u) (here (Some u) (find k ms))
+        (find_put k k (pointed to b (at_key p k) u) (pointed_members to b p ms) ∙ here (Some (pointed to b (at_key p k) u)) _),
     members_same p ms s.1 (λ l r v e f. later l r v e f (bytes_eq l k) refl),
   )
     where
@@ -141,12 +140,12 @@ module _ (a c : Answers) (P : Tree → Tree → Type 0) (same : (r v : Tree) →
   AreParts _ w x = ⊤
 
   list_same : (p : List ℕ) (w : Tree) → AreParts form.Schemas w (pointed_list to b p w)
-      → AllSame a c (items_in w) (items_in (pointed_list to b p w))
+      → AllRel P (items_in w) (items_in (pointed_list to b p w))
   list_same p (array ts) h = items_same p 0 ts h
   list_same p _ h = tt
 
   map_same : (p : List ℕ) (w : Tree) → AreParts form.SchemaMap w (pointed_map to b p w)
-      → MapSame a c (members_in w) (members_in (pointed_map to b p w))
+      → MapRel P (members_in w) (members_in (pointed_map to b p w))
   map_same p (object ms) h = members_same p ms h.0 h.1
   map_same p _ h = tt
 
@@ -154,17 +153,17 @@ module _ (a c : Answers) (P : Tree → Tree → Type 0) (same : (r v : Tree) →
   bundled_as f p r w = picked f w r (pointed to b p w) (pointed_list to b p w) (pointed_map to b p w)
 
   some_same : (f : Form) (p : List ℕ) (w r : Tree) → AreParts f w (bundled_as f p r w)
-      → ValueSame a c f (Some w) (Some (bundled_as f p r w))
+      → ValueRel P f (Some w) (Some (bundled_as f p r w))
   some_same form.Base p w r h = tt
   some_same form.Anchor p w r h = tt
   some_same form.Reference p w r h = tt
-  some_same form.Schema p w r h = same w (pointed to b p w) h
+  some_same form.Schema p w r h = h
   some_same form.Schemas p w r h = list_same p w h
   some_same form.SchemaMap p w r h = map_same p w h
   some_same form.PatternMap p w r h = map_same p w h
   some_same _ p w r h = refl
 
-  none_same : (f : Form) → ValueSame a c f None None
+  none_same : (f : Form) → ValueRel P f None None
   none_same form.Base = tt
   none_same form.Anchor = tt
   none_same form.Reference = tt
@@ -175,11 +174,11 @@ module _ (a c : Answers) (P : Tree → Tree → Type 0) (same : (r v : Tree) →
   none_same _ = refl
 
   opt_same : (f : Form) (p : List ℕ) (o : Option Tree) (r : Tree → Tree) → ((w : Tree) → o ≡ Some w → AreParts f w (bundled_as f p (r w) w))
-      → ValueSame a c f o (option_map (λ w. bundled_as f p (r w) w) o)
+      → ValueRel P f o (option_map (λ w. bundled_as f p (r w) w) o)
   opt_same f p None r h = none_same f
   opt_same f p (Some w) r h = some_same f p w (r w) (h w refl)
 
-  dead_same : (f : Form) (o p : Option Tree) → is_kept f ≡ false → ValueSame a c f o p
+  dead_same : (f : Form) (o p : Option Tree) → is_kept f ≡ false → ValueRel P f o p
   dead_same form.Base o p e = tt
   dead_same form.Anchor o p e = tt
   dead_same _ o p e = absurd (true≢false e)
@@ -189,15 +188,15 @@ module _ (a c : Answers) (P : Tree → Tree → Type 0) (same : (r v : Tree) →
 
   pub keyword_same : (p : List ℕ) (ms : Members) (k : Keyword)
       → ((w : Tree) → find (name k) ms ≡ Some w → AreParts (form_of k) w (bundled_as (form_of k) (at_key p (name k)) (referring k w) w))
-      → ValueSame a c (form_of k) (find (name k) ms) (find (name k) (pointed_among to b p ms))
+      → ValueRel P (form_of k) (find (name k) ms) (find (name k) (pointed_among to b p ms))
   keyword_same p ms k h = by (is_kept (form_of k)) refl
     where
-      by : (x : Bool) → is_kept (form_of k) ≡ x → ValueSame a c (form_of k) (find (name k) ms) (find (name k) (pointed_among to b p ms))
+      by : (x : Bool) → is_kept (form_of k) ≡ x → ValueRel P (form_of k) (find (name k) ms) (find (name k) (pointed_among to b p ms))
       by false e = dead_same (form_of k) _ _ e
-      by true e = subst (ValueSame a c (form_of k) (find (name k) ms)) (sym (found_pointed to b p (name k) ms (ap is_kept
+      by true e = subst (ValueRel P (form_of k) (find (name k) ms)) (sym (found_pointed to b p (name k) ms (ap is_kept
           (form_named k) ∙ e)
           ∙ ap (λ f. option_map (λ w. bundled_as f (at_key p (name k)) (referring k w) w) (find (name k) ms)) (form_named k)))
           (opt_same (form_of k) (at_key p (name k)) (find (name k) ms) (referring k) h)
 
-  pub no_schema_same : (f : Form) → ValueSame a c f None None
+  pub no_schema_same : (f : Form) → ValueRel P f None None
   no_schema_same f = none_same f

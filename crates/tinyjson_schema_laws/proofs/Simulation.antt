@@ -1,5 +1,5 @@
--- The bundled document has the results of the document by its dynamic scope.
-use Rattle.std.proofs.Common.{◌≡◌, ℕ, zero, suc, Bool, true, false, ◌&&◌, ◌||◌, List, [], ◌∷◌, Option, Some, None}
+-- The bundled document does the same as the document by its dynamic scope.
+use Rattle.std.proofs.Common.{◌≡◌, ℕ, Bool, true, false, List, [], ◌∷◌, Option, Some, None}
 use Rattle.std.proofs.Common.{cond, refl, sym, ap, ◌∙◌, true≢false, subst, option_map, encode_utf8_all}
 use Rattle.std.proofs.lemmas.Option.{same_Some}
 use Rattle.std.specs.Option.{option_map_or}
@@ -21,16 +21,13 @@ use Rattle.tinyjson_schema_bundle.specs.Bundles.{marks_of, base_by, base_in, poi
 use Rattle.tinyjson_schema_bundle.specs.Bundles.{pointed_items}
 use Rattle.tinyjson_schema_bundle.specs.Bundles.{pointed_members, pointing, is_dynamic, at_key}
 use Rattle.tinyjson_schema_bundle.specs.Scopes.{Reached, some_contested}
-use Rattle.tinyjson_schema.specs.Evaluated as evaluated
-use Rattle.tinyjson_schema.specs.Evaluated.{Answers, Child}
+use Rattle.tinyjson_schema.specs.Nested.{is_reference}
 use Rattle.tinyjson_schema.specs.Schemas.{is_schema, keywords_fit}
-use Rattle.tinyjson_schema.specs.Valid as valid
-use Rattle.tinyjson_schema.specs.Valid.{Root, refuses_all}
+use Rattle.tinyjson_schema.specs.Valid.{refuses_all}
 use Rattle.tinyjson_schema_laws.specs.Laws.{BeginsIn}
 use Rattle.tinyjson_schema_laws.specs.Leading.{lead_in, lead_among, all_lead}
-use Rattle.tinyjson_schema_laws.specs.Scoped as scoped
-use Rattle.tinyjson_schema_laws.specs.Scoped.{Scope, Scoped, base, entered, inner, outer, target_in}
-use Rattle.tinyjson_schema_laws.proofs.Alike.{Same, ValueSame, accepts_same, evaluates_same}
+use Rattle.tinyjson_schema_laws.specs.Scoped.{Scope, base, entered, outer, target_in}
+use Rattle.tinyjson_schema_laws.proofs.Bisimilar.{ValueRel, LedRel, Simulates}
 use Rattle.tinyjson_schema_laws.proofs.Pointed.{is_kept, picked, changed, found_pointed, form_named, AreParts, keyword_same, no_schema_same}
 use Rattle.tinyjson_schema_laws.proofs.Walk.{Fit, Lead, fit_member, fit_item, fit_entry, lead_member, lead_item, lead_entry}
 use Rattle.tinyjson_schema_laws.proofs.Walk.{found_sound, nth_sound, nth_pointed, find_pointed}
@@ -70,31 +67,23 @@ module _ (r : List ℕ) (c : Scope) (s : Tree) (ends : BeginsIn r c) (bases : Ar
 
 module _ (t : Tree) (sound : IsTree t) (z : List ℕ) (copies : List Reached)
     (none : some_contested (marks_of t) (base_in [] t) (marks_of t) ≡ false)
-    (fit : is_schema (root t sound z copies none) true (root t sound z copies none) ≡ true) (leading : all_lead t
-    ≡ true) (formats : Bool) where
+    (fit : is_schema (root t sound z copies none) true (root t sound z copies none) ≡ true) (leading : all_lead t ≡ true) where
   abbrev whole : Tree
   whole = root t sound z copies none
 
   abbrev IsBundle : List ℕ → Tree → Tree → Type 0
   IsBundle = Bundled t sound z copies none fit leading
 
-  abbrev pub in_root : Root
-  in_root = record { tree = whole; formats = formats }
+  -- the schema r is the schema s bundled, in a scope that begins with the document
+  abbrev pub Related : Scope → Tree → Tree → Type 0
+  Related c s r = BeginsIn (base_in [] t) c × AreBases c × IsBundle (base c) s r
 
-  -- the results are the same for a schema in each scope, and for the bundled schema
-  abbrev pub Agree : Scoped → Answers → Type 0
-  Agree a b = (c : Scope) (s r : Tree) → BeginsIn (base_in [] t) c → AreBases c → IsBundle (base c) s r → Same (a c) b s r
-
-  module _ (a : Scoped) (b : Answers) (h : Agree a b) (c : Scope) (ends : BeginsIn (base_in [] t) c) (bases : AreBases c) where
+  module _ (c : Scope) (ends : BeginsIn (base_in [] t) c) (bases : AreBases c) where
     abbrev IsPart : Tree → Tree → Type 0
-    IsPart q v = IsBundle (base_in (base c) q) q v
-
-    part_same : (q v : Tree) → IsPart q v → Same (inner a c) b q v
-    part_same q v p = h (entered c q) q v (ends_entered (base_in [] t) c q ends bases) (bases_entered (base_in [] t) c q ends bases)
-        (subst (λ x. IsBundle x q v) (sym (base_entered c q)) p)
+    IsPart q v = Related (entered c q) q v
 
     abbrev Parts : Form → Tree → Tree → Type 0
-    Parts = AreParts (inner a c) b IsPart part_same (guide t sound z copies none) (base c)
+    Parts = AreParts IsPart (guide t sound z copies none) (base c)
 
     abbrev made : Form → List ℕ → Tree → Tree → Tree
     made f q x w = picked f w x (pointed (guide t sound z copies none) (base c) q w) (pointed_list (guide t sound z copies none)
@@ -103,7 +92,20 @@ module _ (t : Tree) (sound : IsTree t) (z : List ℕ) (copies : List Reached)
 
     one_part : (q : List ℕ) (w v : Tree) → v ≡ pointed (guide t sound z copies none) (base c) q w → IsTree w
         → lead_in (marks_of t) (base c) w ≡ true → Fit whole form.Schema v → IsPart w v
-    one_part q w v e s l f = record { around = base c; place = q; whole = f.0; based = refl; made = e; fit = f.1; sound = s; leading = l }
+    one_part q w v e s l f = (
+      ends_entered (base_in [] t) c w ends bases,
+      bases_entered (base_in [] t) c w ends bases,
+      subst (λ x. IsBundle x w v) (sym (base_entered c w)) (record {
+        around = base c;
+        place = q;
+        whole = f.0;
+        based = refl;
+        made = e;
+        fit = f.1;
+        sound = s;
+        leading = l;
+      }),
+    )
 
     some_made : (f : Tree → Tree) (o p : Option Tree) (w v : Tree) → p ≡ option_map f o → o ≡ Some w → p ≡ Some v → v ≡ f w
     some_made f o p w v e g i = same_Some v (f w) (sym i ∙ (e ∙ ap (option_map f) g))
@@ -171,77 +173,55 @@ module _ (t : Tree) (sound : IsTree t) (z : List ℕ) (copies : List Reached)
               ∙ ap (option_map (changed (guide t sound z copies none) (base c) p (name k))) e)))
 
       members_alike : (k : Keyword)
-          → ValueSame (inner a c) b (form_of k) (find (name k) ms) (find (name k) (pointed_among (guide t sound z copies none)
+          → ValueRel IsPart (form_of k) (find (name k) ms) (find (name k) (pointed_among (guide t sound z copies none)
           (base c) p ms))
-      members_alike k = keyword_same (inner a c) b IsPart part_same (guide t sound z copies none) (base c) p ms k (keyword_parts k)
+      members_alike k = keyword_same IsPart (guide t sound z copies none) (base c) p ms k (keyword_parts k)
 
     made_alike : (d p : List ℕ) (s : Tree) (x : Bool) → base_in d s ≡ base c → IsTree s → lead_in (marks_of t) d s ≡ true
         → is_schema whole x (pointed (guide t sound z copies none) d p s) ≡ true → (k : Keyword)
-        → ValueSame (inner a c) b (form_of k) (schema_at s k) (schema_at (pointed (guide t sound z copies none) d p s) k)
-    made_alike d p (object ms) x e s l f k = subst (λ u. ValueSame (inner a c) b (form_of k) (find (name k) ms)
+        → ValueRel IsPart (form_of k) (schema_at s k) (schema_at (pointed (guide t sound z copies none) d p s) k)
+    made_alike d p (object ms) x e s l f k = subst (λ u. ValueRel IsPart (form_of k) (find (name k) ms)
         (find (name k) (pointed_among (guide t sound z copies none) u p ms))) (sym e)
         (members_alike p ms x (subst (λ u. keywords_fit whole x (pointed_among (guide t sound z copies none) u p ms) ≡ true) e f)
         (subst (λ u. lead_among (marks_of t) u ms ≡ true) e l) s k)
-    made_alike d p _ x e s l f k = no_schema_same (inner a c) b IsPart part_same (guide t sound z copies none) (base c) (form_of k)
+    made_alike d p _ x e s l f k = no_schema_same IsPart (guide t sound z copies none) (base c) (form_of k)
 
     made_refuses : (d p : List ℕ) (s : Tree) → refuses_all s ≡ refuses_all (pointed (guide t sound z copies none) d p s)
     made_refuses d p (object ms) = refl
     made_refuses d p _ = refl
 
     module _ (s r : Tree) (m : IsBundle (base c) s r) where
-      alike : (k : Keyword) → ValueSame (inner a c) b (form_of k) (schema_at s k) (schema_at r k)
-      alike k = subst (λ x. ValueSame (inner a c) b (form_of k) (schema_at s k) (schema_at x k)) (sym m.made)
+      alike : (k : Keyword) → ValueRel IsPart (form_of k) (schema_at s k) (schema_at r k)
+      alike k = subst (λ x. ValueRel IsPart (form_of k) (schema_at s k) (schema_at x k)) (sym m.made)
           (made_alike m.around m.place s m.whole m.based m.sound m.leading (subst (λ x. is_schema whole m.whole x ≡ true) m.made m.fit) k)
 
       refuses : refuses_all s ≡ refuses_all r
       refuses = made_refuses m.around m.place s ∙ ap refuses_all (sym m.made)
 
-      abbrev Led : Option Tree → Option (Scope × Tree) → Type 0
-      Led = AreLed t sound z copies none fit leading c ends bases
+      led_related : (o : Option Tree) (d : Option (Scope × Tree)) → AreLed t sound z copies none fit leading c ends bases o d
+          → LedRel Related o d
+      led_related None None h = tt
+      led_related None (Some d) h = absurd h
+      led_related (Some q) None h = absurd h
+      led_related (Some q) (Some d) h = subst (λ e. Related e d.1 q) (sym h.1) (ends_more (base_in [] t) h.0 c ends, (h.2, bases), h.3)
 
-      led_same : {X : Type 0} (F : Scope × Tree → X) (G : Tree → X) (x : X) (o : Option Tree) (d : Option (Scope × Tree))
-          → ((e : Scope × Tree) (q : Tree) → Same (a e.0) b e.1 q → F e ≡ G q) → Led o d → option_map_or F d x ≡ option_map_or G o x
-      led_same F G x None None f l = refl
-      led_same F G x None (Some d) f l = absurd l
-      led_same F G x (Some q) None f l = absurd l
-      led_same F G x (Some q) (Some d) f l = f d q (subst (λ e. Same (a e) b d.1 q) (sym l.1)
-          (h (l.0 ∷ c) d.1 q (ends_more (base_in [] t) l.0 c ends) (l.2, bases) l.3))
-
-      led_ref : Led (referenced whole kw.Ref r) (target_in t c kw.Ref s)
+      led : (k : Keyword) → is_reference k ≡ true → LedRel Related (referenced whole k r) (target_in t c k s)
       unfolding encode
-      led_ref = keyword_led t sound z copies none fit leading c ends bases kw.Ref refl refl s r m
+      led kw.Ref e = led_related _ _ (keyword_led t sound z copies none fit leading c ends bases kw.Ref refl refl s r m)
+      led kw.DynamicRef e = led_related _ _ (keyword_led t sound z copies none fit leading c ends bases kw.DynamicRef refl refl s r m)
+      led _ e = absurd (true≢false (sym e))
 
-      led_dynamic : Led (referenced whole kw.DynamicRef r) (target_in t c kw.DynamicRef s)
-      unfolding encode
-      led_dynamic = keyword_led t sound z copies none fit leading c ends bases kw.DynamicRef refl refl s r m
+  pub simulates : Simulates t whole Related
+  simulates = record {
+    refuses = λ c s r h. refuses c h.0 h.1 s r h.2;
+    parts = λ c s r h. alike c h.0 h.1 s r h.2;
+    led = λ c s r h. led c h.0 h.1 s r h.2;
+    fit = λ c s r h. (h.2.whole, h.2.fit);
+  }
 
-      module _ (u : Tree) where
-        references_accept : scoped.reference_accepts t formats a c s u ≡ valid.reference_accepts whole b.accepts r u
-        references_accept = λ i.
-            led_same (λ d. (a d.0).accepts d.1 u) (λ q. b.accepts q u) true _ _ (λ e q l. l.0 u) led_ref i
-            && led_same (λ d. (a d.0).accepts d.1 u) (λ q. b.accepts q u) true _ _ (λ e q l. l.0 u) led_dynamic i
-
-        references_evaluate : (x : Child) → scoped.reference_evaluates t formats a c s u x
-            ≡ evaluated.reference_evaluates whole b r u x
-        references_evaluate x = λ i.
-            led_same (λ d. (a d.0).evaluates d.1 u x) (λ q. b.evaluates q u x) false _ _ (λ e q l. l.1 u x) led_ref i
-            || led_same (λ d. (a d.0).evaluates d.1 u x) (λ q. b.evaluates q u x) false _ _ (λ e q l. l.1 u x) led_dynamic i
-
-      step : Same (scoped.by_rules t formats a c) (valid.by_rules in_root b) s r
-      step = (
-        λ u. accepts_same (inner a c) b s r refuses alike u (scoped.reference_evaluates t formats a c s u)
-            (evaluated.reference_evaluates whole b r u) (references_evaluate u) formats _ _ (references_accept u),
-        λ u x. evaluates_same (inner a c) b s r refuses alike u (scoped.reference_evaluates t formats a c s u)
-            (evaluated.reference_evaluates whole b r u) (references_evaluate u) x,
-      )
-
-  -- at each number of nested schemas the results are the same, if those of deeper ones are
-  pub simulated : (n : ℕ) (a : Scoped) (b : Answers) → Agree a b → Agree (scoped.answers t formats n a) (valid.answers in_root n b)
-  simulated zero a b h = h
-  simulated (suc n) a b h = λ c s r ends bases m.
-      step (scoped.answers t formats n a) (valid.answers in_root n b) (simulated n a b h) c ends bases s r m
-
-  pub whole_same : (n : ℕ) (a : Scoped) (b : Answers) → Agree a b → (u : Tree)
-      → scoped.judged t formats n a u ≡ valid.judge in_root n b whole u
-  whole_same n a b h u = (simulated n a b h (outer t) t whole refl (in_base [] t empty_base, tt)
-      (record { around = []; place = []; whole = true; based = refl; made = refl; fit = fit; sound = sound; leading = leading })).0 u
+  pub begins : Related (outer t) t whole
+  begins = (
+    refl,
+    (in_base [] t empty_base, tt),
+    record { around = []; place = []; whole = true; based = refl; made = refl; fit = fit; sound = sound; leading = leading },
+  )

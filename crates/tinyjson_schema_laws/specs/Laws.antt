@@ -1,6 +1,6 @@
 -- What the laws state.
 use Rattle.std.specs.Option.{option_or}
-use Rattle.std.specs.Prelude.{◌≡◌, ℕ, Bool, true, false, List, [], ◌∷◌, Some, ⊤, unwrap_or}
+use Rattle.std.specs.Prelude.{◌≡◌, ◌↔◌, ℕ, Bool, true, false, List, [], ◌∷◌, Some, ⊤, unwrap_or}
 use Rattle.tinyjson.specs.Soundness.{IsTree}
 use Rattle.tinyjson.specs.Tree.{Tree}
 use Rattle.uri_reference.specs.Resolving.{without_fragment}
@@ -9,9 +9,9 @@ use Rattle.tinyjson_schema_bundle.specs.Bundles.{Marked, marks_of, base_in, is_b
 use Rattle.tinyjson_schema_bundle.specs.Scopes.{some_contested, bundled, entered, settled}
 use Rattle.tinyjson_schema.specs.Evaluated.{Answers, Child}
 use Rattle.tinyjson_schema.specs.Schemas.{is_schema}
-use Rattle.tinyjson_schema.specs.Valid.{Root, judge}
+use Rattle.tinyjson_schema.specs.Valid.{Root, judge, IsValidIn}
 use Rattle.tinyjson_schema_laws.specs.Leading.{all_lead}
-use Rattle.tinyjson_schema_laws.specs.Scoped.{Scoped, Scope, judged, outermost}
+use Rattle.tinyjson_schema_laws.specs.Scoped.{Scope, IsValidScoped, judged, outermost}
 
 -- The document has several resources, no dynamic reference in it depends on what has led to it, and bundled it can be
 -- applied. Each of its references leads to a place in it.
@@ -37,18 +37,9 @@ SameResults = (t : Tree) → IsUncontested t → (formats : Bool) (n : ℕ) (acc
     → judged t formats n (λ c. by_value accepts evaluates) u
     ≡ judge (bundled_root t formats) n (by_value accepts evaluates) (bundled [] t) u
 
--- The document accepts the value or not: so at some number of nested schemas, whatever the results of deeper ones are.
-abbrev pub Decides : Tree → Bool → Tree → Bool → Type 0
-Decides t formats u is = (n : ℕ) × ((g : Scoped) → judged t formats n g u ≡ is)
-
--- so does the bundled document
-abbrev pub BundledDecides : Tree → Bool → Tree → Bool → Type 0
-BundledDecides t formats u is = (n : ℕ) × ((g : Answers) → judge (bundled_root t formats) n g (bundled [] t) u ≡ is)
-
--- A document and the bundled one that both decide on a value decide the same.
-abbrev pub OneVerdict : Type 0
-OneVerdict = (t : Tree) → IsUncontested t → (formats : Bool) (u : Tree) (a b : Bool) → Decides t formats u a
-    → BundledDecides t formats u b → a ≡ b
+-- The document accepts by its dynamic scope exactly the values that the bundled document accepts.
+abbrev pub Exact : Type 0
+Exact = (t : Tree) → IsUncontested t → (formats : Bool) (u : Tree) → IsValidScoped t formats u ↔ IsValidIn (bundled_root t formats) u
 
 -- ---- scopes with contested names
 

@@ -4,7 +4,7 @@
 //! Each law is the contract of a public function that does nothing. The statements are in `specs/`.
 #![tactic(auto)]
 
-ghost use Rattle.tinyjson_schema_laws.specs.Laws.{OneVerdict, SameResults, ScopeDecides};
+ghost use Rattle.tinyjson_schema_laws.specs.Laws.{Exact, SameResults, ScopeDecides};
 
 /// At each number of nested schemas, a document without contested names judges a value by its dynamic
 /// scope as the bundled document does.
@@ -13,9 +13,9 @@ pub fn same_results()
     ensures { SameResults }
 {}
 
-/// Such a document and the bundled one never decide otherwise on a value.
-pub fn one_verdict()
-    ensures { OneVerdict }
+/// Such a document accepts by its dynamic scope exactly the values that the bundled one accepts.
+pub fn same_verdict()
+    ensures { Exact }
 {}
 
 /// What the bundled document keeps of a dynamic scope decides as the scope does.
