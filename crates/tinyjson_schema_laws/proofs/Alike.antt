@@ -299,19 +299,16 @@ module _ (a b : Answers) (u : Tree) (Below : Tree → Type 0) where
       contained_same = and_then_same Under (λ r. items_passing (a.accepts r) u) (λ r. items_passing (b.accepts r) u) _ _
           (λ r q h. items_passing_same Below (a.accepts r) (b.accepts q) h u items) (same kw.Contains)
 
-      count_value : (k : Keyword) → is_plain (form_of k) ≡ true → schema_at s k ≡ schema_at t k
-      count_value k e = value Under s t same k e
-
       tested : apply_all a.accepts tests s u ≡ apply_all b.accepts tests t u
       tested = λ i. (not (some_item_same Here _ _ (here kw.AnyOf refl) i) || one_same _ _ (here kw.AnyOf refl) i)
           && ((not (some_item_same Here _ _ (here kw.OneOf refl) i) || (count_same _ _ (here kw.OneOf refl) i == 1))
           && (map_or_same Here (λ r. not (a.accepts r u)) (λ r. not (b.accepts r u)) true _ _ (λ r q h. ap not h.0) (here kw.Not refl) i
           && (map_or_same Under (λ r. keys_pass (a.accepts r) (members_in u)) (λ r. keys_pass (b.accepts r) (members_in u)) true _ _
           (λ r q h. keys_same Below (a.accepts r) (b.accepts q) h (members_in u) members) (same kw.PropertyNames) i
-          && ((option_map_or is_zero (count_value kw.MinContains refl i) false
+          && ((option_map_or is_zero (value Under s t same kw.MinContains refl i) false
           || option_map_or (λ n. not (n == 0)) (contained_same i) true)
-          && (option_map_or (λ w. is_count_at_most (contained_same i) w) (count_value kw.MaxContains refl i) true
-          && (option_map_or (λ w. is_count_at_least (contained_same i) w) (count_value kw.MinContains refl i) true && true))))))
+          && (option_map_or (λ w. is_count_at_most (contained_same i) w) (value Under s t same kw.MaxContains refl i) true
+          && (option_map_or (λ w. is_count_at_least (contained_same i) w) (value Under s t same kw.MinContains refl i) true && true))))))
 
       demanded : apply_all a.accepts demands s u ≡ apply_all b.accepts demands t u
       demanded = λ i. all_same _ _ (here kw.AllOf refl) i

@@ -9,14 +9,14 @@ use Rattle.tinyjson_schema_keywords.specs.Names.{name}
 use Rattle.tinyjson_schema_keywords.specs.References.{referenced}
 use Rattle.tinyjson_schema_keywords.specs.declared.keyword.Keyword.{Keyword}
 use Rattle.tinyjson_schema.specs.Circles.{settles, reference_steps}
-use Rattle.tinyjson_schema.specs.Evaluated.{Answers, Child}
+use Rattle.tinyjson_schema.specs.Evaluated.{Answers}
 use Rattle.tinyjson_schema.specs.Nested.{is_reference}
 use Rattle.tinyjson_schema.specs.Valid as valid
 use Rattle.tinyjson_schema.specs.Valid.{IsValidIn, judge}
 use Rattle.tinyjson_schema_laws.specs.Laws.{by_value}
 use Rattle.tinyjson_schema_laws.specs.Scoped as scoped
 use Rattle.tinyjson_schema_laws.specs.Scoped.{Scope, Scoped, IsValidScoped, outer, entered, target_in, judged}
-use Rattle.tinyjson_schema_laws.proofs.Alike.{is_here, ItemsBelow, MembersBelow}
+use Rattle.tinyjson_schema_laws.proofs.Alike.{ItemsBelow, MembersBelow}
 use Rattle.tinyjson_schema_laws.proofs.Bisimilar.{ValueRel, LedRel, Simulates}
 use Rattle.tinyjson_schema_laws.proofs.Relations.{value_map, value_and, led_map}
 use Rattle.tinyjson_schema_laws.proofs.Settled.{settled, here_settles, led_settles}
@@ -125,23 +125,38 @@ module _ (t whole : Tree) (B : Scope → Tree → Tree → Type 0) (sim : Simula
     more n m = omega arith
 
     to_whole : IsValidScoped t formats u → IsValidIn (in_whole t whole B sim formats) u
-    to_whole v = (enough, λ h.
-        let g : Scoped = λ c. by_value (λ w. true) (λ w x. true) in
-        sym (one_result (scoped.answers t formats v.0 g) h)
-        ∙ (ap (λ s. (s (outer t)).accepts t u) (scoped_more t formats enough v.0 g ∙ (ap (λ k. scoped.answers t formats k g)
-        (more enough v.0) ∙ sym (scoped_more t formats v.0 enough g)))
-        ∙ v.1 (scoped.answers t formats enough g)))
+    to_whole v = (
+      enough,
+      λ h.
+          let g : Scoped = λ c. by_value (λ w. true) (λ w x. true) in
+          sym (one_result (scoped.answers t formats v.0 g) h)
+          ∙ (ap (λ s. (s (outer t)).accepts t u) (scoped_more t formats enough v.0 g ∙ (ap (λ k. scoped.answers t formats k g)
+          (more enough v.0) ∙ sym (scoped_more t formats v.0 enough g)))
+          ∙ v.1 (scoped.answers t formats enough g)),
+    )
 
     from_whole : IsValidIn (in_whole t whole B sim formats) u → IsValidScoped t formats u
-    from_whole v = (enough, λ g.
+    from_whole v = (
+      enough,
+      λ g.
+          let h : Answers = by_value (λ w. true) (λ w x. true) in
+          one_result g (valid.answers (in_whole t whole B sim formats) v.0 h)
+          ∙ (ap (λ s. s.accepts whole u) (valid_more (in_whole t whole B sim formats) enough v.0 h
+          ∙ (ap (λ k. valid.answers (in_whole t whole B sim formats) k h) (more enough v.0)
+          ∙ sym (valid_more (in_whole t whole B sim formats) v.0 enough h)))
+          ∙ v.1 (valid.answers (in_whole t whole B sim formats) enough h)),
+    )
+
+    decided : (is : Bool) × (n : ℕ) × ((g : Scoped) → judged t formats n g u ≡ is)
+    decided =
         let h : Answers = by_value (λ w. true) (λ w x. true) in
-        one_result g (valid.answers (in_whole t whole B sim formats) v.0 h)
-        ∙ (ap (λ s. s.accepts whole u) (valid_more (in_whole t whole B sim formats) enough v.0 h
-        ∙ (ap (λ k. valid.answers (in_whole t whole B sim formats) k h) (more enough v.0)
-        ∙ sym (valid_more (in_whole t whole B sim formats) v.0 enough h)))
-        ∙ v.1 (valid.answers (in_whole t whole B sim formats) enough h)))
+        (judge (in_whole t whole B sim formats) enough h whole u, enough, λ g. one_result g h)
 
 pub exactly : (t whole : Tree) (B : Scope → Tree → Tree → Type 0) → Simulates t whole B → B (outer t) t whole → (formats : Bool) (u : Tree)
     → IsValidScoped t formats u ↔ IsValidIn (record { tree = whole; formats = formats }) u
 exactly t whole B sim start formats u =
     (to_whole t whole B sim formats start u, from_whole t whole B sim formats start u)
+
+pub each_value_decided : (t whole : Tree) (B : Scope → Tree → Tree → Type 0) → Simulates t whole B → B (outer t) t whole → (formats : Bool)
+    (u : Tree) → (is : Bool) × (n : ℕ) × ((g : Scoped) → judged t formats n g u ≡ is)
+each_value_decided t whole B sim start formats u = decided t whole B sim formats start u

@@ -7,10 +7,10 @@ use Rattle.tinyjson_schema_bundle.specs.Scopes.{letters, some_contested, bundled
 use Rattle.tinyjson_schema.specs.Evaluated.{Child}
 use Rattle.tinyjson_schema.specs.Schemas.{is_schema}
 use Rattle.tinyjson_schema.specs.Valid.{IsValidIn, judge}
-use Rattle.tinyjson_schema_laws.specs.Laws.{IsUncontested, SameResults, Exact, bundled_root, by_value}
+use Rattle.tinyjson_schema_laws.specs.Laws.{IsUncontested, SameResults, Exact, EachDecided, bundled_root, by_value}
 use Rattle.tinyjson_schema_laws.specs.Scoped.{Scope, judged, outer, IsValidScoped}
 use Rattle.tinyjson_schema_laws.proofs.Bisimilar.{Simulates}
-use Rattle.tinyjson_schema_laws.proofs.Exactly.{exactly}
+use Rattle.tinyjson_schema_laws.proofs.Exactly.{exactly, each_value_decided}
 use Rattle.tinyjson_schema_laws.proofs.Referring.{root}
 use Rattle.tinyjson_schema_laws.proofs.Simulation.{Related, simulates, begins}
 use Rattle.tinyjson_schema_laws.proofs.Stepping.{simulated}
@@ -51,3 +51,6 @@ same_results t is formats n x y u = same t is formats n x y u
 
 pub same_verdict : Exact
 same_verdict t is formats u = exact t is formats u
+
+pub each_decided : EachDecided
+each_decided t is formats u = each_value_decided t (made t is) (Bundled t is) (same_steps t is) (start t is) formats u

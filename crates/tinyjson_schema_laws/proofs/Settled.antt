@@ -3,8 +3,8 @@ use Rattle.std.proofs.Common.{◌≡◌, ℕ, zero, suc, ◌+◌, ◌≤◌, ◌
 use Rattle.std.proofs.Common.{refl, sym, ap, ◌∙◌, true≢false, subst, arith}
 use Rattle.std.proofs.lemmas.Bool.{and_parts, and_from}
 use Rattle.std.specs.Option.{option_map_or}
-use Rattle.std.specs.Prelude.{⊤, option_and_then}
-use Rattle.tinyjson.specs.Tree.{Tree, boolean, array, object, Items, no_items, item, Members, no_members, member, find}
+use Rattle.std.specs.Prelude.{option_and_then}
+use Rattle.tinyjson.specs.Tree.{Tree, array, object, Items, no_items, item, Members, no_members, member, find}
 use Rattle.tinyjson_schema_keywords.specs.Applied.{schema_at, schemas_at, schema_map_at}
 use Rattle.tinyjson_schema_keywords.specs.Forms.{form_of, is_some_item}
 use Rattle.tinyjson_schema_keywords.specs.Names.{name}
@@ -16,9 +16,8 @@ use Rattle.tinyjson_schema_keywords.specs.declared.keyword.Keyword.TheVariants a
 use Rattle.tinyjson_schema.specs.Circles.{in_lists, in_place, all_pass, map_passes, lists_pass, singles_pass, reference_passes}
 use Rattle.tinyjson_schema.specs.Circles.{settles, reference_steps, leads}
 use Rattle.tinyjson_schema.specs.Nested.{is_reference}
-use Rattle.tinyjson_schema.specs.Schemas.{is_schema, keywords_fit, is_schema_list, are_schemas, is_schema_map, have_schemas}
+use Rattle.tinyjson_schema.specs.Schemas.{is_schema, keywords_fit, are_schemas, have_schemas}
 use Rattle.tinyjson_schema_laws.proofs.Alike.{is_here}
-use Rattle.tinyjson_schema_laws.proofs.Bisimilar.{listed, mapped}
 use Rattle.tinyjson_schema_laws.proofs.Pointed.{form_named}
 use Rattle.tinyjson_schema_laws.proofs.Relations.{Passes}
 use Rattle.tinyjson_schema_laws.proofs.Sizes.{size, items_size, members_size, opt_size, find_size}

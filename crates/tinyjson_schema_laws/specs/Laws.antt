@@ -11,7 +11,7 @@ use Rattle.tinyjson_schema.specs.Evaluated.{Answers, Child}
 use Rattle.tinyjson_schema.specs.Schemas.{is_schema}
 use Rattle.tinyjson_schema.specs.Valid.{Root, judge, IsValidIn}
 use Rattle.tinyjson_schema_laws.specs.Leading.{all_lead}
-use Rattle.tinyjson_schema_laws.specs.Scoped.{Scope, IsValidScoped, judged, outermost}
+use Rattle.tinyjson_schema_laws.specs.Scoped.{Scoped, Scope, IsValidScoped, judged, outermost}
 
 -- The document has several resources, no dynamic reference in it depends on what has led to it, and bundled it can be
 -- applied. Each of its references leads to a place in it.
@@ -40,6 +40,12 @@ SameResults = (t : Tree) → IsUncontested t → (formats : Bool) (n : ℕ) (acc
 -- The document accepts by its dynamic scope exactly the values that the bundled document accepts.
 abbrev pub Exact : Type 0
 Exact = (t : Tree) → IsUncontested t → (formats : Bool) (u : Tree) → IsValidScoped t formats u ↔ IsValidIn (bundled_root t formats) u
+
+-- Each value is decided: at some number of nested schemas the document accepts it or not, whatever the results of deeper
+-- ones are.
+abbrev pub EachDecided : Type 0
+EachDecided = (t : Tree) → IsUncontested t → (formats : Bool) (u : Tree)
+    → (is : Bool) × (n : ℕ) × ((g : Scoped) → judged t formats n g u ≡ is)
 
 -- ---- scopes with contested names
 

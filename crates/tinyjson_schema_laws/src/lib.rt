@@ -4,7 +4,7 @@
 //! Each law is the contract of a public function that does nothing. The statements are in `specs/`.
 #![tactic(auto)]
 
-ghost use Rattle.tinyjson_schema_laws.specs.Laws.{Exact, SameResults, ScopeDecides};
+ghost use Rattle.tinyjson_schema_laws.specs.Laws.{EachDecided, Exact, SameResults, ScopeDecides};
 
 /// At each number of nested schemas, a document without contested names judges a value by its dynamic
 /// scope as the bundled document does.
@@ -16,6 +16,11 @@ pub fn same_results()
 /// Such a document accepts by its dynamic scope exactly the values that the bundled one accepts.
 pub fn same_verdict()
     ensures { Exact }
+{}
+
+/// Such a document decides on each value at some number of nested schemas, whatever deeper ones say.
+pub fn each_decided()
+    ensures { EachDecided }
 {}
 
 /// What the bundled document keeps of a dynamic scope decides as the scope does.
