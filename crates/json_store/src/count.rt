@@ -1,4 +1,7 @@
 //! Counts the values of lines.
+ghost use Rattle.std.specs.Prelude.{◌≡◌};
+ghost use Rattle.tinyjson.specs.Tree.{Tree};
+ghost use Rattle.tinyjson_store.specs.Store.{count_of};
 
 use std::alloc::Global;
 use std::io::{self, BufRead, ErrorKind, Write};
@@ -19,7 +22,10 @@ pub struct Counter {
 
 impl Counter {
     /// A counter without values, for lines of at most `max_line` bytes.
-    pub fn new(alloc: Global, max_line: Option<usize>) -> Counter {
+    pub fn new(alloc: Global, max_line: Option<usize>) -> Counter
+        ensures counts { (t : Tree) → count_of result.store t ≡ 0 }
+        ensures limit { result.max_line ≡ max_line }
+    {
         Counter {
             alloc,
             max_line,
