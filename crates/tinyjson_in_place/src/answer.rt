@@ -1,7 +1,11 @@
 //! Files that are replaced by the answers for their texts.
-ghost use Rattle.std.specs.Prelude.{◌≡◌, ◌≢◌, IfErr, IfOk, MatchOption, Ok};
+ghost use Rattle.std.specs.Prelude.{◌≡◌, ◌≢◌, ◌<◌, true, false, length};
+ghost use Rattle.std.specs.Prelude.{IfErr, IfOk, MatchOption, Ok};
 ghost use Rattle.std.specs.Str.{chars};
-ghost use Rattle.tinyjson_in_place.specs.Changing.{IsUnanswered, is_last};
+ghost use Rattle.tinyjson_cli.specs.Ending.{IsOfArguments};
+ghost use Rattle.tinyjson_cli.specs.Failures.{failure_status};
+ghost use Rattle.tinyjson_cli.specs.declared.status.Status.{Status};
+ghost use Rattle.tinyjson_in_place.specs.Changing.{IsOfFiles, IsUnanswered, is_last};
 
 use crate::file::replace;
 use std::alloc::Global;
@@ -26,13 +30,18 @@ pub const IN_PLACE: Known<'static> = Known {
 /// ```
 /// answer_in_place(rt, PROGRAM, texts, &["a.json", "b.json"], &asked)
 /// ```
+#[tactic(auto, using(crate::proofs::Ending::with_failure))]
 pub fn answer_in_place<A: TextAnswer>(
     rt: &HostRuntime,
     program: Program<'_>,
     texts: Texts,
     files: &[&str],
     asked: &A,
-) -> Status {
+) -> Status
+    ensures none { length files.now ≡ 0 → result ≡ Status.Misused }
+    ensures lines { texts.by_lines ≡ true → IsOfArguments result }
+    ensures files { 0 < length files.now → texts.by_lines ≡ false → IsOfFiles result }
+{
     if files.is_empty() {
         return misused(rt, program, Misuse::Missing("FILE"));
     }
@@ -53,7 +62,9 @@ pub fn answer_in_place<A: TextAnswer>(
 }
 
 /// Reports that each line is to be a text.
-fn report_lines(rt: &HostRuntime, program: Program<'_>) -> Status {
+fn report_lines(rt: &HostRuntime, program: Program<'_>) -> Status
+    ensures { IsOfArguments result }
+{
     match "-l and -I exclude each other".to_string(rt.alloc()) {
         Ok(words) => report(rt, program, None, &Failure::Misused(words)),
         Err(_) => report(rt, program, None, &Failure::OutOfMemory),
@@ -76,7 +87,9 @@ fn answer_input<A: TextAnswer>(
     program: Program<'_>,
     file: Option<&str>,
     asked: &A,
-) -> Result<(), Failure> {
+) -> Result<(), Failure>
+    ensures { IfErr result (λ f. IsOfFiles (failure_status f)) }
+{
     let text = read_text(rt, file)?;
     let Some(name) = file else {
         let answer = answer_bytes(rt.alloc(), asked, text.as_str())?;
@@ -88,7 +101,9 @@ fn answer_input<A: TextAnswer>(
     }
 }
 
-fn print(rt: &HostRuntime, answer: &[u8]) -> Result<(), Failure> {
+fn print(rt: &HostRuntime, answer: &[u8]) -> Result<(), Failure>
+    ensures { IfErr result (λ f. failure_status f ≡ Status.Failed) }
+{
     match io::writer(rt).write_all(answer) {
         Ok(()) => Ok(()),
         Err(error) => Err(writing_error(error)),

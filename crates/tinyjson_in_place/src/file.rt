@@ -1,4 +1,7 @@
 //! A file that is replaced.
+ghost use Rattle.std.specs.Prelude.{◌≡◌, IfErr};
+ghost use Rattle.tinyjson_cli.specs.Failures.{failure_status};
+ghost use Rattle.tinyjson_cli.specs.declared.status.Status.{Status};
 
 use std::alloc::Global;
 use std::fs::{self, OpenOptions};
@@ -13,7 +16,9 @@ use tinyjson_cli::{Failure, Shown};
 /// ```
 /// replace(rt, "json_format", "settings.json", b"{}\n")? // writes settings.json.json_format, and renames it
 /// ```
-pub fn replace(rt: &HostRuntime, program: &str, name: &str, bytes: &[u8]) -> Result<(), Failure> {
+pub fn replace(rt: &HostRuntime, program: &str, name: &str, bytes: &[u8]) -> Result<(), Failure>
+    ensures { IfErr result (λ f. failure_status f ≡ Status.Failed) }
+{
     match replaced(rt, program, name, bytes) {
         Ok(()) => Ok(()),
         Err(error) => Err(failure(rt.alloc(), name, error)),
@@ -21,7 +26,9 @@ pub fn replace(rt: &HostRuntime, program: &str, name: &str, bytes: &[u8]) -> Res
 }
 
 /// The failure for a file that is not replaced. It names the file.
-fn failure(alloc: Global, name: &str, error: io::Error) -> Failure {
+fn failure(alloc: Global, name: &str, error: io::Error) -> Failure
+    ensures { failure_status result ≡ Status.Failed }
+{
     match format!(in alloc; "{}: not written: {error}", Shown(name)) {
         Ok(words) => Failure::Failed(words),
         Err(_) => Failure::OutOfMemory,
