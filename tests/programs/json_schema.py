@@ -705,6 +705,12 @@ RESOURCES = [
                      '"contains":%s', '"additionalProperties":%s', '"propertyNames":{"items":%s}', '"dependentSchemas":{"z":%s}', '"patternProperties":{"^z":%s}', '"contentSchema":%s')),
 ]
 
+# The list is reached in two dynamic scopes, so it is copied. The last property has a reference by a pointer into `$defs`.
+COPIED = ('{"properties":{"s":{"$ref":"s"},"t":{"$ref":"t"},"u":{"$ref":"#/$defs/%s"}},"$defs":{'
+          '"l":{"$id":"l","items":{"$dynamicRef":"#n"},"$defs":{"n":{"$dynamicAnchor":"n"}}},'
+          '"s":{"$id":"s","$ref":"l","$defs":{"n":{"$dynamicAnchor":"n","type":"string"}}},'
+          '"t":{"$id":"t","$ref":"l","$defs":{"n":{"$dynamicAnchor":"n","type":"boolean"}}}}}')
+
 # Two resources with one URI, an `$id` with a fragment or that is no text, a name that a resource has twice, and references that lead to none in the document.
 REFUSED_RESOURCES = [
     ('{"$defs":{"a":{"$id":"x"},"b":{"$id":"x"}}}', "/$defs/b/$id"), ('{"$id":"https://example.com/a","$defs":{"a":{"$id":"a"}}}', "/$defs/a/$id"), ('{"$defs":{"a":{"$id":""}}}', "/$defs/a/$id"),
@@ -718,6 +724,8 @@ REFUSED_RESOURCES = [
     # There is none with the name; a resource has it twice.
     ('{"$defs":{"a":{"$id":"a","$dynamicAnchor":"n"}},"$dynamicRef":"a#m"}', "/$dynamicRef"),
     ('{"$defs":{"a":{"$id":"a","$dynamicAnchor":"n"}},"$dynamicRef":"#n"}', "/$dynamicRef"), ('{"$defs":{"n":{"$anchor":"n"},"o":{"$dynamicAnchor":"n"},"b":{"$id":"b"}}}', "/$defs/o/$dynamicAnchor"),
+    # It names a key that a copy could have.
+    *[(COPIED % name, "/properties/u/$ref") for name in ("zz0", "zz1", "zzz0", "%7A%7a0", "z%7A1", "zzzz0")],
     ('{"$ref":"x#y z","$defs":{"a":{"$id":"x"}}}', "/$ref"), ('{"$ref":"x#1","allOf":[{"$id":"x"}]}', "/$ref"), ('{"$ref":"x#%FF","$defs":{"a":{"$id":"x"}}}', "/$ref"), ('{"$ref":"x#%2","$defs":{"a":{"$id":"x"}}}', "/$ref"),
 ]
 

@@ -1,3 +1,4 @@
+pub mod Copying
 pub mod Marking
 pub mod Placing
 pub mod Pointing

@@ -1,20 +1,21 @@
 -- Scopes of dynamic references: a resource that is reached in several scopes has a copy for each (JSON Schema
 -- 2020-12, Core, 7.1 and 8.2.3.2).
 use Rattle.std.specs.Fmt.{decimal}
-use Rattle.std.specs.Prelude.{ℕ, suc, Bool, true, false, ◌&&◌, ◌||◌, List, [], ◌∷◌, ◌++◌, Option, Some, None, cond, take}
-use Rattle.std.specs.Prelude.{drop, length, nat_lt, replicate, codes, is_some, is_none, map, option_map, option_and_then, unwrap_or}
-use Rattle.std.specs.Prelude.{encode_utf8_all, string_bytes}
+use Rattle.std.specs.Prelude.{◌≡◌, ◌≤◌, ◌==◌, ◌⊎◌, ⊤, ℕ, suc, Bool, true, false, ◌&&◌, ◌||◌, List, [], ◌∷◌, ◌++◌, Option, Some, None}
+use Rattle.std.specs.Prelude.{cond, take, drop, length, nat_lt, replicate, codes, is_some, is_none, map, option_map, option_and_then}
+use Rattle.std.specs.Prelude.{unwrap_or, encode_utf8_all, string_bytes}
 use Rattle.std.specs.Option.{option_map_or, option_or}
 use Rattle.std.specs.Str.{bytes_eq, chars, is_utf8}
 use Rattle.tinyjson.specs.Tree.{Tree, object, Members, no_members, member, put}
 use Rattle.uri_reference.specs.Resolving.{without_fragment, fragment_of}
 use Rattle.tinyjson_schema_keywords.specs.Applied.{schema_at, schema_map_at}
 use Rattle.tinyjson_schema_keywords.specs.Names.{name}
-use Rattle.tinyjson_schema_keywords.specs.References.{at_pointer, percent_decoded}
+use Rattle.tinyjson_schema_keywords.specs.References.{percent, at_pointer, percent_decoded}
 use Rattle.tinyjson_schema_keywords.specs.declared.keyword.Keyword.TheVariants as kw
 use Rattle.tinyjson_schema_bundle.specs.Bundles.{Marked, Places, Leads, marks_of, place_of, dynamic_place, is_named, outermost, is_bundle}
 use Rattle.tinyjson_schema_bundle.specs.Bundles.{with_name, base_in, begins_pointer, pointed, pointed_among, pointed_members, put_some}
-use Rattle.tinyjson_schema_bundle.specs.Bundles.{is_dynamic_name, all_marked, places_in}
+use Rattle.tinyjson_schema_bundle.specs.Bundles.{is_place, is_dynamic_name, all_marked, places_in}
+use Rattle.tinyjson_schema_bundle.specs.declared.copies.Gathered.{Gathered}
 use Rattle.tinyjson_schema_bundle.specs.declared.guide.Guide.{Guide}
 use Rattle.tinyjson_schema_bundle.specs.declared.mark.Kind.{Kind}
 use Rattle.tinyjson_schema_bundle.specs.declared.mark.Kind.TheVariants as kind
@@ -65,6 +66,11 @@ is_between e p m = is_resource_mark m.0 && is_within e m.2 && is_within m.2 p
 abbrev pub name_in : Marked → List ℕ
 name_in m = unwrap_or (fragment_of m.1) []
 
+-- m is one of the marks
+abbrev pub IsOneOf : List Marked → Marked → Type 0
+IsOneOf [] m = ⊥
+IsOneOf (n ∷ ns) m = (m ≡ n) ⊎ IsOneOf ns m
+
 -- given the marks of a document, and the URI of its root
 module _ (all : List Marked) (r : List ℕ) where
   -- Other resources have the mark's name, and the root resource has not.
@@ -113,9 +119,19 @@ module _ (all : List Marked) (r : List ℕ) where
   abbrev pub reached : Scope → List ℕ → Reached
   reached c q = (entered (home q).0 c, (home q).1)
 
+  -- Each mark of the scope is one of the document's, and contested.
+  abbrev pub IsScope : Scope → Type 0
+  IsScope [] = ⊤
+  IsScope (m ∷ c) = IsOneOf all m × (is_contested m ≡ true) × IsScope c
+
+  abbrev pub HaveScopes : List Reached → Type 0
+  HaveScopes [] = ⊤
+  HaveScopes (s ∷ ss) = IsScope s.0 × HaveScopes ss
+
 -- ---- copies
 
--- The copies are in `$defs`, at keys that begin with these letters: more letters than each key there has bytes.
+-- The copies are in `$defs`, at keys that begin with these letters `z`: so many that no key there has as many bytes,
+-- and no reference as many bytes of `z` or of `%`, which may encode it. So no reference is a copy's place.
 abbrev pub longer : ℕ → ℕ → ℕ
 longer n l = cond (nat_lt n l) l n
 
@@ -126,8 +142,20 @@ longest (member k w ms) n = longest ms (longer n (length (encode_utf8_all k)))
 abbrev pub letters_above : ℕ → List ℕ
 letters_above n = replicate (suc n) 122
 
+abbrev pub may_be_letter : ℕ → Bool
+may_be_letter b = b == 122 || b == percent
+
+abbrev pub letters_in : List ℕ → ℕ
+letters_in [] = 0
+letters_in (b ∷ bs) = cond (may_be_letter b) (suc (letters_in bs)) (letters_in bs)
+
+-- the most letters in a reference, or n if that is more
+abbrev pub most_letters : List Marked → ℕ → ℕ
+most_letters [] n = n
+most_letters (m ∷ ms) n = most_letters ms (cond (is_place m.0) n (longer n (letters_in m.1)))
+
 abbrev pub letters : Tree → List ℕ
-letters t = letters_above (longest (schema_map_at t kw.Defs) 0)
+letters t = letters_above (most_letters (marks_of t) (longest (schema_map_at t kw.Defs) 0))
 
 -- The key of the copy i, and a place in this copy.
 abbrev pub copy_key : List ℕ → ℕ → List ℕ
@@ -198,6 +226,11 @@ abbrev pub bundled : List Reached → Tree → Tree
 bundled copies t = cond (is_bundle (marks_of t)) (with_copies (place_of (marks_of t)) (marks_of t) (base_in [] t) (letters t)
     (some_contested (marks_of t) (base_in [] t) (marks_of t)) copies t copies) t
 
+-- The states for which a bundled document has copies. Their scopes have contested names of the document.
+pub record AreCopies (t : Tree) (copies : List Reached) : Type 0 where
+  pub few : length copies ≤ 1000
+  pub scopes : HaveScopes (marks_of t) (base_in [] t) copies
+
 -- ---- for private contracts
 
 abbrev pub reached_of : State → Reached
@@ -206,3 +239,17 @@ reached_of s = (all_marked s.scope.items, string_bytes s.entry)
 abbrev pub guided : Guide → Leads
 guided g = leads_of (places_in g.places.now) (all_marked g.marks.now) g.root.now g.letters.now g.contested
     (map reached_of g.copies.now) (reached_of g.from.now)
+
+abbrev pub states_in : Gathered → List Reached
+states_in g = map reached_of g.states.items
+
+-- the scope from which a reference is followed
+abbrev pub IsFrom : Guide → Type 0
+IsFrom g = IsScope (all_marked g.marks.now) g.root.now (reached_of g.from.now).0
+
+abbrev pub AreStates : Guide → List Reached → Type 0
+AreStates g ss = (length ss ≤ 1000) × HaveScopes (all_marked g.marks.now) g.root.now ss
+
+-- The state is appended, or it is not.
+abbrev pub MayAppend : Reached → List Reached → List Reached → Type 0
+MayAppend s old new = (new ≡ old) ⊎ (new ≡ old ++ s ∷ [])

@@ -11,7 +11,7 @@ ghost use Rattle.tinyjson_schema_bundle.specs.Bundles.{kept_id, kept_anchor, kep
 ghost use Rattle.tinyjson_schema_bundle.specs.Bundles.{put_some, is_dynamic, pointed};
 ghost use Rattle.tinyjson_schema_bundle.specs.Bundles.{pointed_among, pointed_list, pointed_map};
 ghost use Rattle.tinyjson_schema_bundle.specs.Bundles.{pointed_items, pointed_members};
-ghost use Rattle.tinyjson_schema_bundle.specs.Scopes.{Reached, guided, bundled};
+ghost use Rattle.tinyjson_schema_bundle.specs.Scopes.{Reached, guided, bundled, AreCopies};
 
 use crate::copies::{copies_of, letters, with_copies};
 use crate::guide::{Guide, fragment_in, place_below, place_of_name, places_of};
@@ -41,7 +41,8 @@ use uri_reference::{resolve, without_fragment};
 #[inline(never)]
 pub fn bundled(document: &JsonValue, alloc: Global) -> Result<JsonValue, AllocError>
     ensures { IfOk result (λ v. (copies : List Reached)
-        × (view v ≡ bundled copies (view document.now))) }
+        × (view v ≡ bundled copies (view document.now))
+        × AreCopies (view document.now) copies) }
 {
     let gathered = marks_of(document, alloc)?;
     let marks = gathered.as_slice();
@@ -51,7 +52,7 @@ pub fn bundled(document: &JsonValue, alloc: Global) -> Result<JsonValue, AllocEr
     let places = places_of(marks, alloc)?;
     let uri = base_in("", document, alloc)?;
     let root = uri.as_str();
-    let letters = letters(document, alloc)?;
+    let letters = letters(document, marks, alloc)?;
     let letters = letters.as_str();
     let contested = some_contested(marks, root, alloc)?;
     let start = State::whole(alloc);

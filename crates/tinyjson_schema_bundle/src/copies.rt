@@ -4,15 +4,17 @@ ghost use Rattle.std.specs.String.{string_bytes};
 ghost use Rattle.tinyjson.specs.View.{view, members_view, members_listed};
 ghost use Rattle.tinyjson_schema_keywords.specs.Applied.{schema_at};
 ghost use Rattle.tinyjson_schema_keywords.specs.declared.keyword.Keyword.TheVariants.{Defs};
-ghost use Rattle.tinyjson_schema_bundle.specs.Bundles.{all_marked, places_in};
+ghost use Rattle.tinyjson_schema_bundle.specs.Bundles.{all_marked, marks_of, places_in};
 ghost use Rattle.tinyjson_schema_bundle.specs.Scopes.{reached_of, from_root, guided, home, letters};
 ghost use Rattle.tinyjson_schema_bundle.specs.Scopes.{letters_above, longest, longer, schema_there};
+ghost use Rattle.tinyjson_schema_bundle.specs.Scopes.{may_be_letter, letters_in, most_letters};
+ghost use Rattle.tinyjson_schema_bundle.specs.Scopes.{states_in, IsFrom, AreStates, MayAppend};
 ghost use Rattle.tinyjson_schema_bundle.specs.Scopes.{copy_by, copy_of, put_copies, defs_in};
 ghost use Rattle.tinyjson_schema_bundle.specs.Scopes.{with_defs, with_copies};
 
 use crate::bundle::{first_place, pointed, pointed_members, pointed_named, put_some};
-use crate::guide::Guide;
-use crate::mark::{Kind, Spot};
+use crate::guide::{Guide, is_place};
+use crate::mark::{Kind, Mark, Spot};
 use crate::scope::{State, home, is_in_document, is_within, place_in_list, place_of_base, reached};
 use std::alloc::{AllocError, Global};
 use std::collections::HashMap;
@@ -22,12 +24,51 @@ use tinyjson_pointer::put_member;
 use tinyjson_schema_keywords::{Keyword, at_pointer, percent_decoded, schema_at, schema_map_at};
 use uri_reference::resolve;
 
-/// The letters with which the keys of copies begin: they are longer than each key of `$defs`.
-pub fn letters(document: &JsonValue, alloc: Global) -> Result<String, AllocError>
+/// The letters with which the keys of copies begin. They are longer than each key of `$defs`, and no reference of the
+/// document has as many: so a reference that leads nowhere leads to no copy.
+pub fn letters(
+    document: &JsonValue,
+    marks: &[Mark],
+    alloc: Global,
+) -> Result<String, AllocError>
+    requires { all_marked marks.now ≡ marks_of (view document.now) }
     ensures { IfOk result (λ s. string_bytes s ≡ letters (view document.now)) }
 {
     let listed = schema_map_at(document, Keyword::Defs, alloc)?;
-    letters_above(longest_key(listed.as_slice()), alloc)
+    let longest = longest_key(listed.as_slice());
+    letters_above(most_letters(marks, longest), alloc)
+}
+
+/// The most letters in a reference, or `least` if that is more.
+fn most_letters(marks: &[Mark], least: usize) -> usize
+    ensures { result ≡ most_letters (all_marked marks.now) least }
+{
+    let mut most = least;
+    for mark in marks {
+        if !is_place(mark.kind) {
+            most = longer(most, letters_in(mark.uri.as_str()));
+        }
+    }
+    most
+}
+
+/// How many bytes of the text are a `z`, or a `%`, which may begin its code.
+fn letters_in(text: &str) -> usize
+    ensures { result ≡ letters_in text.now }
+{
+    let mut letters = 0;
+    for byte in text.as_bytes() {
+        if may_be_letter(*byte) {
+            letters += 1;
+        }
+    }
+    letters
+}
+
+fn may_be_letter(byte: u8) -> bool
+    ensures { result ≡ may_be_letter byte }
+{
+    byte == b'z' || byte == b'%'
 }
 
 /// More letters than the count.
@@ -220,7 +261,9 @@ struct Gathered<'d> {
 impl Gathered<'_> {
     /// Appends the state if there is room for its copy. After one that is too long there is none for others: references
     /// to these lead nowhere, and are rejected at their place.
-    fn push(&mut self, state: State, alloc: Global) -> Result<(), AllocError> {
+    fn push(&mut self, state: State, alloc: Global) -> Result<(), AllocError>
+        ensures { MayAppend (reached_of state) (states_in self.old) (states_in self.new) }
+    {
         let Some(schema) = schema_there(self.document, state.entry.as_str(), alloc)? else {
             return Ok(());
         };
@@ -238,7 +281,10 @@ impl Gathered<'_> {
 
 /// The states that need a copy, as references lead to them from the root. No clause claims that it finds all of
 /// them: a reference to a missing copy is rejected at its place.
-pub fn copies_of(document: &JsonValue, guide: &Guide<'_>) -> Result<Vec<State>, AllocError> {
+pub fn copies_of(document: &JsonValue, guide: &Guide<'_>) -> Result<Vec<State>, AllocError>
+    requires { reached_of guide.now.from.now ≡ from_root }
+    ensures { IfOk result (λ v. AreStates guide.now (map reached_of v.items)) }
+{
     let states = Vec::new(guide.alloc);
     if !guide.contested {
         return Ok(states);
@@ -274,7 +320,11 @@ fn text_length(schema: &JsonValue, alloc: Global) -> Result<usize, AllocError> {
 }
 
 /// Appends the states that the references of the last state lead to, unless the document has them itself.
-fn gather_reached(guide: &Guide<'_>, gathered: &mut Gathered<'_>) -> Result<(), AllocError> {
+fn gather_reached(guide: &Guide<'_>, gathered: &mut Gathered<'_>) -> Result<(), AllocError>
+    requires from { IsFrom guide.now }
+    requires states { AreStates guide.now (states_in gathered.old) }
+    ensures { AreStates guide.now (states_in gathered.new) }
+{
     for mark in guide.marks {
         let is_reference = matches!(mark.kind, Kind::Inside | Kind::Outside);
         if is_reference && is_within(guide.from.entry.as_str(), mark.place.as_str()) {
@@ -293,7 +343,11 @@ fn gather_target(
     base: &str,
     guide: &Guide<'_>,
     gathered: &mut Gathered<'_>,
-) -> Result<(), AllocError> {
+) -> Result<(), AllocError>
+    requires from { IsFrom guide.now }
+    requires states { AreStates guide.now (states_in gathered.old) }
+    ensures { AreStates guide.now (states_in gathered.new) }
+{
     if gathered.states.len() >= MOST_COPIES || gathered.room == 0 {
         return Ok(());
     }

@@ -51,7 +51,7 @@ pub fn places_of(marks: &[Mark], alloc: Global) -> Result<BTreeMap<String, Strin
     Ok(places)
 }
 
-fn is_place(kind: Kind) -> bool
+pub fn is_place(kind: Kind) -> bool
     ensures { result ≡ is_place kind }
 {
     match kind {

@@ -158,7 +158,7 @@ wrong_copies_applied : is_schema (bundled wrong_copies lists_schema) true (bundl
 unfolding is_utf8 chars encode digits
 wrong_copies_applied = refl
 
--- A pointer to the place of a copy leads nowhere in the document, but to the copy in the bundled one.
+-- A pointer that could name a copy leads nowhere in the document, and nowhere in the bundled one.
 abbrev astray_schema : Tree
 astray_schema = object (member (codes "$defs") (object (member (codes "l") list_schema (member (codes "s") (list_of (codes "texts")
     (codes "string"))
@@ -170,6 +170,6 @@ astray_nowhere : located_at astray_schema (codes "/$defs/zz0") ≡ None
 unfolding is_utf8 chars encode
 astray_nowhere = refl
 
-astray_applied : is_schema (bundled both_copies astray_schema) true (bundled both_copies astray_schema) ≡ true
+astray_refused : is_schema (bundled both_copies astray_schema) true (bundled both_copies astray_schema) ≡ false
 unfolding is_utf8 chars encode digits
-astray_applied = refl
+astray_refused = refl

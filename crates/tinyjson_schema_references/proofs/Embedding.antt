@@ -2,14 +2,14 @@
 use Rattle.std.proofs.Common.{◌≡◌, ◌∙◌, [], ◌∷◌, Bool, true, ◌==◌, ℕ, ◌<◌, ◌+◌, List, length, get_or, drop, map, refl, sym, ap, subst, arith}
 use Rattle.std.proofs.lemmas.Bool.{eqb-true}
 use Rattle.tinyjson.specs.Tree.{Tree}
-use Rattle.tinyjson_schema_bundle.specs.Scopes.{Reached, bundled}
+use Rattle.tinyjson_schema_bundle.specs.Scopes.{Reached, AreCopies, bundled}
 use Rattle.tinyjson_schema_meta.specs.Meta.{published}
 use Rattle.tinyjson_schema_meta.specs.declared.meta.MetaSchema.{MetaSchema}
 use Rattle.tinyjson_schema_references.specs.References.{EmbedsAll, EmbedsOne, HasMetaSchemas, Seen, wanted}
 use Rattle.tinyjson_schema_references.proofs.Gathering.{drop_at}
 
 module _ (c : Seen) (b : Tree) (ms : List MetaSchema) (copies : List Reached) (k : b ≡ bundled copies c.0)
-    (w : map published ms ≡ wanted c.0 b) where
+    (are : AreCopies c.0 copies) (w : map published ms ≡ wanted c.0 b) where
   pub none_wanted : ms ≡ [] → HasMetaSchemas c (b, c.1)
   none_wanted n = (
     copies,
@@ -17,11 +17,14 @@ module _ (c : Seen) (b : Tree) (ms : List MetaSchema) (copies : List Reached) (k
     c,
     subst (λ ds. EmbedsAll ds c c) (sym (ap (map published) n) ∙ (w ∙ ap (wanted c.0) k)) refl,
     ap (λ t. (t, c.1)) k,
+    are,
+    are,
   )
 
   pub some_wanted : (e : Seen) (t : Tree) (all : List Reached) → EmbedsAll (map published ms) c e → t ≡ bundled all e.0
-      → HasMetaSchemas c (t, e.1)
-  some_wanted e t all h i = (copies, all, e, subst (λ ds. EmbedsAll ds c e) (w ∙ ap (wanted c.0) k) h, ap (λ x. (x, e.1)) i)
+      → AreCopies e.0 all → HasMetaSchemas c (t, e.1)
+  some_wanted e t all h i g =
+      (copies, all, e, subst (λ ds. EmbedsAll ds c e) (w ∙ ap (wanted c.0) k) h, ap (λ x. (x, e.1)) i, are, g)
 
 pub none_left : {A : Type 0} (b : Bool) (xs : List A) → b ≡ (length xs == 0) → b ≡ true → xs ≡ []
 none_left b [] e h = refl

@@ -16,7 +16,7 @@ use Rattle.tinyjson_schema_keywords.specs.declared.keyword.Form.{Form}
 use Rattle.tinyjson_schema_keywords.specs.declared.keyword.Form.TheVariants as form
 use Rattle.tinyjson_schema_keywords.specs.declared.keyword.Keyword.{Keyword}
 use Rattle.tinyjson_schema_keywords.specs.declared.keyword.Keyword.TheVariants as kw
-use Rattle.tinyjson_schema_bundle.specs.Scopes.{Reached, bundled}
+use Rattle.tinyjson_schema_bundle.specs.Scopes.{Reached, AreCopies, bundled}
 use Rattle.tinyjson_schema_documents.specs.Documents.{has_definition, string_of, with_document, with_member}
 use Rattle.tinyjson_schema_meta.specs.Meta.{Published, documents_with, has_document}
 use Rattle.tinyjson_schema_drafts.specs.Dialects.{dialect_of, unknown_dialect}
@@ -141,7 +141,7 @@ wanted s b = wanted_among (Draft4 ∷ Draft6 ∷ Draft7 ∷ Draft201909 ∷ Draf
 -- r is c as one resource, with the meta-schemas that c lacks, and into which references lead that lead nowhere in it
 abbrev pub HasMetaSchemas : Seen → Seen → Type 0
 HasMetaSchemas c r = (copies : List Reached) × (all : List Reached) × (e : Seen)
-    × EmbedsAll (wanted c.0 (bundled copies c.0)) c e × (r ≡ (bundled all e.0, e.1))
+    × EmbedsAll (wanted c.0 (bundled copies c.0)) c e × (r ≡ (bundled all e.0, e.1)) × AreCopies c.0 copies × AreCopies e.0 all
 
 -- a text is no JSON, or memory ran out
 abbrev pub IsCause : EmbedError → Type 0
