@@ -34,7 +34,7 @@ enum tinyjson_status {
     TINYJSON_INVALID = 12,      /* the value is not valid: the buffer has the report */
     TINYJSON_BAD_SCHEMA = 13,   /* the schema has no value: the place is that of its error, and `text` is 1 */
     TINYJSON_SCHEMA_FAULT = 14, /* the schema can't be applied: the buffer has a JSON pointer to the fault */
-    TINYJSON_STEP_LIMIT = 15    /* the check needs more than 200 nested schemas, or too many steps */
+    TINYJSON_STEP_LIMIT = 15    /* the check needs more than 200 nested schemas: the place has this length; or too many steps */
 };
 
 /* Why a text is refused. Those with a character name it in `found`. */

@@ -7,7 +7,7 @@ use Rattle.tinyjson_c.proofs.Stopping.{stops}
 use Rattle.tinyjson_c.specs.Buffer.{HasWritten, LacksRoom}
 use Rattle.tinyjson_c.specs.Place.{length_place, memory_place}
 use Rattle.tinyjson_c.specs.Schema.{Decides, DecidesBy, DecidesTree, IsBadSchema, IsMisfit, IsSchemaOf, IsSchemaTree, IsUncheckable}
-use Rattle.tinyjson_c.specs.Schema.{IsUnchecked, IsValidText}
+use Rattle.tinyjson_c.specs.Schema.{Exceeds, ExceedsText, IsUnchecked, IsValidText, step_limit}
 use Rattle.tinyjson_c.specs.Schema.{FindsText, FindsTree, HasPlace, IsFaultyAt, IsNoSchema, IsSchemaBy, PutsBytes}
 use Rattle.tinyjson_c.specs.Schema.{Puts, Violates, misfit_text, report_text, schema_status, unchecked_place, unchecked_status}
 use Rattle.tinyjson_c.specs.Stop.{IsStopped, IsTextOf, Stops, stop_place}
@@ -23,6 +23,7 @@ use Rattle.tinyjson_c.specs.declared.status.TheConstants.{REFUSED, SCHEMA_FAULT,
 use Rattle.tinyjson_c.specs.declared.stop.Stop.{Stop}
 use Rattle.tinyjson_c.specs.declared.stop.Stop.TheVariants as stop
 use Rattle.tinyjson_grammar.specs.Tree.{Tree}
+use Rattle.tinyjson_schema.specs.Nested.{Nests}
 use Rattle.tinyjson_schema.specs.Reading.{tree_of}
 use Rattle.tinyjson_schema.specs.declared.schema.Schema.{Schema}
 use Rattle.tinyjson_schema_report.specs.declared.located.Located.{Located}
@@ -33,7 +34,11 @@ pub finds_text : (limit : Option ℕ) (s t : Tree) (text : List ℕ) (r : Result
 finds_text limit s t text (Ok o) i h = (t, i, h)
 finds_text limit s t text (Err (un.Text e)) i h = subst (IsStopped limit text) (sym h) i.0
 finds_text limit s t text (Err (un.Schema e)) i h = absurd h
-finds_text limit s t text (Err un.StepLimit) i h = (i.0, (t, i.1))
+finds_text limit s t text (Err (un.StepLimit n)) i h = (t, i, h)
+
+-- more schemas are nested than the limit of the call
+pub nests : (s t : Tree) (nested : ℕ) → nested ≡ step_limit → Nests s nested s t → Exceeds s t nested
+nests s t nested e h = inr (e, subst (λ n. Nests s n s t) e h)
 
 -- why a tree is no schema, by the place of a fault
 pub faulty : (s : Tree) (ks : List (List ℕ)) (n : NoSchema) → IsFaultyAt s ks → HasPlace ks n → IsNoSchema s n
@@ -64,7 +69,7 @@ pub not_found : (limit : Option ℕ) (s : Tree) (text : List ℕ) (u : Unchecked
     → DecidesBy limit s text (Err u)
 not_found limit s text (un.Text e) h = h
 not_found limit s text (un.Schema e) h = h
-not_found limit s text un.StepLimit h = h
+not_found limit s text (un.StepLimit n) h = h
 
 -- what is known by a schema is known by its tree
 pub decides_tree : (limit : Option ℕ) (s : Tree) (schema : Schema) (text : List ℕ) (r : Result Verdict Unchecked) → IsSchemaBy s schema
@@ -74,7 +79,7 @@ decides_tree limit s schema text (Ok (Invalid r)) (e, k) h = (k, subst (λ z. De
 decides_tree limit s schema text (Ok (Misfit p)) (e, k) h = absurd h
 decides_tree limit s schema text (Err (un.Text x)) (e, k) h = (k, h)
 decides_tree limit s schema text (Err (un.Schema x)) (e, k) h = absurd h
-decides_tree limit s schema text (Err un.StepLimit) (e, k) h = (k, h)
+decides_tree limit s schema text (Err (un.StepLimit n)) (e, k) h = (k, subst (λ z. ExceedsText limit z text n) e h)
 
 -- what is known of a schema's tree is known of its text
 pub decided : (limit : Option ℕ) (text schema : List ℕ) (s : Tree) (r : Result Verdict Unchecked) → IsSchemaTree limit schema s
@@ -88,7 +93,7 @@ decided limit text schema s (Err (un.Text (stop.Refused e))) h (k, i) = (s, (h, 
 decided limit text schema s (Err (un.Text (stop.NotUtf8 n))) h (k, i) = (s, (h, k), i)
 decided limit text schema s (Err (un.Text stop.OutOfMemory)) h d = tt
 decided limit text schema s (Err (un.Schema e)) h i = subst (IsStopped limit schema) (sym i) h.1.0
-decided limit text schema s (Err un.StepLimit) h (k, i) = (s, (h, k), i)
+decided limit text schema s (Err (un.StepLimit n)) h (k, i) = (s, (h, k), i)
 
 -- a status is not both of two
 pub no_two : {P : Type 0} (m n s : ℕ) → (m == n) ≡ false → s ≡ m → s ≡ n → P
@@ -161,7 +166,7 @@ unchecked_other (un.Text stop.OutOfMemory) status i s refused utf8 memory bad st
 unchecked_other (un.Schema (stop.Refused e)) status i s refused utf8 memory bad steps k = no_two s BAD_SCHEMA status bad k i
 unchecked_other (un.Schema (stop.NotUtf8 n)) status i s refused utf8 memory bad steps k = no_two s BAD_SCHEMA status bad k i
 unchecked_other (un.Schema stop.OutOfMemory) status i s refused utf8 memory bad steps k = no_two s OUT_OF_MEMORY status memory k i
-unchecked_other un.StepLimit status i s refused utf8 memory bad steps k = no_two s STEP_LIMIT status steps k i
+unchecked_other (un.StepLimit n) status i s refused utf8 memory bad steps k = no_two s STEP_LIMIT status steps k i
 
 -- why a text is not checked
 module _ (limit : Option ℕ) (text schema : List ℕ) (number status : ℕ) (p : TinyjsonPlace) where
@@ -175,17 +180,17 @@ module _ (limit : Option ℕ) (text schema : List ℕ) (number status : ℕ) (p 
   unchecked_bad (un.Schema (stop.NotUtf8 n)) h i j k =
       (NOT_UTF8, stops limit schema (stop.NotUtf8 n) 1 NOT_UTF8 p h refl j, no_two NOT_UTF8 OUT_OF_MEMORY NOT_UTF8 refl refl)
   unchecked_bad (un.Schema stop.OutOfMemory) h i j k = no_two OUT_OF_MEMORY BAD_SCHEMA status refl i k
-  unchecked_bad un.StepLimit h i j k = no_two STEP_LIMIT BAD_SCHEMA status refl i k
+  unchecked_bad (un.StepLimit n) h i j k = no_two STEP_LIMIT BAD_SCHEMA status refl i k
 
   pub unchecked_limit : (u : Unchecked) → IsUnchecked limit text schema u → status ≡ unchecked_status u → p ≡ unchecked_place number u
-      → status ≡ STEP_LIMIT → IsUncheckable limit text schema × (p ≡ length_place number 0)
+      → status ≡ STEP_LIMIT → (n : ℕ) × IsUncheckable limit text schema n × (p ≡ length_place number n)
   unchecked_limit (un.Text (stop.Refused e)) h i j k = no_two REFUSED STEP_LIMIT status refl i k
   unchecked_limit (un.Text (stop.NotUtf8 n)) h i j k = no_two NOT_UTF8 STEP_LIMIT status refl i k
   unchecked_limit (un.Text stop.OutOfMemory) h i j k = no_two OUT_OF_MEMORY STEP_LIMIT status refl i k
   unchecked_limit (un.Schema (stop.Refused e)) h i j k = no_two BAD_SCHEMA STEP_LIMIT status refl i k
   unchecked_limit (un.Schema (stop.NotUtf8 n)) h i j k = no_two BAD_SCHEMA STEP_LIMIT status refl i k
   unchecked_limit (un.Schema stop.OutOfMemory) h i j k = no_two OUT_OF_MEMORY STEP_LIMIT status refl i k
-  unchecked_limit un.StepLimit h i j k = (h, j)
+  unchecked_limit (un.StepLimit n) h i j k = (n, h, j)
 
   pub unchecked_memory : (u : Unchecked) → status ≡ unchecked_status u → p ≡ unchecked_place number u → status ≡ OUT_OF_MEMORY
       → (n : ℕ) × (p ≡ memory_place n)
@@ -195,7 +200,7 @@ module _ (limit : Option ℕ) (text schema : List ℕ) (number status : ℕ) (p 
   unchecked_memory (un.Schema (stop.Refused e)) i j k = no_two BAD_SCHEMA OUT_OF_MEMORY status refl i k
   unchecked_memory (un.Schema (stop.NotUtf8 n)) i j k = no_two BAD_SCHEMA OUT_OF_MEMORY status refl i k
   unchecked_memory (un.Schema stop.OutOfMemory) i j k = (1, j)
-  unchecked_memory un.StepLimit i j k = no_two STEP_LIMIT OUT_OF_MEMORY status refl i k
+  unchecked_memory (un.StepLimit n) i j k = no_two STEP_LIMIT OUT_OF_MEMORY status refl i k
 
   pub unchecked_stops : (u : Unchecked) → IsUnchecked limit text schema u → status ≡ unchecked_status u → p ≡ unchecked_place number u
       → ¬ (status ≡ BAD_SCHEMA) → ¬ (status ≡ STEP_LIMIT) → ¬ (status ≡ OUT_OF_MEMORY)
@@ -208,4 +213,4 @@ module _ (limit : Option ℕ) (text schema : List ℕ) (number status : ℕ) (p 
   unchecked_stops (un.Schema (stop.Refused e)) h i j bad steps memory = absurd (bad i)
   unchecked_stops (un.Schema (stop.NotUtf8 n)) h i j bad steps memory = absurd (bad i)
   unchecked_stops (un.Schema stop.OutOfMemory) h i j bad steps memory = absurd (memory i)
-  unchecked_stops un.StepLimit h i j bad steps memory = absurd (steps i)
+  unchecked_stops (un.StepLimit n) h i j bad steps memory = absurd (steps i)

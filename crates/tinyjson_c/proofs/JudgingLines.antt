@@ -13,7 +13,7 @@ use Rattle.tinyjson_c.specs.Schema.{misfit_text, unchecked_place, unchecked_stat
 use Rattle.tinyjson_c.specs.SchemaLines.{AreJudged, DecidesLines, DecidesLinesBy, DecidesLinesTree, IsNotJudged, IsStoppedLine}
 use Rattle.tinyjson_c.specs.SchemaLines.{IsUncheckedAt, JudgesLine, JudgesLines, report_of, reports_text}
 use Rattle.tinyjson_c.specs.SelectLines.{IsLineAt}
-use Rattle.tinyjson_c.specs.Stop.{IsAcceptedText, IsStopped, IsTextOf}
+use Rattle.tinyjson_c.specs.Stop.{IsStopped, IsTextOf}
 use Rattle.tinyjson_c.specs.declared.place.TinyjsonPlace.{TinyjsonPlace}
 use Rattle.tinyjson_c.specs.declared.schema.Unchecked.{Unchecked}
 use Rattle.tinyjson_c.specs.declared.schema.Unchecked.TheVariants as un
@@ -88,12 +88,12 @@ module _ (s : Tree) (limit : Option ℕ) (text rest line reports : List ℕ) (nu
     stopped = subst (λ z. IsStopped limit z e) is k;
   }
 
-  pub stopped_line : (u : Unchecked) → IsNotJudged limit line u → IsStoppedLine limit text number u
+  pub stopped_line : (u : Unchecked) → IsNotJudged limit s line u → IsStoppedLine limit s text number u
   stopped_line (un.Text (stop.Refused e)) k = stopped_at (stop.Refused e) k
   stopped_line (un.Text (stop.NotUtf8 n)) k = stopped_at (stop.NotUtf8 n) k
   stopped_line (un.Text stop.OutOfMemory) k = tt
   stopped_line (un.Schema e) k = absurd k
-  stopped_line un.StepLimit k = (
+  stopped_line (un.StepLimit n) k = (
     line,
     record { trees = h.0; rest = rest; before = h.1; more = more; counted = h.5; is_line = is },
     k,
@@ -129,7 +129,7 @@ pub decides_lines_tree : (limit : Option ℕ) (s : Tree) (schema : Schema) (text
 decides_lines_tree limit s schema text (Ok Valid) (e, k) h = (k, subst (λ z. DecidesLinesBy limit z text (Ok Valid)) e h)
 decides_lines_tree limit s schema text (Ok (Invalid r)) (e, k) h = (k, subst (λ z. DecidesLinesBy limit z text (Ok (Invalid r))) e h)
 decides_lines_tree limit s schema text (Ok (Misfit p)) (e, k) h = absurd h
-decides_lines_tree limit s schema text (Err l) (e, k) h = inl (k, h)
+decides_lines_tree limit s schema text (Err l) (e, k) h = inl (k, subst (λ z. DecidesLinesBy limit z text (Err l)) e h)
 
 -- the report of a line
 pub judged_line : (limit : Option ℕ) (s : Tree) (line : List ℕ) (n : ℕ) (old new : List ℕ) (o : Option Located)
@@ -137,14 +137,14 @@ pub judged_line : (limit : Option ℕ) (s : Tree) (line : List ℕ) (n : ℕ) (o
 judged_line limit s line n old new o (t, i, v) e = (t, i, o, v, e)
 
 pub unreported_line : (limit : Option ℕ) (s : Tree) (line : List ℕ) (o : Option Located) → FindsText limit s line (Ok o)
-    → IsNotJudged limit line (un.Text stop.OutOfMemory)
+    → IsNotJudged limit s line (un.Text stop.OutOfMemory)
 unreported_line limit s line o (t, i, v) = i.0
 
 -- why a line is not judged
-pub unjudged : (limit : Option ℕ) (s : Tree) (line : List ℕ) (u : Unchecked) → FindsText limit s line (Err u) → IsNotJudged limit line u
+pub unjudged : (limit : Option ℕ) (s : Tree) (line : List ℕ) (u : Unchecked) → FindsText limit s line (Err u) → IsNotJudged limit s line u
 unjudged limit s line (un.Text e) h = h
 unjudged limit s line (un.Schema e) h = h
-unjudged limit s line un.StepLimit h = h
+unjudged limit s line (un.StepLimit n) h = h
 
 -- what is known of a schema's tree is known of its text
 pub decided_lines : (limit : Option ℕ) (text schema : List ℕ) (s : Tree) (r : Result Verdict UncheckedLine) → IsSchemaTree limit schema s
@@ -157,12 +157,12 @@ decided_lines limit text schema s (Ok (Invalid r)) h (k, (ts, i, os, j, e, n)) =
 decided_lines limit text schema s (Ok (Misfit p)) h (ks, f, e) = (ks, (s, h, f), e)
 decided_lines limit text schema s (Err l) h (inl (k, i)) = by l.error i
   where
-    by : (u : Unchecked) → IsStoppedLine limit text l.number u → IsUncheckedAt limit text schema l.number u
-    by (un.Text (stop.Refused e)) j = ((s, (h, k)), j)
-    by (un.Text (stop.NotUtf8 n)) j = ((s, (h, k)), j)
+    by : (u : Unchecked) → IsStoppedLine limit s text l.number u → IsUncheckedAt limit text schema l.number u
+    by (un.Text (stop.Refused e)) j = (s, (h, k), j)
+    by (un.Text (stop.NotUtf8 n)) j = (s, (h, k), j)
     by (un.Text stop.OutOfMemory) j = tt
     by (un.Schema e) j = absurd j
-    by un.StepLimit j = ((s, (h, k)), j)
+    by (un.StepLimit n) j = (s, (h, k), j)
 decided_lines limit text schema s (Err l) h (inr e) = subst (IsUncheckedAt limit text schema l.number) (sym e) h.1.0
 
 -- what a call returns that checks all lines
@@ -209,28 +209,29 @@ module _ (limit : Option ℕ) (text schema : List ℕ) (number status : ℕ) (p 
   line_bad (un.Text (stop.NotUtf8 n)) h i j k = no_two NOT_UTF8 BAD_SCHEMA status refl i k
   line_bad (un.Text stop.OutOfMemory) h i j k = no_two OUT_OF_MEMORY BAD_SCHEMA status refl i k
   line_bad (un.Schema s) h i j k = unchecked_bad limit text schema number status p (un.Schema s) h i j k
-  line_bad un.StepLimit h i j k = no_two STEP_LIMIT BAD_SCHEMA status refl i k
+  line_bad (un.StepLimit n) h i j k = no_two STEP_LIMIT BAD_SCHEMA status refl i k
 
   pub line_limit : (u : Unchecked) → IsUncheckedAt limit text schema number u → status ≡ unchecked_status u → p ≡ unchecked_place number u
       → status ≡ STEP_LIMIT
-      → (n : ℕ) × (line : List ℕ) × IsLineAt limit text n line × IsUncheckable limit line schema × (p ≡ length_place n 0)
+      → (n : ℕ) × (line : List ℕ) × IsLineAt limit text n line × (nested : ℕ) × IsUncheckable limit line schema nested
+      × (p ≡ length_place n nested)
   line_limit (un.Text (stop.Refused e)) h i j k = no_two REFUSED STEP_LIMIT status refl i k
   line_limit (un.Text (stop.NotUtf8 n)) h i j k = no_two NOT_UTF8 STEP_LIMIT status refl i k
   line_limit (un.Text stop.OutOfMemory) h i j k = no_two OUT_OF_MEMORY STEP_LIMIT status refl i k
   line_limit (un.Schema (stop.Refused e)) h i j k = no_two BAD_SCHEMA STEP_LIMIT status refl i k
   line_limit (un.Schema (stop.NotUtf8 n)) h i j k = no_two BAD_SCHEMA STEP_LIMIT status refl i k
   line_limit (un.Schema stop.OutOfMemory) h i j k = no_two OUT_OF_MEMORY STEP_LIMIT status refl i k
-  line_limit un.StepLimit ((b, is), (line, at, accepted)) i j k = (number, line, at, (b, is, accepted), j)
+  line_limit (un.StepLimit n) (b, is, (line, at, exceeded)) i j k = (number, line, at, n, (b, is, exceeded), j)
 
   pub line_unchecked : (u : Unchecked) → IsUncheckedAt limit text schema number u → status ≡ unchecked_status u
       → p ≡ unchecked_place number u → ¬ (status ≡ BAD_SCHEMA) → ¬ (status ≡ STEP_LIMIT) → ¬ (status ≡ OUT_OF_MEMORY)
       → ((s : Tree) × IsSchemaOf limit schema s) × StopsAtLine limit text status p
-  line_unchecked (un.Text (stop.Refused e)) (b, h) i j bad steps memory =
-      (b, line_stops limit text [] number status p (stop.Refused e) h i j)
-  line_unchecked (un.Text (stop.NotUtf8 n)) (b, h) i j bad steps memory =
-      (b, line_stops limit text [] number status p (stop.NotUtf8 n) h i j)
+  line_unchecked (un.Text (stop.Refused e)) (b, is, h) i j bad steps memory =
+      ((b, is), line_stops limit text [] number status p (stop.Refused e) h i j)
+  line_unchecked (un.Text (stop.NotUtf8 n)) (b, is, h) i j bad steps memory =
+      ((b, is), line_stops limit text [] number status p (stop.NotUtf8 n) h i j)
   line_unchecked (un.Text stop.OutOfMemory) h i j bad steps memory = absurd (memory i)
   line_unchecked (un.Schema (stop.Refused e)) h i j bad steps memory = absurd (bad i)
   line_unchecked (un.Schema (stop.NotUtf8 n)) h i j bad steps memory = absurd (bad i)
   line_unchecked (un.Schema stop.OutOfMemory) h i j bad steps memory = absurd (memory i)
-  line_unchecked un.StepLimit h i j bad steps memory = absurd (steps i)
+  line_unchecked (un.StepLimit n) h i j bad steps memory = absurd (steps i)

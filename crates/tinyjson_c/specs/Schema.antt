@@ -5,7 +5,7 @@ use Rattle.std.specs.Str.{chars}
 use Rattle.tinyjson.specs.Text.{compact}
 use Rattle.tinyjson_c.specs.Buffer.{HasWritten, LacksRoom}
 use Rattle.tinyjson_c.specs.Place.{length_place}
-use Rattle.tinyjson_c.specs.Stop.{IsAcceptedText, IsStopped, IsTextOf, Stops, stop_place, stop_status}
+use Rattle.tinyjson_c.specs.Stop.{IsStopped, IsTextOf, Stops, stop_place, stop_status}
 use Rattle.tinyjson_c.specs.declared.place.TinyjsonPlace.{TinyjsonPlace}
 use Rattle.tinyjson_c.specs.declared.schema.NoSchema.{NoSchema}
 use Rattle.tinyjson_c.specs.declared.schema.NoSchema.TheVariants as no
@@ -18,12 +18,13 @@ use Rattle.tinyjson_c.specs.declared.stop.Stop.{Stop}
 use Rattle.tinyjson_c.specs.declared.stop.Stop.TheVariants as stop
 use Rattle.tinyjson_grammar.specs.Tree.{Tree}
 use Rattle.tinyjson_pointer.specs.Text.{pointer_text}
+use Rattle.tinyjson_schema.specs.Nested.{Nests}
 use Rattle.tinyjson_schema.specs.Reading.{tree_of}
 use Rattle.tinyjson_schema.specs.Refused.{IsAboveAt, IsRefusedAt}
 use Rattle.tinyjson_schema.specs.Schemas.{is_schema}
 use Rattle.tinyjson_schema.specs.Valid.{IsValid}
 use Rattle.tinyjson_schema.specs.declared.schema.Schema.{Schema}
-use Rattle.tinyjson_schema_bundle.specs.Scopes.{Reached, bundled}
+use Rattle.tinyjson_schema_bundle.specs.Scopes.{Reached, AreCopies, bundled}
 use Rattle.tinyjson_schema_drafts.specs.Reading.{read_as}
 use Rattle.tinyjson_schema_drafts.specs.declared.draft.Draft.TheVariants.{Draft202012}
 use Rattle.tinyjson_schema_keywords.specs.declared.keyword.Form.TheVariants as form
@@ -43,6 +44,7 @@ step_limit = 200
 abbrev pub IsSchemaTree : Option ℕ → List ℕ → Tree → Type 0
 IsSchemaTree limit bytes s =
     (d : Tree) × IsTextOf limit bytes d × (copies : List Reached) × (s ≡ bundled copies (read_as Draft202012 d))
+    × AreCopies (read_as Draft202012 d) copies
 
 -- the same, and the schema can be applied
 abbrev pub IsSchemaOf : Option ℕ → List ℕ → Tree → Type 0
@@ -81,9 +83,17 @@ IsMisfit limit schema ks = (s : Tree) × IsSchemaTree limit schema s × IsFaulty
 abbrev pub IsBadSchema : Option ℕ → List ℕ → TinyjsonPlace → Type 0
 IsBadSchema limit schema place = (status : ℕ) × Stops limit schema 1 status place × ¬ (status ≡ OUT_OF_MEMORY)
 
--- The schema can be applied, and the text has a tree.
-abbrev pub IsUncheckable : Option ℕ → List ℕ → List ℕ → Type 0
-IsUncheckable limit text schema = (s : Tree) × IsSchemaOf limit schema s × IsAcceptedText limit text
+-- More schemas than this number are applied one within the other, by s to t; or it is 0, and the check takes too many steps.
+abbrev pub Exceeds : Tree → Tree → ℕ → Type 0
+Exceeds s t nested = (nested ≡ 0) ⊎ ((nested ≡ step_limit) × Nests s step_limit s t)
+
+-- the same for the tree that a text has
+abbrev pub ExceedsText : Option ℕ → Tree → List ℕ → ℕ → Type 0
+ExceedsText limit s text nested = (t : Tree) × IsTextOf limit text t × Exceeds s t nested
+
+-- The schema can be applied, and the text has a tree, whose check takes too much.
+abbrev pub IsUncheckable : Option ℕ → List ℕ → List ℕ → ℕ → Type 0
+IsUncheckable limit text schema nested = (s : Tree) × IsSchemaOf limit schema s × ExceedsText limit s text nested
 
 -- the report of what is not valid, with this line, and the column at which the part begins
 abbrev pub report_text : ℕ → Located → List ℕ
@@ -118,7 +128,7 @@ abbrev pub IsUnchecked : Option ℕ → List ℕ → List ℕ → Unchecked → 
 IsUnchecked limit text schema (un.Text stop.OutOfMemory) = Unit {0}
 IsUnchecked limit text schema (un.Text s) = (b : Tree) × IsSchemaOf limit schema b × IsStopped limit text s
 IsUnchecked limit text schema (un.Schema s) = IsStopped limit schema s
-IsUnchecked limit text schema un.StepLimit = IsUncheckable limit text schema
+IsUnchecked limit text schema (un.StepLimit n) = IsUncheckable limit text schema n
 
 -- the schema that the tree is
 abbrev pub IsSchemaBy : Tree → Schema → Type 0
@@ -139,14 +149,14 @@ abbrev pub FindsText : Option ℕ → Tree → List ℕ → Result (Option Locat
 FindsText limit s text (Ok o) = (t : Tree) × IsTextOf limit text t × IsFound s text t o
 FindsText limit s text (Err (un.Text e)) = IsStopped limit text e
 FindsText limit s text (Err (un.Schema e)) = ⊥
-FindsText limit s text (Err un.StepLimit) = IsAcceptedText limit text
+FindsText limit s text (Err (un.StepLimit n)) = ExceedsText limit s text n
 
 -- the same for the tree of a text
 abbrev pub FindsTree : Tree → List ℕ → Tree → Result (Option Located) Unchecked → Type 0
 FindsTree s text t (Ok o) = IsFound s text t o
 FindsTree s text t (Err (un.Text e)) = e ≡ stop.OutOfMemory
 FindsTree s text t (Err (un.Schema e)) = ⊥
-FindsTree s text t (Err un.StepLimit) = Unit {0}
+FindsTree s text t (Err (un.StepLimit n)) = Exceeds s t n
 
 -- `Decides` and `IsUnchecked`, given a schema that can be applied
 abbrev pub DecidesBy : Option ℕ → Tree → List ℕ → Result Verdict Unchecked → Type 0
@@ -156,7 +166,7 @@ DecidesBy limit s text (Ok (Invalid report)) = (t : Tree) × IsTextOf limit text
 DecidesBy limit s text (Ok (Misfit place)) = ⊥
 DecidesBy limit s text (Err (un.Text e)) = IsStopped limit text e
 DecidesBy limit s text (Err (un.Schema e)) = ⊥
-DecidesBy limit s text (Err un.StepLimit) = IsAcceptedText limit text
+DecidesBy limit s text (Err (un.StepLimit n)) = ExceedsText limit s text n
 
 -- the same, given the tree of a schema
 abbrev pub DecidesTree : Option ℕ → Tree → List ℕ → Result Verdict Unchecked → Type 0
@@ -172,9 +182,9 @@ schema_status _ = BAD_SCHEMA
 abbrev pub unchecked_status : Unchecked → ℕ
 unchecked_status (un.Text s) = stop_status s
 unchecked_status (un.Schema s) = schema_status s
-unchecked_status un.StepLimit = STEP_LIMIT
+unchecked_status (un.StepLimit n) = STEP_LIMIT
 
 abbrev pub unchecked_place : ℕ → Unchecked → TinyjsonPlace
 unchecked_place text (un.Text s) = stop_place text s
 unchecked_place text (un.Schema s) = stop_place 1 s
-unchecked_place text un.StepLimit = length_place text 0
+unchecked_place text (un.StepLimit n) = length_place text n

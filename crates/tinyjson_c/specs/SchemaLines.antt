@@ -1,9 +1,9 @@
 -- Whether texts that are lines are valid by a schema, and the reports of those that are not.
 use Rattle.std.specs.Prelude.{◌≡◌, ◌≢◌, ◌⊎◌, ℕ, ◌+◌, true, List, [], ◌∷◌, ◌++◌, Option, None, Some, Result, Ok, Err, length, string_bytes}
 use Rattle.tinyjson_c.specs.Lines.{AreFirst, AreLines, IsStoppedAt, first_line, later_lines}
-use Rattle.tinyjson_c.specs.Schema.{IsFaultyAt, IsFound, IsMisfit, IsSchemaOf, misfit_text, report_text}
+use Rattle.tinyjson_c.specs.Schema.{ExceedsText, IsFaultyAt, IsFound, IsMisfit, IsSchemaOf, misfit_text, report_text}
 use Rattle.tinyjson_c.specs.SelectLines.{IsLineAt}
-use Rattle.tinyjson_c.specs.Stop.{IsAcceptedText, IsStopped, IsTextOf}
+use Rattle.tinyjson_c.specs.Stop.{IsStopped, IsTextOf}
 use Rattle.tinyjson_c.specs.declared.schema.Unchecked.{Unchecked}
 use Rattle.tinyjson_c.specs.declared.schema.Unchecked.TheVariants as un
 use Rattle.tinyjson_c.specs.declared.schema.Verdict.{Verdict}
@@ -48,29 +48,29 @@ DecidesLines limit text schema (Invalid r) =
 DecidesLines limit text schema (Misfit p) = (ks : List (List ℕ)) × IsMisfit limit schema ks × (string_bytes p ≡ misfit_text ks)
 
 -- why the line with this index is not checked, by a schema
-abbrev pub IsStoppedLine : Option ℕ → List ℕ → ℕ → Unchecked → Type 0
-IsStoppedLine limit text n (un.Text stop.OutOfMemory) = Unit {0}
-IsStoppedLine limit text n (un.Text s) = IsStoppedAt limit text n s
-IsStoppedLine limit text n (un.Schema s) = ⊥
-IsStoppedLine limit text n un.StepLimit = (line : List ℕ) × IsLineAt limit text n line × IsAcceptedText limit line
+abbrev pub IsStoppedLine : Option ℕ → Tree → List ℕ → ℕ → Unchecked → Type 0
+IsStoppedLine limit s text n (un.Text stop.OutOfMemory) = Unit {0}
+IsStoppedLine limit s text n (un.Text e) = IsStoppedAt limit text n e
+IsStoppedLine limit s text n (un.Schema e) = ⊥
+IsStoppedLine limit s text n (un.StepLimit m) = (line : List ℕ) × IsLineAt limit text n line × ExceedsText limit s line m
 
 -- the same, by the bytes of a schema
 abbrev pub IsUncheckedAt : Option ℕ → List ℕ → List ℕ → ℕ → Unchecked → Type 0
 IsUncheckedAt limit text schema n (un.Text stop.OutOfMemory) = Unit {0}
 IsUncheckedAt limit text schema n (un.Schema s) = IsStopped limit schema s
-IsUncheckedAt limit text schema n u = ((b : Tree) × IsSchemaOf limit schema b) × IsStoppedLine limit text n u
+IsUncheckedAt limit text schema n u = (b : Tree) × IsSchemaOf limit schema b × IsStoppedLine limit b text n u
 
 -- why a line is not judged, given a schema
-abbrev pub IsNotJudged : Option ℕ → List ℕ → Unchecked → Type 0
-IsNotJudged limit line (un.Text e) = IsStopped limit line e
-IsNotJudged limit line (un.Schema e) = ⊥
-IsNotJudged limit line un.StepLimit = IsAcceptedText limit line
+abbrev pub IsNotJudged : Option ℕ → Tree → List ℕ → Unchecked → Type 0
+IsNotJudged limit s line (un.Text e) = IsStopped limit line e
+IsNotJudged limit s line (un.Schema e) = ⊥
+IsNotJudged limit s line (un.StepLimit n) = ExceedsText limit s line n
 
 -- the report of a line is appended if it is not valid; or why it is not checked
 abbrev pub JudgesLine : Option ℕ → Tree → List ℕ → ℕ → List ℕ → List ℕ → Result (Unit {0}) Unchecked → Type 0
 JudgesLine limit s line n old new (Ok _) = (t : Tree) × IsTextOf limit line t
     × (o : Option Located) × IsFound s line t o × (new ≡ old ++ report_of n o)
-JudgesLine limit s line n old new (Err u) = IsNotJudged limit line u
+JudgesLine limit s line n old new (Err u) = IsNotJudged limit s line u
 
 -- `DecidesLines` and `IsUncheckedAt`, given a schema that can be applied
 abbrev pub DecidesLinesBy : Option ℕ → Tree → List ℕ → Result Verdict UncheckedLine → Type 0
@@ -79,7 +79,7 @@ DecidesLinesBy limit s text (Ok Valid) = (ts : List Tree) × AreLines limit text
 DecidesLinesBy limit s text (Ok (Invalid r)) = (ts : List Tree) × AreLines limit text ts
     × (os : List (Option Located)) × AreJudged s text ts os × (r.items ≡ reports_text 1 os) × (r.items ≢ [])
 DecidesLinesBy limit s text (Ok (Misfit p)) = ⊥
-DecidesLinesBy limit s text (Err l) = IsStoppedLine limit text l.number l.error
+DecidesLinesBy limit s text (Err l) = IsStoppedLine limit s text l.number l.error
 
 -- the same, given the tree of a schema
 abbrev pub DecidesLinesTree : Option ℕ → Tree → List ℕ → Result Verdict UncheckedLine → Type 0

@@ -438,7 +438,7 @@ pub extern "C" fn tinyjson_select_lines_paths(
 /// Checks a text by a schema: JSON Schema 2020-12, or the draft that its `$schema` names. Writes to the front of a
 /// buffer, if it fits, the report of a value that is not valid, with the line and the column of the part, or a pointer
 /// to what can't be applied in the schema. At most `depth` containers may be nested in both, and at most 100. The
-/// schema is read first.
+/// schema is read first. For `STEP_LIMIT` the place has the length 200 if more nested schemas are applied, or else 0.
 #[unsafe(no_mangle)]
 pub extern "C" fn tinyjson_valid(
     alloc: Global,
@@ -463,9 +463,9 @@ pub extern "C" fn tinyjson_valid(
         × LacksRoom (misfit_text ks) buffer.old place.new) }
     ensures bad_schema { result ≡ BAD_SCHEMA
         → IsBadSchema (Some (schema_depth depth)) schema.now place.new }
-    ensures limit { result ≡ STEP_LIMIT
-        → IsUncheckable (Some (schema_depth depth)) text.now schema.now
-        × (place.new ≡ length_place 0 0) }
+    ensures limit { result ≡ STEP_LIMIT → (nested : ℕ)
+        × IsUncheckable (Some (schema_depth depth)) text.now schema.now nested
+        × (place.new ≡ length_place 0 nested) }
     ensures memory { result ≡ OUT_OF_MEMORY → (n : ℕ) × (place.new ≡ memory_place n) }
     ensures stopped { result ≢ OK → result ≢ INVALID → result ≢ SCHEMA_FAULT
         → result ≢ TOO_SMALL → result ≢ BAD_SCHEMA → result ≢ STEP_LIMIT
@@ -512,8 +512,8 @@ pub extern "C" fn tinyjson_valid_lines(
         → IsBadSchema (Some (schema_depth depth)) schema.now place.new }
     ensures limit { result ≡ STEP_LIMIT → (n : ℕ) × (line : List ℕ)
         × IsLineAt (Some (schema_depth depth)) text.now n line
-        × IsUncheckable (Some (schema_depth depth)) line schema.now
-        × (place.new ≡ length_place n 0) }
+        × (nested : ℕ) × IsUncheckable (Some (schema_depth depth)) line schema.now nested
+        × (place.new ≡ length_place n nested) }
     ensures memory { result ≡ OUT_OF_MEMORY → (n : ℕ) × (place.new ≡ memory_place n) }
     ensures stopped { result ≢ OK → result ≢ INVALID → result ≢ SCHEMA_FAULT
         → result ≢ TOO_SMALL → result ≢ BAD_SCHEMA → result ≢ STEP_LIMIT

@@ -80,8 +80,8 @@ pub(crate) enum Unchecked {
     Text(Stop),
     /// The schema is no JSON, or memory ran out.
     Schema(Stop),
-    /// The check needs too many nested schemas, or too many steps.
-    StepLimit,
+    /// The check needs more nested schemas than this number; or it is 0, and the check needs too many steps.
+    StepLimit(usize),
 }
 
 impl Unchecked {
@@ -96,8 +96,8 @@ impl Unchecked {
                 stop.put(1, place);
                 schema_status(stop)
             }
-            Unchecked::StepLimit => {
-                *place = TinyjsonPlace::of_length(text, 0);
+            Unchecked::StepLimit(nested) => {
+                *place = TinyjsonPlace::of_length(text, nested);
                 STEP_LIMIT
             }
         }
@@ -249,13 +249,15 @@ fn found_in(
     requires { (limit : Option ℕ) × IsText limit (chars text.now) (tree value) }
     ensures { FindsTree (tree_of schema.now) text.now (tree value.entry) result }
 {
-    match find(schema, value, limits_of(text.len()), alloc) {
+    let limits = limits_of(text.len());
+    match find(schema, value, limits, alloc) {
         Ok(None) => Ok(None),
         Ok(Some(finding)) => match locate(alloc, text, finding) {
             Ok(located) => Ok(Some(located)),
             Err(AllocError) => Err(Unchecked::Text(Stop::OutOfMemory)),
         },
-        Err(CheckError::TooDeep | CheckError::TooMuch) => Err(Unchecked::StepLimit),
+        Err(CheckError::TooDeep) => Err(Unchecked::StepLimit(limits.nested)),
+        Err(CheckError::TooMuch) => Err(Unchecked::StepLimit(0)),
         Err(CheckError::OutOfMemory) => Err(Unchecked::Text(Stop::OutOfMemory)),
     }
 }
