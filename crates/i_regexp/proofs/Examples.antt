@@ -174,3 +174,20 @@ past_the_last = refl
 
 end_in_branch : is_pattern (codes "a$b") ≡ false
 end_in_branch = refl
+
+-- ---- a group with a name is a group; no two have the same name
+
+named_group : is_found_in (codes "^(?<year>a)+$") (codes "aa") ≡ true
+named_group = refl
+
+other_name : is_pattern (codes "(?<a>b)|(?<ab>c)") ≡ true
+other_name = refl
+
+repeated_name : is_pattern (codes "(?<a>b)|(?<a>c)") ≡ false
+repeated_name = refl
+
+name_of_a_digit : is_pattern (codes "(?<1>b)") ≡ false
+name_of_a_digit = refl
+
+look_behind : is_pattern (codes "(?<=b)") ≡ false
+look_behind = refl

@@ -4,82 +4,97 @@ use Rattle.std.proofs.Common.{is_some, refl, sym, ap, ◌∙◌, subst, arith, t
 use Rattle.std.specs.Option.{option_map_or}
 use Rattle.std.specs.Prelude.{option_and_then}
 use Rattle.i_regexp.specs.Deciding.{matches}
-use Rattle.i_regexp.specs.Patterns.{Mark, Spelled, Pattern, IsText}
-use Rattle.i_regexp.specs.PatternDeciding.{PatternFound, with_mark, marks_in, whole_pattern, pattern_of, is_pattern, is_found}
-use Rattle.i_regexp.specs.PatternFronts.{mark_front}
+use Rattle.i_regexp.specs.Patterns.{Mark, Spelled, are_distinct, Pattern, pattern_marks, IsText}
+use Rattle.i_regexp.specs.PatternDeciding.{PatternFound, with_mark, marks_in, distinct_marks, whole_pattern, pattern_of, is_pattern}
+use Rattle.i_regexp.specs.PatternDeciding.{is_found}
+use Rattle.i_regexp.specs.PatternFronts.{next_front}
 use Rattle.i_regexp.specs.PatternCases.{CasesState, no_cases, is_closed, pattern_in, run_cases, pattern_form}
 use Rattle.i_regexp.specs.PatternReading.{IsNone}
 use Rattle.i_regexp.proofs.Deciding.{matches_decides}
 use Rattle.i_regexp.proofs.Lexing.{none_some, some_same}
 use Rattle.i_regexp.proofs.PatternForms.{found_to, found_from}
-use Rattle.i_regexp.proofs.PatternLexing.{mark_shorter}
+use Rattle.i_regexp.proofs.PatternNames.{next_sound}
 use Rattle.i_regexp.proofs.PatternCases.{pattern_sound, pattern_complete}
 use Rattle.i_regexp.proofs.PatternReading.{Lexes, stop, go, lexes_spelled, spelled_lexes}
 
 -- ---- marks
 
-marks_sound : (n : ℕ) (cs : List ℕ) (ms : List Mark) → marks_in n cs ≡ Some ms → Lexes cs ms []
-marks_sound zero [] ms e = subst (λ us. Lexes [] us []) (some_same e) stop
-marks_sound zero (c ∷ cs) ms e = absurd (none_some e)
-marks_sound (suc n) [] ms e = subst (λ us. Lexes [] us []) (some_same e) stop
-marks_sound (suc n) (c ∷ cs) ms e = by (mark_front (c ∷ cs)) refl e (marks_sound n)
+abbrev pub Marks : Type 0
+Marks = List Mark × List (List ℕ)
+
+marks_sound : (n : ℕ) (cs : List ℕ) (q : Marks) → marks_in n cs ≡ Some q → Lexes cs q.0 q.1 []
+marks_sound zero [] q e = subst (λ p. Lexes [] p.0 p.1 []) (some_same e) stop
+marks_sound zero (c ∷ cs) q e = absurd (none_some e)
+marks_sound (suc n) [] q e = subst (λ p. Lexes [] p.0 p.1 []) (some_same e) stop
+marks_sound (suc n) (c ∷ cs) q e = by (next_front (c ∷ cs)) refl e (marks_sound n)
   where
-    on : (m : Mark) (ys : List ℕ) (o : Option (List Mark)) → mark_front (c ∷ cs) ≡ Some (m, ys) → option_map (with_mark m) o ≡ Some ms
-        → ((us : List Mark) → o ≡ Some us → Lexes ys us []) → Lexes (c ∷ cs) ms []
-    on m ys None f g rec = absurd (none_some g)
-    on m ys (Some us) f g rec = subst (λ vs. Lexes (c ∷ cs) vs []) (some_same g) (go f (rec us refl))
+    on : (m : Mark) (ns : List (List ℕ)) (ys : List ℕ) (o : Option Marks) → next_front (c ∷ cs) ≡ Some (m, (ns, ys))
+        → option_map (with_mark m ns) o ≡ Some q → ((p : Marks) → o ≡ Some p → Lexes ys p.0 p.1 []) → Lexes (c ∷ cs) q.0 q.1 []
+    on m ns ys None f g rec = absurd (none_some g)
+    on m ns ys (Some p) f g rec = subst (λ r. Lexes (c ∷ cs) r.0 r.1 []) (some_same g) (go f (rec p refl))
 
-    by : (o : Option (Mark × List ℕ)) → mark_front (c ∷ cs) ≡ o
-        → option_and_then (λ p. option_map (with_mark p.0) (marks_in n p.1)) o ≡ Some ms
-        → ((ys : List ℕ) (us : List Mark) → marks_in n ys ≡ Some us → Lexes ys us []) → Lexes (c ∷ cs) ms []
+    by : (o : Option (Mark × (List (List ℕ) × List ℕ))) → next_front (c ∷ cs) ≡ o
+        → option_and_then (λ p. option_map (with_mark p.0 p.1.0) (marks_in n p.1.1)) o ≡ Some q
+        → ((ys : List ℕ) (p : Marks) → marks_in n ys ≡ Some p → Lexes ys p.0 p.1 []) → Lexes (c ∷ cs) q.0 q.1 []
     by None f g rec = absurd (none_some g)
-    by (Some p) f g rec = on p.0 p.1 (marks_in n p.1) f g (rec p.1)
+    by (Some p) f g rec = on p.0 p.1.0 p.1.1 (marks_in n p.1.1) f g (rec p.1.1)
 
-marks_nothing : (n : ℕ) → marks_in n [] ≡ Some []
+marks_nothing : (n : ℕ) → marks_in n [] ≡ Some ([], [])
 marks_nothing zero = refl
 marks_nothing (suc n) = refl
 
-marks_on : (n : ℕ) (cs ys : List ℕ) (m : Mark) (ms : List Mark) → mark_front cs ≡ Some (m, ys) → length cs ≤ n
-    → ((k : ℕ) → length ys ≤ k → marks_in k ys ≡ Some ms) → marks_in n cs ≡ Some (m ∷ ms)
-marks_on n [] ys m ms f l rec = absurd (none_some f)
-marks_on zero (c ∷ cs) ys m ms f l rec = absurd (omega arith)
-marks_on (suc n) (c ∷ cs) ys m ms f l rec =
-    let s = mark_shorter (c ∷ cs) m ys f in
-    ap (option_and_then (λ p. option_map (with_mark p.0) (marks_in n p.1))) f ∙ ap (option_map (with_mark m)) (rec n (omega arith))
+marks_on : (n : ℕ) (cs ys : List ℕ) (m : Mark) (ns : List (List ℕ)) (q : Marks) → next_front cs ≡ Some (m, (ns, ys)) → length cs ≤ n
+    → ((k : ℕ) → length ys ≤ k → marks_in k ys ≡ Some q) → marks_in n cs ≡ Some (with_mark m ns q)
+marks_on n [] ys m ns q f l rec = absurd (none_some f)
+marks_on zero (c ∷ cs) ys m ns q f l rec = absurd (omega arith)
+marks_on (suc n) (c ∷ cs) ys m ns q f l rec =
+    let s = (next_sound (c ∷ cs) m ns ys f).shorter in
+    ap (option_and_then (λ p. option_map (with_mark p.0 p.1.0) (marks_in n p.1.1))) f
+    ∙ ap (option_map (with_mark m ns)) (rec n (omega arith))
 
-marks_complete : {cs zs : List ℕ} {ms : List Mark} → Lexes cs ms zs → zs ≡ [] → (n : ℕ) → length cs ≤ n → marks_in n cs ≡ Some ms
+marks_complete : {cs zs : List ℕ} {ms : List Mark} {ns : List (List ℕ)} → Lexes cs ms ns zs → zs ≡ [] → (n : ℕ) → length cs ≤ n
+    → marks_in n cs ≡ Some (ms, ns)
 marks_complete stop e n l = ap (marks_in n) e ∙ marks_nothing n
-marks_complete (go {xs} {ys} {zs} {m} {ms} f k) e n l = marks_on n xs ys m ms f l (λ j g. marks_complete k e j g)
+marks_complete (go {xs} {ys} {zs} {m} {ms} {ns} {us} f k) e n l = marks_on n xs ys m ns (ms, us) f l (λ j g. marks_complete k e j g)
 
 -- ---- patterns
 
 pattern_of_sound : (cs : List ℕ) (p : Pattern) → pattern_of cs ≡ Some p → IsText cs p
 pattern_of_sound cs p e = by (marks_in (length cs) cs) (marks_sound (length cs) cs) e
   where
-    closed : (ms : List Mark) → Lexes cs ms [] → (s : CasesState) → run_cases no_cases ms ≡ Some s → (b : Bool)
+    closed : (q : Marks) → Lexes cs q.0 q.1 [] → are_distinct q.1 ≡ true → (s : CasesState) → run_cases no_cases q.0 ≡ Some s → (b : Bool)
         → is_closed s ≡ b → cond b (Some (pattern_in s)) None ≡ Some p → IsText cs p
-    closed ms k s f true n g =
-        subst (IsText cs) (some_same g)
-        (record { spelled = subst (Spelled cs) (sym (pattern_sound ms s f n)) (lexes_spelled k refl) })
-    closed ms k s f false n g = absurd (none_some g)
+    closed q k d s f true n g =
+        subst (IsText cs) (some_same g) (record {
+          names = q.1;
+          spelled = subst (λ ms. Spelled cs ms q.1) (sym (pattern_sound q.0 s f n)) (lexes_spelled k refl);
+          distinct = d;
+        })
+    closed q k d s f false n g = absurd (none_some g)
 
-    state_by : (ms : List Mark) → Lexes cs ms [] → (o : Option CasesState) → run_cases no_cases ms ≡ o
+    state_by : (q : Marks) → Lexes cs q.0 q.1 [] → are_distinct q.1 ≡ true → (o : Option CasesState) → run_cases no_cases q.0 ≡ o
         → option_and_then whole_pattern o ≡ Some p → IsText cs p
-    state_by ms k None f g = absurd (none_some g)
-    state_by ms k (Some s) f g = closed ms k s f (is_closed s) refl g
+    state_by q k d None f g = absurd (none_some g)
+    state_by q k d (Some s) f g = closed q k d s f (is_closed s) refl g
 
-    by : (o : Option (List Mark)) → ((ms : List Mark) → o ≡ Some ms → Lexes cs ms [])
-        → option_and_then whole_pattern (option_and_then (run_cases no_cases) o) ≡ Some p → IsText cs p
+    names_by : (q : Marks) → Lexes cs q.0 q.1 [] → (b : Bool) → are_distinct q.1 ≡ b
+        → option_and_then whole_pattern (option_and_then (run_cases no_cases) (cond b (Some q.0) None)) ≡ Some p → IsText cs p
+    names_by q k true d g = state_by q k d (run_cases no_cases q.0) refl g
+    names_by q k false d g = absurd (none_some g)
+
+    by : (o : Option Marks) → ((q : Marks) → o ≡ Some q → Lexes cs q.0 q.1 [])
+        → option_and_then whole_pattern (option_and_then (run_cases no_cases) (option_and_then distinct_marks o)) ≡ Some p → IsText cs p
     by None k g = absurd (none_some g)
-    by (Some ms) k g = state_by ms (k ms refl) (run_cases no_cases ms) refl g
+    by (Some q) k g = names_by q (k q refl) (are_distinct q.1) refl g
 
 pattern_of_complete : (cs : List ℕ) (p : Pattern) → IsText cs p → pattern_of cs ≡ Some p
 pattern_of_complete cs p x =
     let ms = marks_complete (spelled_lexes x.spelled) refl (length cs) (omega arith) in
     let r = pattern_complete p in
-    ap (λ o. option_and_then whole_pattern (option_and_then (run_cases no_cases) o)) ms
+    ap (λ o. option_and_then whole_pattern (option_and_then (run_cases no_cases) (option_and_then distinct_marks o))) ms
+    ∙ (ap (λ b. option_and_then whole_pattern (option_and_then (run_cases no_cases) (cond b (Some (pattern_marks p)) None))) x.distinct
     ∙ (ap (option_and_then whole_pattern) r.runs
-    ∙ (ap (λ b. cond b (Some (pattern_in r.last)) None) r.closed ∙ ap (λ q. Some q) r.whole))
+    ∙ (ap (λ b. cond b (Some (pattern_in r.last)) None) r.closed ∙ ap (λ q. Some q) r.whole)))
 
 -- a text that is a pattern, and one that is none
 pub is_pattern_complete : (ps : List ℕ) (p : Pattern) → IsText ps p → is_pattern ps ≡ true

@@ -2,7 +2,7 @@
 use Rattle.std.proofs.Common.{◌≡◌, inl, inr, ℕ, Bool, true, false, not, ◌&&◌, ◌==◌, List, [], ◌∷◌, ◌++◌, codes, Option, Some, None}
 use Rattle.std.proofs.Common.{option_map, refl, sym, ap, ◌∙◌, subst, append_assoc, append-nil, true≢false, arith, ◌≢◌, ◌+◌, ◌<◌}
 use Rattle.std.proofs.Common.{All, length, get_or, take, drop, take-append-drop}
-use Rattle.std.proofs.lemmas.Bool.{cond-false, eqb-true, ne_eqb, and_parts, and_from, not-true}
+use Rattle.std.proofs.lemmas.Bool.{cond-false, cond-true, eqb-true, eq-eqb, ne_eqb, and_parts, and_from, not-true}
 use Rattle.std.proofs.lemmas.List.{drop_more, get_or-take, length-take-le}
 use Rattle.std.proofs.lemmas.List.Elements.{All-head, All-tail, All-from_get_or}
 use Rattle.std.specs.Prelude.{option_and_then}
@@ -19,56 +19,59 @@ use Rattle.i_regexp.proofs.Lexing.{cond_cases, then_cases, map_cases, none_some,
 
 -- ---- names
 
-abbrev braceless : List ℕ → Bool
-braceless [] = true
-braceless (c ∷ cs) = not (c == 125) && braceless cs
+abbrev pub is_without : ℕ → List ℕ → Bool
+is_without last [] = true
+is_without last (c ∷ cs) = not (c == last) && is_without last cs
 
-name_sound : (xs ns ys : List ℕ) → name_front xs ≡ Some (ns, ys) → xs ≡ ns ++ 125 ∷ ys
-name_sound [] ns ys e = none_some e
-name_sound (c ∷ cs) ns ys e =
-    elim (cond_cases (c == 125) _ _ (ns, ys) e) [
-      | inl a ↦ ap (λ d. d ∷ cs) (eqb-true c 125 a.0) ∙ ap (λ p. p.0 ++ 125 ∷ p.1) (some_same a.1)
+abbrev braceless : List ℕ → Bool
+braceless cs = is_without 125 cs
+
+pub name_sound : (last : ℕ) (xs ns ys : List ℕ) → name_front last xs ≡ Some (ns, ys) → xs ≡ ns ++ last ∷ ys
+name_sound last [] ns ys e = none_some e
+name_sound last (c ∷ cs) ns ys e =
+    elim (cond_cases (c == last) _ _ (ns, ys) e) [
+      | inl a ↦ ap (λ d. d ∷ cs) (eqb-true c last a.0) ∙ ap (λ p. p.0 ++ last ∷ p.1) (some_same a.1)
       | inr b ↦
-          let m = map_cases (λ p. let q : List ℕ × List ℕ = (c ∷ p.0, p.1) in q) (name_front cs) (ns, ys) b.1 in
-          ap (λ us. c ∷ us) (name_sound cs m.0.0 m.0.1 m.1) ∙ ap (λ p. p.0 ++ 125 ∷ p.1) m.2
+          let m = map_cases (λ p. let q : List ℕ × List ℕ = (c ∷ p.0, p.1) in q) (name_front last cs) (ns, ys) b.1 in
+          ap (λ us. c ∷ us) (name_sound last cs m.0.0 m.0.1 m.1) ∙ ap (λ p. p.0 ++ last ∷ p.1) m.2
     ]
 
-name_complete : (ns ys : List ℕ) → braceless ns ≡ true → name_front (ns ++ 125 ∷ ys) ≡ Some (ns, ys)
-name_complete [] ys e = refl
-name_complete (c ∷ ns) ys e =
-    let both = and_parts (not (c == 125)) (braceless ns) e in
-    cond-false (c == 125) _ _ (not-true (c == 125) both.0)
-    ∙ ap (option_map (λ p. let q : List ℕ × List ℕ = (c ∷ p.0, p.1) in q)) (name_complete ns ys both.1)
+pub name_complete : (last : ℕ) (ns ys : List ℕ) → is_without last ns ≡ true → name_front last (ns ++ last ∷ ys) ≡ Some (ns, ys)
+name_complete last [] ys e = cond-true (last == last) _ _ (eq-eqb last last refl)
+name_complete last (c ∷ ns) ys e =
+    let both = and_parts (not (c == last)) (is_without last ns) e in
+    cond-false (c == last) _ _ (not-true (c == last) both.0)
+    ∙ ap (option_map (λ p. let q : List ℕ × List ℕ = (c ∷ p.0, p.1) in q)) (name_complete last ns ys both.1)
 
--- the character does not end a name
-abbrev pub IsNoBrace : ℕ → Type 0
-IsNoBrace c = c ≢ 125
+-- the character does not last a name
+abbrev pub IsNoEnd : ℕ → ℕ → Type 0
+IsNoEnd last c = c ≢ last
 
-braceless_all : (cs : List ℕ) → All IsNoBrace cs → braceless cs ≡ true
-braceless_all [] h = refl
-braceless_all (c ∷ cs) h =
-    and_from (not (c == 125)) (braceless cs) (ap not (ne_eqb c 125 (All-head IsNoBrace c cs h)))
-    (braceless_all cs (All-tail IsNoBrace c cs h))
+without_all : (last : ℕ) (cs : List ℕ) → All (IsNoEnd last) cs → is_without last cs ≡ true
+without_all last [] h = refl
+without_all last (c ∷ cs) h =
+    and_from (not (c == last)) (is_without last cs) (ap not (ne_eqb c last (All-head (IsNoEnd last) c cs h)))
+    (without_all last cs (All-tail (IsNoEnd last) c cs h))
 
-pub no_name : (cs : List ℕ) → All IsNoBrace cs → name_front cs ≡ None
-no_name [] h = refl
-no_name (c ∷ cs) h =
-    cond-false (c == 125) _ _ (ne_eqb c 125 (All-head IsNoBrace c cs h))
-    ∙ ap (option_map (λ p. let q : List ℕ × List ℕ = (c ∷ p.0, p.1) in q)) (no_name cs (All-tail IsNoBrace c cs h))
+pub no_name : (last : ℕ) (cs : List ℕ) → All (IsNoEnd last) cs → name_front last cs ≡ None
+no_name last [] h = refl
+no_name last (c ∷ cs) h =
+    cond-false (c == last) _ _ (ne_eqb c last (All-head (IsNoEnd last) c cs h))
+    ∙ ap (option_map (λ p. let q : List ℕ × List ℕ = (c ∷ p.0, p.1) in q)) (no_name last cs (All-tail (IsNoEnd last) c cs h))
 
-around : (cs : List ℕ) (i : ℕ) → i < length cs → get_or cs i 0 ≡ 125 → cs ≡ take i cs ++ 125 ∷ drop (i + 1) cs
-around cs i inside here =
+around : (last : ℕ) (cs : List ℕ) (i : ℕ) → i < length cs → get_or cs i 0 ≡ last → cs ≡ take i cs ++ last ∷ drop (i + 1) cs
+around last cs i inside here =
     sym (take-append-drop i cs)
     ∙ ap (λ l. take i cs ++ l) (drop_more cs i 0 inside ∙ ap (λ c. c ∷ drop (i + 1) cs) here)
 
--- a name ends at the first brace
-pub name_at : (cs : List ℕ) (i : ℕ) → i < length cs → get_or cs i 0 ≡ 125 → ((k : ℕ) → k < i → get_or cs k 0 ≢ 125)
-    → name_front cs ≡ Some (take i cs, drop (i + 1) cs)
-name_at cs i inside here before =
-    ap name_front (around cs i inside here)
-    ∙ name_complete (take i cs) (drop (i + 1) cs) (braceless_all (take i cs) (All-from_get_or IsNoBrace (take i cs) 0
+-- a name ends at the first such character
+pub name_at : (last : ℕ) (cs : List ℕ) (i : ℕ) → i < length cs → get_or cs i 0 ≡ last → ((k : ℕ) → k < i → get_or cs k 0 ≢ last)
+    → name_front last cs ≡ Some (take i cs, drop (i + 1) cs)
+name_at last cs i inside here before =
+    ap (name_front last) (around last cs i inside here)
+    ∙ name_complete last (take i cs) (drop (i + 1) cs) (without_all last (take i cs) (All-from_get_or (IsNoEnd last) (take i cs) 0
     (λ k h. let below : k < i = omega (arith, length-take-le i cs (omega arith)) in
-    subst IsNoBrace (sym (get_or-take i cs k 0 below)) (before k below))))
+    subst (IsNoEnd last) (sym (get_or-take i cs k 0 below)) (before k below))))
 
 behind_sound : (ds cs es : List ℕ) → behind ds cs ≡ Some es → cs ≡ ds ++ es
 behind_sound [] cs es e = some_same e
@@ -209,12 +212,13 @@ property_found [] x ys e = none_some e
 property_found (c ∷ cs) x ys e =
     elim (cond_cases (c == 123) _ _ (x, ys) e) [
       | inl a ↦
-          let t = then_cases (λ p. option_map (λ y. let q : Set × List ℕ = (y, p.1) in q) (property_of p.0)) (name_front cs) (x, ys) a.1 in
+          let t =
+          then_cases (λ p. option_map (λ y. let q : Set × List ℕ = (y, p.1) in q) (property_of p.0)) (name_front 125 cs) (x, ys) a.1 in
           let m = map_cases (λ y. let q : Set × List ℕ = (y, t.0.1) in q) (property_of t.0.0) (x, ys) t.2 in
           record {
             cs = t.0.0;
             split = ap (λ d. d ∷ cs) (eqb-true c 123 a.0)
-                ∙ (ap (λ us. 123 ∷ us) (name_sound cs t.0.0 t.0.1 t.1)
+                ∙ (ap (λ us. 123 ∷ us) (name_sound 125 cs t.0.0 t.0.1 t.1)
                 ∙ (ap (λ p. 123 ∷ (t.0.0 ++ 125 ∷ p.1)) m.2 ∙ ap (λ us. 123 ∷ us) (sym (append_assoc t.0.0 (125 ∷ []) ys))));
             text = subst (PropertyText t.0.0) (ap (λ p. p.0) m.2) (property_sound t.0.0 m.0 m.1);
           }
@@ -226,5 +230,5 @@ pub property_read : (cs : List ℕ) (x : Set) (ys : List ℕ) → PropertyText c
 property_read cs x ys t =
     ap (λ us. property_front (123 ∷ us)) (append_assoc cs (125 ∷ []) ys)
     ∙ (ap (option_and_then (λ p. option_map (λ y. let q : Set × List ℕ = (y, p.1) in q) (property_of p.0)))
-    (name_complete cs ys (braceless_of cs x t))
+    (name_complete 125 cs ys (braceless_of cs x t))
     ∙ ap (option_map (λ y. let q : Set × List ℕ = (y, ys) in q)) (property_complete cs x t))

@@ -9,15 +9,14 @@ use Rattle.i_regexp.specs.declared.outermost.Outermost.{Outermost}
 use Rattle.i_regexp.specs.declared.error.IRegexpError.{IRegexpError}
 use Rattle.i_regexp.specs.declared.error.IRegexpErrorKind.{IRegexpErrorKind}
 use Rattle.i_regexp.specs.declared.error.IRegexpErrorKind.TheVariants.{Invalid, TooDeep, TooLarge, OutOfMemory}
-use Rattle.i_regexp.specs.Fronts.{Fronts}
 use Rattle.i_regexp.specs.Grammar.{opened}
 use Rattle.i_regexp.specs.Levels.{advance, state_size}
-use Rattle.i_regexp.specs.Limits.{depth_limit, size_limit, LargeCount, begins_group, ends_group}
+use Rattle.i_regexp.specs.Limits.{depth_limit, size_limit, begins_group, ends_group}
 use Rattle.i_regexp.specs.PatternMachine.{same_bool}
 use Rattle.i_regexp.specs.Patterns as is
-use Rattle.i_regexp.specs.Patterns.{Mark, start, end, look, token, Spells, fits, follows, Spelled, Pattern, pattern_marks, IsText, IsSmall}
+use Rattle.i_regexp.specs.Patterns.{Mark, start, end, look, token, Spelled, are_distinct, Pattern, pattern_marks, IsText, IsSmall}
 use Rattle.i_regexp.specs.Patterns.{has_looks, AreSmallCases}
-use Rattle.i_regexp.specs.PatternFronts.{mark_of, mark_front}
+use Rattle.i_regexp.specs.PatternFronts.{next_front, Takes, TakesName}
 use Rattle.i_regexp.specs.PatternMachine.{PartsState, no_levels, is_before, is_unread, is_bar, with_state, advance_mark}
 use Rattle.i_regexp.specs.PatternCases.{CasesState, no_cases, is_closed, case_in, pattern_in, ended, is_last, advance_case, run_cases}
 use Rattle.i_regexp.specs.PatternCases.{CasesMean, StandsFor, TakesCase, FinishesCases}
@@ -27,7 +26,7 @@ use Rattle.i_regexp.specs.declared.pattern_error.SchemaPatternError.{SchemaPatte
 use Rattle.i_regexp.specs.declared.pattern_error.SchemaPatternErrorKind.TheVariants as reason
 use Rattle.i_regexp.specs.PatternReading.{is_outside, kind_at, SaysOf, IsRefused}
 use Rattle.i_regexp.proofs.Lexing.{cond_cases, map_cases, none_some, some_same}
-use Rattle.i_regexp.proofs.PatternLexing.{mark_sound, mark_complete}
+use Rattle.i_regexp.proofs.PatternNames.{next_sound, mark_complete_next, name_complete_next, distinct_front}
 use Rattle.i_regexp.proofs.PatternMachine.{no_level_left, is_the_bar}
 use Rattle.i_regexp.proofs.PatternCases.{Step, opening, ending, going, step_of, parting_bar, closing_closed, none_of, unread_fresh}
 use Rattle.i_regexp.proofs.PatternCases.{pattern_sound, run_cases_append, pattern_complete, case_back, run_fine}
@@ -35,64 +34,93 @@ use Rattle.i_regexp.proofs.Refusing.{step_depth, outer_length}
 
 -- ---- marks, one after the other
 
-pub data Lexes : List ℕ → List Mark → List ℕ → Type 0 where
-  stop : {xs : List ℕ} → Lexes xs [] xs
-  go : {xs ys zs : List ℕ} {m : Mark} {ms : List Mark} → mark_front xs ≡ Some (m, ys) → Lexes ys ms zs → Lexes xs (m ∷ ms) zs
+pub data Lexes : List ℕ → List Mark → List (List ℕ) → List ℕ → Type 0 where
+  stop : {xs : List ℕ} → Lexes xs [] [] xs
+  go : {xs ys zs : List ℕ} {m : Mark} {ms : List Mark} {ns us : List (List ℕ)} → next_front xs ≡ Some (m, (ns, ys)) → Lexes ys ms us zs
+      → Lexes xs (m ∷ ms) (ns ++ us) zs
 
-lexes_push : {xs ys zs : List ℕ} {ms : List Mark} {m : Mark} → Lexes xs ms ys → mark_front ys ≡ Some (m, zs) → Lexes xs (ms ++ m ∷ []) zs
-lexes_push stop e = go e stop
-lexes_push (go f k) e = go f (lexes_push k e)
+lexes_push : {xs ys zs : List ℕ} {ms : List Mark} {us ns : List (List ℕ)} {m : Mark} → Lexes xs ms us ys
+    → next_front ys ≡ Some (m, (ns, zs)) → Lexes xs (ms ++ m ∷ []) (us ++ ns) zs
+lexes_push {xs = xs} {zs = zs} {ns = ns} {m = m} stop e = subst (λ vs. Lexes xs (m ∷ []) vs zs) (append-nil ns) (go e stop)
+lexes_push {zs = zs} {ns = ns} {m = m} (go {xs = xs} {m = k} {ms = ms} {ns = vs} {us = us} f l) e =
+    subst (λ ts. Lexes xs (k ∷ (ms ++ m ∷ [])) ts zs) (sym (append_assoc vs us ns)) (go f (lexes_push l e))
 
-pub lexes_spelled : {xs zs : List ℕ} {ms : List Mark} → Lexes xs ms zs → zs ≡ [] → Spelled xs ms
-lexes_spelled stop e = subst (λ xs. Spelled xs []) (sym e) is.none
-lexes_spelled (go {xs} {ys} {zs} {m} {ms} f k) e =
-    let s = mark_sound xs m ys f in
-    subst (λ cs. Spelled cs (m ∷ ms)) (sym s.0.split) (is.more s.0.spelled s.1 s.0.after (lexes_spelled k e))
+pub lexes_spelled : {xs zs : List ℕ} {ms : List Mark} {ns : List (List ℕ)} → Lexes xs ms ns zs → zs ≡ [] → Spelled xs ms ns
+lexes_spelled stop e = subst (λ xs. Spelled xs [] []) (sym e) is.none
+lexes_spelled (go {xs} {ys} {zs} {m} {ms} {ns} {us} f k) e =
+    let s = next_sound xs m ns ys f in
+    subst (λ cs. Spelled cs (m ∷ ms) (ns ++ us)) (sym s.split) (s.grows ys [] ms us (sym (append-nil ys)) (lexes_spelled k e))
 
-pub spelled_lexes : {xs : List ℕ} {ms : List Mark} → Spelled xs ms → Lexes xs ms []
+pub spelled_lexes : {xs : List ℕ} {ms : List Mark} {ns : List (List ℕ)} → Spelled xs ms ns → Lexes xs ms ns []
 spelled_lexes is.none = stop
-spelled_lexes (is.more {cs} {ds} {m} {ms} s f a k) = go (mark_complete cs m s ds f a) (spelled_lexes k)
+spelled_lexes (is.more {cs} {ds} {m} {ms} s f a k) = go (mark_complete_next cs m s ds f a) (spelled_lexes k)
+spelled_lexes (is.named {name} {ds} h k) = go (name_complete_next name ds h) (spelled_lexes k)
 
-record Rest (us ms : List Mark) (ys : List ℕ) : Type 0 where
+record Rest (us ms : List Mark) (ks ns : List (List ℕ)) (ys : List ℕ) : Type 0 where
   rest : List Mark
+  left : List (List ℕ)
   split : us ≡ ms ++ rest
-  lexed : Lexes ys rest []
+  names : ks ≡ ns ++ left
+  lexed : Lexes ys rest left []
 
-mark_same : {a b : Mark} {c d : List ℕ} → ◌≡◌ {A = Option (Mark × List ℕ)} (Some (a, c)) (Some (b, d)) → a ≡ b
+mark_same : {a b : Mark} {p q : List (List ℕ) × List ℕ}
+    → ◌≡◌ {A = Option (Mark × (List (List ℕ) × List ℕ))} (Some (a, p)) (Some (b, q)) → a ≡ b
 mark_same h = ap (λ p. p.0) (some_same h)
 
-rest_same : {a b : Mark} {c d : List ℕ} → ◌≡◌ {A = Option (Mark × List ℕ)} (Some (a, c)) (Some (b, d)) → c ≡ d
+rest_same : {a b : Mark} {p q : List (List ℕ) × List ℕ}
+    → ◌≡◌ {A = Option (Mark × (List (List ℕ) × List ℕ))} (Some (a, p)) (Some (b, q)) → p ≡ q
 rest_same h = ap (λ p. p.1) (some_same h)
 
-front_same : {cs ds : List ℕ} {u : Mark} (us : List Mark) (zs : List ℕ) → mark_front cs ≡ Some (u, ds) → Lexes cs us zs → zs ≡ []
-    → (vs : List Mark) × (us ≡ u ∷ vs) × Lexes ds vs []
-front_same us zs e stop f = absurd (none_some (ap mark_front (sym f) ∙ e))
-front_same {ds = ds} {u = u} us zs e (go {ys = ys} {m = m} {ms = ms} g k) f =
-    let same : ◌≡◌ {A = Option (Mark × List ℕ)} (Some (u, ds)) (Some (m, ys)) = sym e ∙ g in
-    (ms, ap (λ x. x ∷ ms) (sym (mark_same same)), subst (λ x. Lexes x ms []) (sym (rest_same same)) (subst (λ x. Lexes ys ms x) f k))
+record Behind (u : Mark) (ns : List (List ℕ)) (ds : List ℕ) (us : List Mark) (ks : List (List ℕ)) : Type 0 where
+  marks : List Mark
+  others : List (List ℕ)
+  split : us ≡ u ∷ marks
+  names : ks ≡ ns ++ others
+  lexed : Lexes ds marks others []
 
-lexes_unique : {xs ys : List ℕ} {ms : List Mark} (us : List Mark) → Lexes xs ms ys → Lexes xs us [] → Rest us ms ys
-lexes_unique us stop k = record { rest = us; split = refl; lexed = k }
-lexes_unique us (go {xs} {ys} {zs} {m} {ms} e h) k =
-    let s = front_same us [] e k refl in
-    let r = lexes_unique s.0 h s.2 in
-    record { rest = r.rest; split = s.1 ∙ ap (λ vs. m ∷ vs) r.split; lexed = r.lexed }
+front_same : {cs ds : List ℕ} {u : Mark} {ns : List (List ℕ)} (us : List Mark) (ks : List (List ℕ)) (zs : List ℕ)
+    → next_front cs ≡ Some (u, (ns, ds)) → Lexes cs us ks zs → zs ≡ [] → Behind u ns ds us ks
+front_same us ks zs e stop f = absurd (none_some (ap next_front (sym f) ∙ e))
+front_same {ds = ds} {u = u} {ns = ns} us ks zs e (go {ys = ys} {m = m} {ms = ms} {ns = vs} {us = ws} g k) f =
+    let same : ◌≡◌ {A = Option (Mark × (List (List ℕ) × List ℕ))} (Some (u, (ns, ds))) (Some (m, (vs, ys))) = sym e ∙ g in
+    record {
+      marks = ms;
+      others = ws;
+      split = ap (λ x. x ∷ ms) (sym (mark_same same));
+      names = ap (λ p. p.0 ++ ws) (sym (rest_same same));
+      lexed = subst (λ p. Lexes p.1 ms ws []) (sym (rest_same same)) (subst (λ x. Lexes ys ms ws x) f k);
+    }
 
-nothing_lexed : {xs zs : List ℕ} {vs : List Mark} → Lexes xs vs zs → xs ≡ [] → vs ≡ []
+lexes_unique : {xs ys : List ℕ} {ms : List Mark} {ns : List (List ℕ)} (us : List Mark) (ks : List (List ℕ)) → Lexes xs ms ns ys
+    → Lexes xs us ks [] → Rest us ms ks ns ys
+lexes_unique us ks stop k = record { rest = us; left = ks; split = refl; names = refl; lexed = k }
+lexes_unique us ks (go {xs} {ys} {zs} {m} {ms} {ns} {us = vs} e h) k =
+    let s = front_same us ks [] e k refl in
+    let r = lexes_unique s.marks s.others h s.lexed in
+    record {
+      rest = r.rest;
+      left = r.left;
+      split = s.split ∙ ap (λ ws. m ∷ ws) r.split;
+      names = s.names ∙ (ap (λ ws. ns ++ ws) r.names ∙ sym (append_assoc ns vs r.left));
+      lexed = r.lexed;
+    }
+
+nothing_lexed : {xs zs : List ℕ} {vs : List Mark} {ns : List (List ℕ)} → Lexes xs vs ns zs → xs ≡ [] → vs ≡ []
 nothing_lexed stop f = refl
-nothing_lexed (go g k) f = absurd (none_some (sym (ap mark_front f) ∙ g))
+nothing_lexed (go g k) f = absurd (none_some (sym (ap next_front f) ∙ g))
 
 -- ---- the reading of a text, of which the rest is left
 
-pub record Reading (text rest : List ℕ) (b : Outermost) : Type 0 where
+pub record Reading (text rest : List ℕ) (b : Outermost) (names : List (List ℕ)) : Type 0 where
   pub marks : List Mark
   pub state : CasesState
-  pub lexed : Lexes text marks rest
+  pub lexed : Lexes text marks names rest
   pub ran : run_cases no_cases marks ≡ Some state
   pub agrees : StandsFor b state
+  pub distinct : are_distinct names ≡ true
 
-pub reading_init : (text : List ℕ) (b : Outermost) → StandsFor b no_cases → Reading text text b
-reading_init text b a = record { marks = []; state = no_cases; lexed = stop; ran = refl; agrees = a }
+pub reading_init : (text : List ℕ) (b : Outermost) → StandsFor b no_cases → Reading text text b []
+reading_init text b a = record { marks = []; state = no_cases; lexed = stop; ran = refl; agrees = a; distinct = refl }
 
 runs_on : (ms : List Mark) (s : CasesState) (m : Mark) → run_cases no_cases ms ≡ Some s
     → run_cases no_cases (ms ++ m ∷ []) ≡ advance_case s m
@@ -103,66 +131,81 @@ runs_on ms s m e =
     by None = refl
     by (Some u) = refl
 
-pub reading_on : (text rest after : List ℕ) (b b' : Outermost) (m : Mark) → Reading text rest b → mark_front rest ≡ Some (m, after)
-    → ((s : CasesState) → StandsFor b s → (u : CasesState) × (advance_case s m ≡ Some u) × StandsFor b' u) → Reading text after b'
-reading_on text rest after b b' m r e takes =
+pub reading_on : (text rest after : List ℕ) (b b' : Outermost) (m : Mark) (old new : List (List ℕ)) → Reading text rest b old
+    → Takes rest m after old new
+    → ((s : CasesState) → StandsFor b s → (u : CasesState) × (advance_case s m ≡ Some u) × StandsFor b' u) → Reading text after b' new
+reading_on text rest after b b' m old new r t takes =
     let k = takes r.state r.agrees in
     record {
       marks = r.marks ++ m ∷ [];
       state = k.0;
-      lexed = lexes_push r.lexed e;
+      lexed = subst (λ us. Lexes text (r.marks ++ m ∷ []) us after) (sym t.2) (lexes_push r.lexed t.1);
       ran = runs_on r.marks r.state m r.ran ∙ k.1;
       agrees = k.2;
+      distinct = t.3 r.distinct;
     }
 
-pub reading_end : (text rest : List ℕ) (b : Outermost) (n : List CaseTree) → Reading text rest b → rest ≡ []
+pub reading_end : (text rest : List ℕ) (b : Outermost) (n : List CaseTree) (names : List (List ℕ)) → Reading text rest b names → rest ≡ []
     → ((s : CasesState) → StandsFor b s
     → (is_closed s ≡ true) × CasesMean n (s.cases ++ case_in s ∷ []) × AreSmallCases (s.cases ++ case_in s ∷ []))
     → (p : Pattern) × IsText text p × IsSmall p × CasesMean n (p.before ++ p.last ∷ [])
-reading_end text rest b n r e whole =
-    let w = whole r.state r.agrees in (
+reading_end text rest b n names r e whole =
+    let w = whole r.state r.agrees in
+    let same = pattern_sound r.marks r.state r.ran w.0 in (
       pattern_in r.state,
-      record { spelled = subst (Spelled text) (sym (pattern_sound r.marks r.state r.ran w.0)) (lexes_spelled r.lexed e) },
+      record {
+        names = names;
+        spelled = subst (λ ms. Spelled text ms names) (sym same) (lexes_spelled r.lexed e);
+        distinct = r.distinct;
+      },
       w.2,
       w.1,
     )
 
 -- ---- refusals
 
-left_of : {text rest : List ℕ} {b : Outermost} (r : Reading text rest b) (p : Pattern) → IsText text p → Rest (pattern_marks p) r.marks rest
-left_of r p t = lexes_unique (pattern_marks p) r.lexed (spelled_lexes t.spelled)
+left_of : {text rest : List ℕ} {b : Outermost} {names : List (List ℕ)} (r : Reading text rest b names) (p : Pattern) (t : IsText text p)
+    → Rest (pattern_marks p) r.marks t.names names rest
+left_of r p t = lexes_unique (pattern_marks p) t.names r.lexed (spelled_lexes t.spelled)
 
-no_front : (text rest : List ℕ) (b : Outermost) → Reading text rest b → 0 < length rest → mark_front rest ≡ None → IsNone text
-no_front text rest b r l e p t = by (left_of r p t).lexed refl
+-- no mark is at the place, or its name is not distinct from those before it
+no_front : (text rest : List ℕ) (b : Outermost) (names : List (List ℕ)) → Reading text rest b names → 0 < length rest
+    → ((m : Mark) (ns : List (List ℕ)) (ys : List ℕ) → next_front rest ≡ Some (m, (ns, ys)) → are_distinct (names ++ ns) ≡ false)
+    → IsNone text
+no_front text rest b names r l e p t =
+    let left = left_of r p t in
+    by left.left left.lexed refl (ap are_distinct (sym left.names) ∙ t.distinct)
   where
-    by : {vs : List Mark} {zs : List ℕ} → Lexes rest vs zs → zs ≡ [] → ⊥
-    by stop f = let none : length rest ≡ 0 = ap length f in absurd (omega arith)
-    by (go g k) f = none_some (sym e ∙ g)
+    by : {vs : List Mark} {zs : List ℕ} (ns : List (List ℕ)) → Lexes rest vs ns zs → zs ≡ [] → are_distinct (names ++ ns) ≡ true → ⊥
+    by ns stop f d = let none : length rest ≡ 0 = ap length f in absurd (omega arith)
+    by ns (go {ys = ys} {m = m} {ns = us} {us = ws} g k) f d =
+        let whole : are_distinct ((names ++ us) ++ ws) ≡ true = ap are_distinct (append_assoc names us ws) ∙ d in
+        true≢false (sym (distinct_front (names ++ us) ws whole) ∙ e m us ys g)
 
 -- the run of the marks of a pattern, from the mark at the place on
-from_place : {text rest after : List ℕ} {b : Outermost} (m : Mark) (r : Reading text rest b) → mark_front rest ≡ Some (m, after)
-    → (p : Pattern) → IsText text p
+from_place : {text rest after : List ℕ} {b : Outermost} {names ns : List (List ℕ)} (m : Mark) (r : Reading text rest b names)
+    → next_front rest ≡ Some (m, (ns, after)) → (p : Pattern) → IsText text p
     → (ns : List Mark) × (option_and_then (λ u. run_cases u ns) (advance_case r.state m) ≡ Some (pattern_complete p).last)
 from_place m r e p t =
     let left = left_of r p t in
-    let first = front_same left.rest [] e left.lexed refl in
+    let first = front_same left.rest left.left [] e left.lexed refl in
     let whole = pattern_complete p in
-    let marks : pattern_marks p ≡ r.marks ++ m ∷ first.0 = left.split ∙ ap (λ vs. r.marks ++ vs) first.1 in (
-      first.0,
-      sym (run_cases_append r.marks (m ∷ first.0) no_cases
-          ∙ ap (option_and_then (λ u. run_cases u (m ∷ first.0))) r.ran)
+    let marks : pattern_marks p ≡ r.marks ++ m ∷ first.marks = left.split ∙ ap (λ vs. r.marks ++ vs) first.split in (
+      first.marks,
+      sym (run_cases_append r.marks (m ∷ first.marks) no_cases
+          ∙ ap (option_and_then (λ u. run_cases u (m ∷ first.marks))) r.ran)
           ∙ (ap (run_cases no_cases) (sym marks) ∙ whole.runs),
     )
 
-no_advance : (text rest after : List ℕ) (b : Outermost) (m : Mark) → Reading text rest b → mark_front rest ≡ Some (m, after)
-    → ((s : CasesState) → StandsFor b s → advance_case s m ≡ None) → IsNone text
-no_advance text rest after b m r e takes p t =
+no_advance : (text rest after : List ℕ) (b : Outermost) (m : Mark) (names ns : List (List ℕ)) → Reading text rest b names
+    → next_front rest ≡ Some (m, (ns, after)) → ((s : CasesState) → StandsFor b s → advance_case s m ≡ None) → IsNone text
+no_advance text rest after b m names ns r e takes p t =
     let f = from_place m r e p t in
     none_some (sym (ap (option_and_then (λ u. run_cases u f.0)) (takes r.state r.agrees)) ∙ f.1)
 
-no_end : (text rest : List ℕ) (b : Outermost) → Reading text rest b → rest ≡ []
+no_end : (text rest : List ℕ) (b : Outermost) (names : List (List ℕ)) → Reading text rest b names → rest ≡ []
     → ((s : CasesState) → StandsFor b s → is_closed s ≡ false) → IsNone text
-no_end text rest b r e not_closed p t =
+no_end text rest b names r e not_closed p t =
     let left = left_of r p t in
     let whole = pattern_complete p in
     let marks : pattern_marks p ≡ r.marks = left.split
@@ -170,10 +213,11 @@ no_end text rest b r e not_closed p t =
     let same : whole.last ≡ r.state = some_same (sym whole.runs ∙ (ap (run_cases no_cases) marks ∙ r.ran)) in
     true≢false (sym whole.closed ∙ (ap is_closed same ∙ not_closed r.state r.agrees))
 
-all_large : (text rest after : List ℕ) (b : Outermost) (m : Mark) → Reading text rest b → mark_front rest ≡ Some (m, after)
+all_large : (text rest after : List ℕ) (b : Outermost) (m : Mark) (names ns : List (List ℕ)) → Reading text rest b names
+    → next_front rest ≡ Some (m, (ns, after))
     → ((s : CasesState) → StandsFor b s → (u : CasesState) × (advance_case s m ≡ Some u) × (size_limit < state_size u.here.state))
     → (p : Pattern) → IsText text p → IsSmall p → ⊥
-all_large text rest after b m r e takes p t small =
+all_large text rest after b m names ns r e takes p t small =
     let f = from_place m r e p t in
     let k = takes r.state r.agrees in
     let runs = sym (ap (option_and_then (λ u. run_cases u f.0)) k.1) ∙ f.1 in
@@ -280,96 +324,65 @@ run_groups (m ∷ ms) s u e = by (advance_case s m) refl e (λ v g. run_groups m
         let rest = rec v g in
         omega arith
 
-begins_with : (cs : List ℕ) (m : Mark) → m ≡ token opened → Spells cs m → (ds : List ℕ) × (cs ≡ 40 ∷ ds)
-begins_with cs m e is.begins = cc
-begins_with cs m e is.finishes = cc
-begins_with cs m e is.opens = ([], refl)
-begins_with cs m e is.opens_silently = (63 ∷ 58 ∷ [], refl)
-begins_with cs m e is.looks = cc
-begins_with cs m e is.looks_not = cc
-begins_with cs m e is.closes = cc
-begins_with cs m e is.parts = cc
-begins_with cs m e is.any = cc
-begins_with cs m e (is.normal c h) = cc
-begins_with cs m e (is.escape t) = cc
-begins_with cs m e (is.bracket h t f k) = cc
-begins_with cs m e (is.greedy s) = cc
-begins_with cs m e (is.lazy s) = cc
-
-too_deep : (text rest after : List ℕ) (b : Outermost) (m : Mark) (r : Reading text rest b) → mark_front rest ≡ Some (m, after)
+too_deep : (text rest after : List ℕ) (b : Outermost) (m : Mark) (names ns : List (List ℕ)) (r : Reading text rest b names)
+    → next_front rest ≡ Some (m, (ns, after))
     → m ≡ token opened → depth_limit ≤ length b.here.outer.items → OpensTooMany r.marks rest
-too_deep text rest after b m r e f h =
-    let s = (mark_sound rest m after e).0 in
-    let w = begins_with s.cs m f s.spelled in
+too_deep text rest after b m names ns r e f h =
+    let s = next_sound rest m ns after e in
+    let w = s.begins f in
     let run = run_groups r.marks no_cases r.state r.ran in
     let len = outer_length b.here.outer.items r.state.here.state.1 r.agrees.here.agrees.2 in
     record { after = w.0 ++ after; begins = s.split ∙ ap (λ cs. cs ++ after) w.1; full = omega arith }
 
 -- ---- what a kind of error says
 
-pub says_no_mark : (text rest : List ℕ) (b : Outermost) (k : IRegexpErrorKind) (r : Reading text rest b) → 0 < length rest
-    → Fronts (LargeCount rest) mark_of (mark_front rest) (Err k) → Says text r.marks rest k
-says_no_mark text rest b Invalid r l f = no_front text rest b r l f
-says_no_mark text rest b TooDeep r l f = absurd f
-says_no_mark text rest b TooLarge r l f = inl f
-says_no_mark text rest b OutOfMemory r l f = tt
+pub says_no_mark : (text rest : List ℕ) (b : Outermost) (k : IRegexpErrorKind) (old new : List (List ℕ)) (r : Reading text rest b old)
+    → 0 < length rest → TakesName rest old (Err k) new → Says text r.marks rest k
+says_no_mark text rest b Invalid old new r l f = no_front text rest b old r l f
+says_no_mark text rest b TooDeep old new r l f = absurd f
+says_no_mark text rest b TooLarge old new r l f = inl f
+says_no_mark text rest b OutOfMemory old new r l f = tt
 
-pub says_no_take : (text rest after : List ℕ) (b b' : Outermost) (m : Mark) (k : IRegexpErrorKind) (r : Reading text rest b)
-    → mark_front rest ≡ Some (m, after) → TakesCase b m (Err k) b' → Says text r.marks rest k
-says_no_take text rest after b b' m Invalid r e f = no_advance text rest after b m r e f
-says_no_take text rest after b b' m TooDeep r e f = too_deep text rest after b m r e f.0 f.1
-says_no_take text rest after b b' m TooLarge r e f = inr (all_large text rest after b m r e f)
-says_no_take text rest after b b' m OutOfMemory r e f = tt
+pub says_no_take : (text rest after : List ℕ) (b b' : Outermost) (m : Mark) (k : IRegexpErrorKind) (old new : List (List ℕ))
+    (r : Reading text rest b old) → Takes rest m after old new → TakesCase b m (Err k) b' → Says text r.marks rest k
+says_no_take text rest after b b' m Invalid old new r t f = no_advance text rest after b m old t.0 r t.1 f
+says_no_take text rest after b b' m TooDeep old new r t f = too_deep text rest after b m old t.0 r t.1 f.0 f.1
+says_no_take text rest after b b' m TooLarge old new r t f = inr (all_large text rest after b m old t.0 r t.1 f)
+says_no_take text rest after b b' m OutOfMemory old new r t f = tt
 
-pub says_no_end : (text rest : List ℕ) (b : Outermost) (k : IRegexpErrorKind) (r : Reading text rest b) → rest ≡ []
-    → FinishesCases b (Err k) → Says text r.marks rest k
-says_no_end text rest b Invalid r e f = no_end text rest b r e f
-says_no_end text rest b TooDeep r e f = absurd f
-says_no_end text rest b TooLarge r e f = absurd f
-says_no_end text rest b OutOfMemory r e f = tt
+pub says_no_end : (text rest : List ℕ) (b : Outermost) (k : IRegexpErrorKind) (names : List (List ℕ)) (r : Reading text rest b names)
+    → rest ≡ [] → FinishesCases b (Err k) → Says text r.marks rest k
+says_no_end text rest b Invalid names r e f = no_end text rest b names r e f
+says_no_end text rest b TooDeep names r e f = absurd f
+says_no_end text rest b TooLarge names r e f = absurd f
+says_no_end text rest b OutOfMemory names r e f = tt
 
-record Front (text : List ℕ) (marks : List Mark) (rest : List ℕ) : Type 0 where
+record Front (text : List ℕ) (marks : List Mark) (names : List (List ℕ)) (rest : List ℕ) : Type 0 where
   cs : List ℕ
   split : text ≡ cs ++ rest
-  spelled : Spelled cs marks
+  spelled : Spelled cs marks names
 
-nothing_behind : (b : Bool) → not (b && false) ≡ true
-nothing_behind true = refl
-nothing_behind false = refl
-
-fits_front : (m : Mark) (xs ys : List ℕ) → fits m (xs ++ ys) ≡ true → fits m xs ≡ true
-fits_front start xs ys h = refl
-fits_front (look negated) xs ys h = refl
-fits_front end [] ys h = refl
-fits_front end (x ∷ xs) ys h = h
-fits_front (token t) [] ys h = nothing_behind (is.takes_question (token t))
-fits_front (token t) (x ∷ xs) ys h = h
-
-follows_front : (cs xs ys : List ℕ) → follows cs (xs ++ ys) ≡ true → follows cs xs ≡ true
-follows_front cs [] ys h = nothing_behind (is.is_null cs)
-follows_front cs (x ∷ xs) ys h = h
-
-front_of : {xs zs : List ℕ} {ms : List Mark} → Lexes xs ms zs → Front xs ms zs
+front_of : {xs zs : List ℕ} {ms : List Mark} {ns : List (List ℕ)} → Lexes xs ms ns zs → Front xs ms ns zs
 front_of stop = record { cs = []; split = refl; spelled = is.none }
-front_of (go {xs} {ys} {zs} {m} {ms} e k) =
-    let s = mark_sound xs m ys e in
+front_of (go {xs} {ys} {zs} {m} {ms} {ns} {us} e k) =
+    let s = next_sound xs m ns ys e in
     let f = front_of k in
     record {
-      cs = s.0.cs ++ f.cs;
-      split = s.0.split ∙ (ap (λ us. s.0.cs ++ us) f.split ∙ sym (append_assoc s.0.cs f.cs zs));
-      spelled = is.more s.0.spelled (fits_front m f.cs zs (subst (λ us. fits m us ≡ true) f.split s.1))
-          (follows_front s.0.cs f.cs zs (subst (λ us. follows s.0.cs us ≡ true) f.split s.0.after)) f.spelled;
+      cs = s.cs ++ f.cs;
+      split = s.split ∙ (ap (λ ts. s.cs ++ ts) f.split ∙ sym (append_assoc s.cs f.cs zs));
+      spelled = s.grows f.cs zs ms us f.split f.spelled;
     }
 
-pub refused : (text rest : List ℕ) (b : Outermost) (e : IRegexpError) (r : Reading text rest b)
+pub refused : (text rest : List ℕ) (b : Outermost) (e : IRegexpError) (names : List (List ℕ)) (r : Reading text rest b names)
     → e.place ≡ length text - length rest → Says text r.marks rest e.kind → Refused text e
-refused text rest b e r p says =
+refused text rest b e names r p says =
     let f = front_of r.lexed in
     let len : length text ≡ length (f.cs ++ rest) = ap length f.split in
     let sum = length-append f.cs rest in
     record {
       front = f.cs;
       marks = r.marks;
+      names = names;
       rest = rest;
       split = f.split;
       placed = omega arith;
@@ -381,7 +394,7 @@ refused text rest b e r p says =
 
 pub one_pattern : (text : List ℕ) (p q : Pattern) → IsText text p → IsText text q → p ≡ q
 one_pattern text p q s t =
-    let r = lexes_unique (pattern_marks p) (spelled_lexes t.spelled) (spelled_lexes s.spelled) in
+    let r = lexes_unique (pattern_marks p) s.names (spelled_lexes t.spelled) (spelled_lexes s.spelled) in
     let marks : pattern_marks p ≡ pattern_marks q = r.split
     ∙ (ap (λ us. pattern_marks q ++ us) (nothing_lexed r.lexed refl) ∙ append-nil (pattern_marks q)) in
     let a = pattern_complete p in
@@ -396,6 +409,7 @@ pub refused_at_once : (text : List ℕ) (e : SchemaPatternError) → e.kind ≡ 
 refused_at_once text e k p = record {
   front = [];
   marks = [];
+  names = [];
   rest = text;
   split = refl;
   placed = p;
@@ -444,6 +458,7 @@ refusal_of text left e f r l p k =
     record {
       front = r.front;
       marks = r.marks;
+      names = r.names;
       rest = r.rest;
       split = r.split;
       placed = p ∙ r.placed;

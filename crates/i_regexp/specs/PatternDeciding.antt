@@ -1,10 +1,10 @@
 -- Which texts are patterns, and which texts they match, as tests.
-use Rattle.std.specs.Prelude.{ℕ, zero, suc, Bool, false, List, [], ◌∷◌, length, Option, Some, None, cond, is_some, option_map}
+use Rattle.std.specs.Prelude.{ℕ, zero, suc, Bool, false, List, [], ◌∷◌, ◌++◌, length, Option, Some, None, cond, is_some, option_map}
 use Rattle.std.specs.Prelude.{option_and_then}
 use Rattle.std.specs.Option.{option_map_or}
 use Rattle.i_regexp.specs.Deciding.{matches}
-use Rattle.i_regexp.specs.Patterns.{Mark, Pattern, IsText, IsFound}
-use Rattle.i_regexp.specs.PatternFronts.{mark_front}
+use Rattle.i_regexp.specs.Patterns.{Mark, Pattern, IsText, IsFound, are_distinct}
+use Rattle.i_regexp.specs.PatternFronts.{next_front}
 use Rattle.i_regexp.specs.PatternCases.{CasesState, no_cases, is_closed, pattern_in, run_cases, pattern_form}
 
 -- The first text is a pattern that matches a part of the second.
@@ -13,15 +13,19 @@ pub record PatternFound (ps cs : List ℕ) : Type 0 where
   pub text : IsText ps pattern
   pub found : IsFound pattern cs
 
-abbrev pub with_mark : Mark → List Mark → List Mark
-with_mark m ms = m ∷ ms
+abbrev pub with_mark : Mark → List (List ℕ) → List Mark × List (List ℕ) → List Mark × List (List ℕ)
+with_mark m names q = (m ∷ q.0, names ++ q.1)
 
--- the marks of a text with at most n characters
-abbrev pub marks_in : ℕ → List ℕ → Option (List Mark)
-marks_in zero [] = Some []
+-- the marks of a text with at most n characters, and the names of its groups
+abbrev pub marks_in : ℕ → List ℕ → Option (List Mark × List (List ℕ))
+marks_in zero [] = Some ([], [])
 marks_in zero (c ∷ cs) = None
-marks_in (suc n) [] = Some []
-marks_in (suc n) (c ∷ cs) = option_and_then (λ p. option_map (with_mark p.0) (marks_in n p.1)) (mark_front (c ∷ cs))
+marks_in (suc n) [] = Some ([], [])
+marks_in (suc n) (c ∷ cs) = option_and_then (λ p. option_map (with_mark p.0 p.1.0) (marks_in n p.1.1)) (next_front (c ∷ cs))
+
+-- the marks, unless two groups have the same name
+abbrev pub distinct_marks : List Mark × List (List ℕ) → Option (List Mark)
+distinct_marks q = cond (are_distinct q.1) (Some q.0) None
 
 -- the pattern that was parsed, if no group or look-ahead is open
 abbrev pub whole_pattern : CasesState → Option Pattern
@@ -29,7 +33,8 @@ whole_pattern s = cond (is_closed s) (Some (pattern_in s)) None
 
 -- the pattern that the text is
 abbrev pub pattern_of : List ℕ → Option Pattern
-pattern_of cs = option_and_then whole_pattern (option_and_then (run_cases no_cases) (marks_in (length cs) cs))
+pattern_of cs =
+    option_and_then whole_pattern (option_and_then (run_cases no_cases) (option_and_then distinct_marks (marks_in (length cs) cs)))
 
 -- the text is a pattern
 abbrev pub is_pattern : List ℕ → Bool

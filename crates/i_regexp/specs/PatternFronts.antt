@@ -1,6 +1,6 @@
 -- The first part of a pattern's text, and the text after it; for private contracts.
 use Rattle.std.specs.Prelude.{◌≡◌, ℕ, zero, suc, ◌+◌, ◌*◌, Bool, true, false, ◌&&◌, ◌==◌, nat_le, cond, List, [], ◌∷◌, ◌++◌, length, Option}
-use Rattle.std.specs.Prelude.{Some, None}
+use Rattle.std.specs.Prelude.{Some, None, map}
 use Rattle.std.specs.Prelude.{option_map, option_and_then, Result, Ok, Err, codes}
 use Rattle.std.specs.Option.{option_map_or}
 use Rattle.std.specs.Borrow.{Bor}
@@ -23,7 +23,9 @@ use Rattle.i_regexp.specs.Grammar.{Token, characters, opened, closed, bar, quant
 use Rattle.i_regexp.specs.Patterns.{dollar_sign, colon, equals_sign, exclamation_mark, letter_c, letter_x, letter_u, letter_items}
 use Rattle.i_regexp.specs.Patterns.{named_letter, hex_digit, byte_of}
 use Rattle.i_regexp.specs.Patterns.{code_of, is_high, scalar, pair_of, control_of, begins_with_digit, others}
+use Rattle.i_regexp.specs.Limits.{LargeCount}
 use Rattle.i_regexp.specs.Patterns.{ends_class, is_dash, class_items, Mark, start, end, look, token, dot, is_normal, fits}
+use Rattle.i_regexp.specs.Patterns.{less_than, greater_than, is_group_name, are_distinct}
 
 -- the view of the code's mark
 abbrev pub mark_of : CodeMark → Mark
@@ -93,10 +95,10 @@ control_front (c ∷ cs) = literal_front cs (control_of c)
 abbrev pub null_front : List ℕ → Option (Letter × List ℕ)
 null_front cs = cond (begins_with_digit cs) None (Some (Literal 0, cs))
 
--- the text up to a brace, and the text after the brace
-abbrev pub name_front : List ℕ → Option (List ℕ × List ℕ)
-name_front [] = None
-name_front (c ∷ cs) = cond (c == right_brace) (Some ([], cs)) (option_map (λ p. (c ∷ p.0, p.1)) (name_front cs))
+-- the text up to this character, and the text after it
+abbrev pub name_front : ℕ → List ℕ → Option (List ℕ × List ℕ)
+name_front last [] = None
+name_front last (c ∷ cs) = cond (c == last) (Some ([], cs)) (option_map (λ p. (c ∷ p.0, p.1)) (name_front last cs))
 
 -- the rest of a text that begins with this one
 abbrev pub behind : List ℕ → List ℕ → Option (List ℕ)
@@ -130,7 +132,7 @@ property_of cs =
 abbrev pub property_front : List ℕ → Option (Set × List ℕ)
 property_front [] = None
 property_front (c ∷ cs) =
-    cond (c == left_brace) (option_and_then (λ p. option_map (λ x. (x, p.1)) (property_of p.0)) (name_front cs)) None
+    cond (c == left_brace) (option_and_then (λ p. option_map (λ x. (x, p.1)) (property_of p.0)) (name_front right_brace cs)) None
 
 -- the letter after a backslash
 abbrev pub escape_front : List ℕ → Option (Letter × List ℕ)
@@ -232,7 +234,51 @@ fitting p = cond (fits p.0 p.1) (Some p) None
 abbrev pub mark_front : List ℕ → Option (Mark × List ℕ)
 mark_front cs = option_and_then fitting (sign_front cs)
 
+-- ---- groups with names
+
+-- this name, and the text after it, if it may be one
+abbrev pub naming : List ℕ × List ℕ → Option (List ℕ × List ℕ)
+naming p = cond (is_group_name p.0) (Some p) None
+
+-- the name of a group, and the text after it, if the text begins with `(?<` and a name
+abbrev pub named_front : List ℕ → Option (List ℕ × List ℕ)
+named_front [] = None
+named_front (a ∷ []) = None
+named_front (a ∷ b ∷ []) = None
+named_front (a ∷ b ∷ c ∷ cs) =
+    cond ((a == left_parenthesis) && ((b == question_mark) && (c == less_than))) (option_and_then naming (name_front greater_than cs)) None
+
+-- a mark that has no name, and one that begins a group with a name
+abbrev pub without_name : Mark × List ℕ → Mark × (List (List ℕ) × List ℕ)
+without_name p = (p.0, ([], p.1))
+
+abbrev pub with_name : List ℕ × List ℕ → Mark × (List (List ℕ) × List ℕ)
+with_name p = (token opened, (p.0 ∷ [], p.1))
+
+-- the first mark of a text, with its name if it has one, and the text after it
+abbrev pub next_front : List ℕ → Option (Mark × (List (List ℕ) × List ℕ))
+next_front cs = option_map_or (λ p. Some (with_name p)) (named_front cs) (option_map without_name (mark_front cs))
+
 -- ---- what the code returns
+
+-- this mark is the next one, and its name is added to those that were read, if they stay distinct
+abbrev pub Takes : List ℕ → Mark → List ℕ → List (List ℕ) → List (List ℕ) → Type 0
+Takes cs m ys old new =
+    (names : List (List ℕ)) × (next_front cs ≡ Some (m, (names, ys))) × (new ≡ old ++ names)
+    × (are_distinct old ≡ true → are_distinct new ≡ true)
+
+-- what the next mark of a text does to the names that were read
+abbrev pub TakesName : List ℕ → List (List ℕ) → Result (CodeMark × Bor (List ℕ)) IRegexpErrorKind → List (List ℕ) → Type 0
+TakesName cs old (Ok r) new = Takes cs (mark_of r.0) r.1.now old new
+TakesName cs old (Err kind.Invalid) new =
+    (m : Mark) (names : List (List ℕ)) (ys : List ℕ) → next_front cs ≡ Some (m, (names, ys)) → are_distinct (old ++ names) ≡ false
+TakesName cs old (Err kind.TooDeep) new = ⊥
+TakesName cs old (Err kind.TooLarge) new = LargeCount cs
+TakesName cs old (Err kind.OutOfMemory) new = Unit {0}
+
+-- the names that are kept
+abbrev pub names_of : List (Vec ℕ Global) → List (List ℕ)
+names_of vs = map (λ v. v.items) vs
 
 -- the code at the front of a text, if there is one
 abbrev pub CodeFront : Option (ℕ × List ℕ) → Option (ℕ × Bor (List ℕ)) → Type 0

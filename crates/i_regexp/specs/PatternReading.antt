@@ -18,7 +18,8 @@ use Rattle.marked_regexp.specs.Forms.{Form, Matches}
 use Rattle.i_regexp.specs.Grammar.{is_one_of}
 use Rattle.i_regexp.specs.Limits.{depth_limit, begins_group, ends_group, LargeCount}
 use Rattle.i_regexp.specs.PatternFronts.{code_front}
-use Rattle.i_regexp.specs.Patterns.{dollar_sign, letter_u, is_surrogate, Mark, token, look, Spelled, Pattern, IsText, IsSmall, IsFound}
+use Rattle.i_regexp.specs.Patterns.{dollar_sign, equals_sign, exclamation_mark, less_than, letter_u, is_surrogate, Mark, token, look}
+use Rattle.i_regexp.specs.Patterns.{begins_name, is_name_part, Spelled, Pattern, IsText, IsSmall, IsFound}
 use Rattle.i_regexp.specs.PatternCases.{CasesMean}
 use Rattle.i_regexp.specs.PatternTexts.{case_text}
 
@@ -70,10 +71,11 @@ Says cs marks rest kind.OutOfMemory = Unit {0}
 pub record Refused (cs : List ℕ) (e : IRegexpError) : Type 0 where
   pub front : List ℕ
   pub marks : List Mark
+  pub names : List (List ℕ)
   pub rest : List ℕ
   pub split : cs ≡ front ++ rest
   pub placed : e.place ≡ length front
-  pub spelled : Spelled front marks
+  pub spelled : Spelled front marks names
   pub says : Says cs marks rest e.kind
 
 -- the result of parsing a text into trees
@@ -91,6 +93,27 @@ is_other_escape c = (nat_le 49 c && nat_le c 57) || is_one_of (98 ∷ 66 ∷ 107
 abbrev pub is_half : List ℕ → Bool
 is_half cs = option_map_or (λ p. is_surrogate p.0) (code_front cs) false
 
+-- a character that a name of ECMA-262 may have, and that of a group here may not: one outside of
+-- ASCII, or a backslash
+abbrev pub is_other_part : ℕ → Bool
+is_other_part c = (c == reverse_solidus) || nat_le 128 c
+
+-- such a character follows those of a name
+abbrev pub has_other_part : List ℕ → Bool
+has_other_part [] = false
+has_other_part (c ∷ cs) = cond (is_name_part c) (has_other_part cs) (is_other_part c)
+
+-- what follows `(?<` makes a look-behind, or a name with such a character
+abbrev pub is_other_name : List ℕ → Bool
+is_other_name [] = false
+is_other_name (c ∷ cs) =
+    ((c == equals_sign) || (c == exclamation_mark)) || (is_other_part c || (begins_name c && has_other_part cs))
+
+-- what follows `(?` makes no name of a group here
+abbrev pub is_other_group : List ℕ → Bool
+is_other_group [] = true
+is_other_group (c ∷ cs) = cond (c == less_than) (is_other_name cs) true
+
 -- the text begins with something that ECMA-262 has, and that these patterns do not have, or not
 -- everywhere: `^`, `$`, a group that begins with `(?`, as a look-around, or an escape, as a
 -- back-reference or a surrogate
@@ -99,7 +122,7 @@ is_outside [] = false
 is_outside (c ∷ []) = (c == circumflex) || (c == dollar_sign)
 is_outside (c ∷ d ∷ cs) =
     ((c == circumflex) || (c == dollar_sign))
-    || (((c == left_parenthesis) && (d == question_mark))
+    || (((c == left_parenthesis) && ((d == question_mark) && is_other_group cs))
     || ((c == reverse_solidus) && (is_other_escape d || ((d == letter_u) && is_half cs))))
 
 -- the kind of an error, which depends on the text at its place
@@ -122,10 +145,11 @@ SaysOf cs marks rest reason.OutOfMemory = Unit {0}
 pub record IsRefused (cs : List ℕ) (e : SchemaPatternError) : Type 0 where
   pub front : List ℕ
   pub marks : List Mark
+  pub names : List (List ℕ)
   pub rest : List ℕ
   pub split : cs ≡ front ++ rest
   pub placed : e.place ≡ length front
-  pub spelled : Spelled front marks
+  pub spelled : Spelled front marks names
   pub says : SaysOf cs marks rest e.kind
 
 -- the texts that the pattern matches somewhere, as a regular expression

@@ -36,6 +36,13 @@ equals_sign = 61
 abbrev pub exclamation_mark : ℕ
 exclamation_mark = 33
 
+-- the signs about the name of a group
+abbrev pub less_than : ℕ
+less_than = 60
+
+abbrev pub greater_than : ℕ
+greater_than = 62
+
 -- the letters of escapes that have the code of a character
 abbrev pub letter_c : ℕ
 letter_c = 99
@@ -299,11 +306,48 @@ fits end cs = ends_branch cs
 fits (look negated) cs = true
 fits (token t) cs = not (takes_question (token t) && begins_with_question cs)
 
--- the text consists of these marks
-pub data Spelled : List ℕ → List Mark → Type 0 where
-  none : Spelled [] []
-  more : {cs ds : List ℕ} {m : Mark} {ms : List Mark} → Spells cs m → fits m ds ≡ true → follows cs ds ≡ true → Spelled ds ms
-      → Spelled (cs ++ ds) (m ∷ ms)
+-- a character that may begin a name: a letter of ASCII, `$` or `_`
+abbrev pub begins_name : ℕ → Bool
+begins_name c = ((nat_le 65 c && nat_le c 90) || (nat_le 97 c && nat_le c 122)) || ((c == dollar_sign) || (c == 95))
+
+-- and one that may follow in it
+abbrev pub is_name_part : ℕ → Bool
+is_name_part c = begins_name c || is_digit c
+
+abbrev pub are_name_parts : List ℕ → Bool
+are_name_parts [] = true
+are_name_parts (c ∷ cs) = is_name_part c && are_name_parts cs
+
+-- the name of a group: a RegExpIdentifierName of ECMA-262 with characters of ASCII, without escapes
+abbrev pub is_group_name : List ℕ → Bool
+is_group_name [] = false
+is_group_name (c ∷ cs) = begins_name c && are_name_parts cs
+
+-- The text consists of these marks, and its groups have these names. `(?<name>` begins a group as
+-- `(` does.
+pub data Spelled : List ℕ → List Mark → List (List ℕ) → Type 0 where
+  none : Spelled [] [] []
+  more : {cs ds : List ℕ} {m : Mark} {ms : List Mark} {names : List (List ℕ)} → Spells cs m → fits m ds ≡ true → follows cs ds ≡ true
+      → Spelled ds ms names → Spelled (cs ++ ds) (m ∷ ms) names
+  named : {name ds : List ℕ} {ms : List Mark} {names : List (List ℕ)} → is_group_name name ≡ true → Spelled ds ms names
+      → Spelled (left_parenthesis ∷ question_mark ∷ less_than ∷ (name ++ greater_than ∷ ds)) (token opened ∷ ms) (name ∷ names)
+
+-- both names are the same
+abbrev pub is_same : List ℕ → List ℕ → Bool
+is_same [] [] = true
+is_same [] (d ∷ ds) = false
+is_same (c ∷ cs) [] = false
+is_same (c ∷ cs) (d ∷ ds) = (c == d) && is_same cs ds
+
+-- the name is one of these
+abbrev pub is_among : List (List ℕ) → List ℕ → Bool
+is_among [] name = false
+is_among (n ∷ names) name = is_same n name || is_among names name
+
+-- no two of the names are the same
+abbrev pub are_distinct : List (List ℕ) → Bool
+are_distinct [] = true
+are_distinct (n ∷ names) = not (is_among names n) && are_distinct names
 
 -- ---- patterns
 
@@ -368,9 +412,12 @@ cases_marks (c ∷ cs) = case_marks c ++ token bar ∷ cases_marks cs
 abbrev pub pattern_marks : Pattern → List Mark
 pattern_marks p = cases_marks p.before ++ case_marks p.last
 
--- the text is in the grammar, and is this pattern
+-- The text is in the grammar, and is this pattern. No two groups have the same name, as in ECMA-262
+-- of 2024 (22.2.1.1).
 pub record IsText (cs : List ℕ) (p : Pattern) : Type 0 where
-  pub spelled : Spelled cs (pattern_marks p)
+  pub names : List (List ℕ)
+  pub spelled : Spelled cs (pattern_marks p) names
+  pub distinct : are_distinct names ≡ true
 
 -- the branch matches a part of the text; with `^` only at the beginning, and with `$` only at the
 -- end

@@ -441,12 +441,12 @@ fn null(text: &[char]) -> Result<(Letter, &[char]), IRegexpErrorKind>
     Ok((Letter::Literal('\0'), text))
 }
 
-/// The text up to a brace, and the text after the brace.
-fn name(text: &[char]) -> Option<(&[char], &[char])>
-    ensures { NameFront (name_front text.now) result }
+/// The text up to this character, and the text after it.
+pub(crate) fn name(last: char, text: &[char]) -> Option<(&[char], &[char])>
+    ensures { NameFront (name_front last text.now) result }
 {
-    match text.iter().position(|c| *c == '}') {
-        Some(end) => Some((&text[..end], &text[end + 1..])),
+    match text.iter().position(|c| *c == last) {
+        Some(place) => Some((&text[..place], &text[place + 1..])),
         None => None,
     }
 }
@@ -514,7 +514,7 @@ fn property(text: &[char]) -> Result<(Set, &[char]), IRegexpErrorKind>
     let ['{', rest @ ..] = text else {
         return Err(IRegexpErrorKind::Invalid);
     };
-    let Some((name, after)) = name(rest) else {
+    let Some((name, after)) = name('}', rest) else {
         return Err(IRegexpErrorKind::Invalid);
     };
     match property_of(name) {

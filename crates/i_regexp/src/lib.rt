@@ -14,6 +14,7 @@ mod error;
 mod letter;
 mod limits;
 mod mark;
+mod names;
 mod outermost;
 mod pattern;
 mod pattern_error;

@@ -11,7 +11,8 @@ ghost use Rattle.i_regexp.specs.PatternReading.{ReadsCases};
 use crate::branches::Branches;
 use crate::cases::{Case, Look};
 use crate::error::{IRegexpError, IRegexpErrorKind};
-use crate::mark::{Mark, next_mark};
+use crate::mark::Mark;
+use crate::names::next_named;
 use crate::token::Token;
 use marked_regexp::Automaton;
 use std::alloc::{AllocError, Global};
@@ -154,10 +155,11 @@ pub(crate) fn read_pattern(alloc: Global, text: &[char]) -> Result<Vec<Case>, IR
     ensures { ReadsCases text.now result }
 {
     let mut outermost = Outermost::new(alloc);
+    let mut names = Vec::new(alloc);
     let mut rest = text;
     while !rest.is_empty() {
         let place = text.len().saturating_sub(rest.len());
-        let (mark, after) = match next_mark(alloc, rest) {
+        let (mark, after) = match next_named(alloc, rest, &mut names) {
             Ok(pair) => pair,
             Err(kind) => return Err(IRegexpError { kind, place }),
         };

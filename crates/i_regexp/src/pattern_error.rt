@@ -13,13 +13,14 @@ use std::fmt;
 /// ```
 #[derive(Clone, Copy, Debug, PartialEq, Eq)]
 pub enum SchemaPatternErrorKind {
-    /// The text is not in the grammar.
+    /// The text is not in the grammar, or two of its groups have the same name.
     Invalid,
     /// The text is not in the grammar, and at the place is something that ECMA-262 has and these
-    /// patterns do not, or not there. That is a look-behind, a named group, an escape such as `\b`
-    /// or `\1`, or a surrogate without its pair. It is also a look-ahead elsewhere than behind the
-    /// `^` of an outermost branch, and a `^` or `$` elsewhere than at the beginning or the end of
-    /// an outermost branch or of one of a look-ahead.
+    /// patterns do not, or not there. That is a look-behind, a group's name with a character
+    /// outside of ASCII or an escape, an escape such as `\b` or `\1`, or a surrogate without its
+    /// pair. It is also a look-ahead elsewhere than behind the `^` of an outermost branch, and a
+    /// `^` or `$` elsewhere than at the beginning or the end of an outermost branch or of one of a
+    /// look-ahead.
     Outside,
     /// More than 200 groups are nested.
     TooDeep,
