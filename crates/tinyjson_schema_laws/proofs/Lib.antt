@@ -1,5 +1,6 @@
 pub mod Alike
 pub mod Bisimilar
+pub mod Containing
 pub mod Contested
 pub mod Dynamic
 pub mod Exactly
