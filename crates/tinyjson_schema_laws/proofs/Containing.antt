@@ -1,6 +1,7 @@
 -- Places within places, and the resources that contain a place.
 use Rattle.std.proofs.Common.{◌≡◌, ℕ, zero, suc, ◌+◌, ◌<◌, ◌≤◌, ◌^◌, Bool, true, false, ◌&&◌, ◌==◌, List, [], ◌∷◌, ◌++◌, nat_le}
-use Rattle.std.proofs.Common.{Option, Some, None, length, take, drop, get_or, is_some, cond, refl, sym, ap, ◌∙◌, true≢false, bytes_eq, subst}
+use Rattle.std.proofs.Common.{Option, Some, None, length, take, drop, get_or, is_some, cond}
+use Rattle.std.proofs.Common.{refl, sym, ap, ◌∙◌, true≢false, bytes_eq, subst}
 use Rattle.std.proofs.Common.{take-append-drop, append_assoc, append-nil, length-append, codes, arith, eqb-true, eq-eqb, encode_utf8_all}
 use Rattle.std.proofs.lemmas.Bool.{and_parts, and_from, false_from_ne_true, leb-true}
 use Rattle.std.proofs.lemmas.Fmt.{digits_decimal, decimal_injective}
@@ -47,9 +48,12 @@ within_to p q h = by (bytes_eq (take (length p) q) p && begins_pointer (drop (le
     by : (b : Bool) → (bytes_eq (take (length p) q) p && begins_pointer (drop (length p) q)) ≡ b
         → is_some (cond b (Some (drop (length p) q)) None) ≡ true → Within p q
     by true e g =
-        let both = and_parts (bytes_eq (take (length p) q) p) (begins_pointer (drop (length p) q)) e in
-        (drop (length p) q, sym (take-append-drop (length p) q) ∙ ap (λ x. x ++ drop (length p) q)
-        ((bytes_eq-Decides (take (length p) q) p).0 both.0), both.1)
+        let both = and_parts (bytes_eq (take (length p) q) p) (begins_pointer (drop (length p) q)) e in (
+          drop (length p) q,
+          sym (take-append-drop (length p) q) ∙ ap (λ x. x ++ drop (length p) q)
+              ((bytes_eq-Decides (take (length p) q) p).0 both.0),
+          both.1,
+        )
     by false e g = absurd (true≢false (sym g))
 
 pub within_made : (p q : List ℕ) → Within p q → is_within p q ≡ true
@@ -58,7 +62,7 @@ within_made p q w = ap (is_within p) w.1 ∙ within_from p w.0 w.2
 pub within_itself : (p : List ℕ) → is_within p p ≡ true
 within_itself p = within_made p p ([], sym (append-nil p), refl)
 
-begins_both : (r s : List ℕ) → begins_pointer r ≡ true → begins_pointer s ≡ true → begins_pointer (r ++ s) ≡ true
+pub begins_both : (r s : List ℕ) → begins_pointer r ≡ true → begins_pointer s ≡ true → begins_pointer (r ++ s) ≡ true
 begins_both [] s h g = g
 begins_both (c ∷ r) s h g = h
 
@@ -179,7 +183,8 @@ other_key p q k l h n = false_from_ne_true (is_within (at_key p l) q)
     (λ g. true≢false (sym ((bytes_eq-Decides k l).1 (one_key p q k l h g)) ∙ n))
 
 pub not_below : (p q k : List ℕ) → is_within p q ≡ false → is_within (at_key p k) q ≡ false
-not_below p q k h = false_from_ne_true (is_within (at_key p k) q) (λ g. true≢false (sym (within_within p (at_key p k) q (within_key p k) g) ∙ h))
+not_below p q k h = false_from_ne_true (is_within (at_key p k) q)
+    (λ g. true≢false (sym (within_within p (at_key p k) q (within_key p k) g) ∙ h))
 
 -- ---- indices
 
@@ -196,18 +201,18 @@ digit_alone c h =
     by false false true e f g low high = absurd (let n = eqb-true c 47 g in omega (arith, n))
     by false false false e f g low high = append-nil (encode c) ∙ encode_ascii c (omega (arith, high))
 
-digits_alone : (cs : List ℕ) → all_ascii_digits cs ≡ true → token_text cs ≡ cs
+pub digits_alone : (cs : List ℕ) → all_ascii_digits cs ≡ true → token_text cs ≡ cs
 digits_alone [] h = refl
 digits_alone (c ∷ cs) h =
     let both = and_parts (is_ascii_digit c) (all_ascii_digits cs) h in
     λ i. digit_alone c both.0 i ++ digits_alone cs both.1 i
 
-own : IsNumeralModel (λ ds. all_ascii_digits ds ≡ true) (digits_value 10)
-own = numerals_by_value _ tells_all_ascii_digits
+pub own_digits : IsNumeralModel (λ ds. all_ascii_digits ds ≡ true) (digits_value 10)
+own_digits = numerals_by_value _ tells_all_ascii_digits
 
 -- the place at an index is that at its token
 pub index_key : (p : List ℕ) (i : ℕ) → i < 2 ^ 64 → at_key p (decimal i) ≡ at_index p i
-index_key p i h = ap (λ x. p ++ 47 ∷ x) (digits_alone (decimal i) (digits_decimal own i h))
+index_key p i h = ap (λ x. p ++ 47 ∷ x) (digits_alone (decimal i) (digits_decimal own_digits i h))
 
 pub within_index : (p : List ℕ) (i : ℕ) → is_within p (at_index p i) ≡ true
 within_index p i = within_from p (47 ∷ decimal i) refl
@@ -238,7 +243,7 @@ abbrev mutual
   HaveShort no_members = ⊤
   HaveShort (member k t ms) = IsShort t × HaveShort ms
 
-no_tree : (v : Tree) → None ≡ Some v → ⊥
+pub no_tree : (v : Tree) → None ≡ Some v → ⊥
 no_tree v e = cc
 
 pub nth_short : (ts : Items) (i : ℕ) (v : Tree) → AreShort ts → nth ts i ≡ Some v → IsShort v
@@ -329,7 +334,7 @@ module _ (q : List ℕ) where
         (outside_among (base_in b (object ms)) p ms (λ l. not_below p q l h)) ch
     outside_schema b p _ h ch = refl
 
-    outside_among : (b p : List ℕ) (ms : Members) → ((l : List ℕ) → is_within (at_key p l) q ≡ false) → Outside (marks_among b p ms)
+    pub outside_among : (b p : List ℕ) (ms : Members) → ((l : List ℕ) → is_within (at_key p l) q ≡ false) → Outside (marks_among b p ms)
     outside_among b p no_members h ch = refl
     outside_among b p (member k w ms) h ch = outside_both (marks_at b p k w) (marks_among b p ms)
         (outside_keyword b p k w (outside_schema b (at_key p k) w (h k)) (outside_list b (at_key p k) w (h k))
@@ -385,7 +390,7 @@ module _ (q : List ℕ) where
             outside_both (marks_at b p l u) (marks_among b p ms) (outside_keyword b p l u (outside_schema b (at_key p l) u out)
             (outside_list b (at_key p l) u out) (outside_map b (at_key p l) u out)) (later g) ch
 
-    found_among : (ms : Members) (w : Tree) → IsSorted ms → find k ms ≡ Some w → (ch : Chain)
+    pub found_among : (ms : Members) (w : Tree) → IsSorted ms → find k ms ≡ Some w → (ch : Chain)
         → enclosing (marks_among b p ms) ch ≡ enclosing (marks_within (form_at (encode_utf8_all k)) b (at_key p k) w) ch
     found_among no_members w s e ch = absurd (no_tree w e)
     found_among (member l u ms) w s e ch = by (found_among ms w s.1) (bytes_eq k l) refl e
@@ -416,7 +421,7 @@ module _ (q : List ℕ) where
         by later false f g = outside_both (marks_in b (at_key p l) u) (marks_of_members b p ms)
             (outside_schema b (at_key p l) u (other_key p q k l inside f)) (later g) ch
 
-    found_members : (ms : Members) (w : Tree) → IsSorted ms → find k ms ≡ Some w → (ch : Chain)
+    pub found_members : (ms : Members) (w : Tree) → IsSorted ms → find k ms ≡ Some w → (ch : Chain)
         → enclosing (marks_of_members b p ms) ch ≡ enclosing (marks_in b (at_key p k) w) ch
     found_members no_members w s e ch = absurd (no_tree w e)
     found_members (member l u ms) w s e ch = by (found_members ms w s.1) (bytes_eq k l) refl e
@@ -442,9 +447,10 @@ module _ (q : List ℕ) where
         let past : n < suc j = omega (arith, l) in
         let more : suc j + item_count ts ≤ 2 ^ 64 = omega (arith, h) in
         outside_both (marks_in b (at_index p j) t) (marks_of_items b p (suc j) ts)
-        (outside_schema b (at_index p j) t (other_index p q n j small below inside (λ e. omega (arith, e, l)))) (rest_items (suc j) ts past more) ch
+        (outside_schema b (at_index p j) t (other_index p q n j small below inside (λ e. omega (arith, e, l))))
+        (rest_items (suc j) ts past more) ch
 
-    found_items : (j : ℕ) (ts : Items) (i : ℕ) (v : Tree) → n ≡ j + i → j + item_count ts ≤ 2 ^ 64 → nth ts i ≡ Some v → (ch : Chain)
+    pub found_items : (j : ℕ) (ts : Items) (i : ℕ) (v : Tree) → n ≡ j + i → j + item_count ts ≤ 2 ^ 64 → nth ts i ≡ Some v → (ch : Chain)
         → enclosing (marks_of_items b p j ts) ch ≡ enclosing (marks_in b (at_index p n) v) ch
     found_items j no_items i v a h e ch = absurd (no_tree v e)
     found_items j (item t ts) zero v a h e ch =

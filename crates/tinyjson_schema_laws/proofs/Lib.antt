@@ -7,11 +7,14 @@ pub mod Exactly
 pub mod Examples
 pub mod Places
 pub mod Pointed
+pub mod Positions
 pub mod Referring
 pub mod Relations
 pub mod SameLaws
 pub mod Settled
 pub mod Simulation
 pub mod Sizes
+pub mod Standing
+pub mod States
 pub mod Stepping
 pub mod Walk
