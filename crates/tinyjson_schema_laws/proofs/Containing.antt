@@ -217,12 +217,12 @@ index_key p i h = ap (λ x. p ++ 47 ∷ x) (digits_alone (decimal i) (digits_dec
 pub within_index : (p : List ℕ) (i : ℕ) → is_within p (at_index p i) ≡ true
 within_index p i = within_from p (47 ∷ decimal i) refl
 
-other_index : (p q : List ℕ) (i j : ℕ) → i < 2 ^ 64 → j < 2 ^ 64 → is_within (at_index p i) q ≡ true → (i ≡ j → ⊥)
+pub other_index : (p q : List ℕ) (i j : ℕ) → i < 2 ^ 64 → j < 2 ^ 64 → is_within (at_index p i) q ≡ true → (i ≡ j → ⊥)
     → is_within (at_index p j) q ≡ false
 other_index p q i j a b h n = false_from_ne_true (is_within (at_index p j) q) (λ g. n (decimal_injective i j a b
     (one_key p q (decimal i) (decimal j) (ap (λ x. is_within x q) (index_key p i a) ∙ h) (ap (λ x. is_within x q) (index_key p j b) ∙ g))))
 
-not_item : (p q : List ℕ) (i : ℕ) → is_within p q ≡ false → is_within (at_index p i) q ≡ false
+pub not_item : (p q : List ℕ) (i : ℕ) → is_within p q ≡ false → is_within (at_index p i) q ≡ false
 not_item p q i h = false_from_ne_true (is_within (at_index p i) q)
     (λ g. true≢false (sym (within_within p (at_index p i) q (within_index p i) g) ∙ h))
 

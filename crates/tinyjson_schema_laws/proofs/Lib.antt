@@ -5,6 +5,7 @@ pub mod Contested
 pub mod Dynamic
 pub mod Exactly
 pub mod Examples
+pub mod Names
 pub mod Places
 pub mod Pointed
 pub mod Positions
