@@ -26,7 +26,7 @@ use Rattle.tinyjson_schema.specs.Evaluated.{accepting_evaluate, branch_evaluates
 use Rattle.tinyjson_schema.specs.Evaluated.{children_pass, members_pass, items_pass}
 use Rattle.tinyjson_schema.specs.Parts.{property, some_found, additional, prefix_item, or_else, member_schema, item_schema}
 use Rattle.tinyjson_schema.specs.Valid.{refuses_all}
-use Rattle.tinyjson_schema_laws.proofs.Bisimilar.{OptRel, AllRel, MapRel, ValueRel, listed, mapped}
+use Rattle.tinyjson_schema_laws.proofs.Bisimilar.{OptRel, AllRel, MapRel, ValueRel, listed, mapped, is_applied}
 
 -- ---- values of keywords that are related
 
@@ -51,6 +51,14 @@ is_here kw.Then = true
 is_here kw.Else = true
 is_here kw.DependentSchemas = true
 is_here _ = false
+
+pub here_applied : (k : Keyword) → is_here k ≡ true → is_applied k ≡ true
+here_applied kw.Defs e = e
+here_applied _ e = refl
+
+plain_applied : (k : Keyword) → is_plain (form_of k) ≡ true → is_applied k ≡ true
+plain_applied kw.Defs e = e
+plain_applied _ e = refl
 
 module _ (R : Tree → Tree → Type 0) where
   pub plain_same : (f : Form) (o p : Option Tree) → is_plain f ≡ true → ValueRel R f o p → o ≡ p
@@ -131,7 +139,7 @@ module _ (R : Tree → Tree → Type 0) where
   carried : (o o' p p' : Option Tree) → o ≡ o' → p ≡ p' → OptRel R o' p' → OptRel R o p
   carried o o' p p' e f h = subst (λ x. OptRel R x p) (sym e) (subst (λ x. OptRel R o' x) (sym f) h)
 
-  module _ (s t : Tree) (same : (k : Keyword) → ValueRel R (form_of k) (schema_at s k) (schema_at t k)) where
+  module _ (s t : Tree) (same : (k : Keyword) → is_applied k ≡ true → ValueRel R (form_of k) (schema_at s k) (schema_at t k)) where
     in_map : (o : Option Tree) (k : List ℕ) → option_and_then (λ p. tree_at_key p k) o ≡ find k (mapped o)
     in_map None k = refl
     in_map (Some (object ms)) k = refl
@@ -146,20 +154,20 @@ module _ (R : Tree → Tree → Type 0) where
     member_same : (k : List ℕ) → OptRel R (member_schema s k) (member_schema t k)
     member_same k = or_else_same (property s k) (property t k) (additional s k) (additional t k)
         (carried _ _ _ _ (in_map (schema_at s kw.Properties) k) (in_map (schema_at t kw.Properties) k)
-        (find_same k _ _ (same kw.Properties)))
-        (unless_same _ _ _ _ (found_same k _ _ (same kw.PatternProperties)) (same kw.AdditionalProperties))
+        (find_same k _ _ (same kw.Properties refl)))
+        (unless_same _ _ _ _ (found_same k _ _ (same kw.PatternProperties refl)) (same kw.AdditionalProperties refl))
 
     item_same : (i : ℕ) → OptRel R (item_schema s i) (item_schema t i)
     item_same i = or_else_same (prefix_item s i) (prefix_item t i) _ _
         (carried _ _ _ _ (in_list (schema_at s kw.PrefixItems) i) (in_list (schema_at t kw.PrefixItems) i)
-        (nth_same _ _ i (same kw.PrefixItems))) (same kw.Items)
+        (nth_same _ _ i (same kw.PrefixItems refl))) (same kw.Items refl)
 
     rest_same : (x : Child) → OptRel R (schema_at s (rest_keyword x)) (schema_at t (rest_keyword x))
-    rest_same (member_at k v) = same kw.UnevaluatedProperties
-    rest_same (item_at n v) = same kw.UnevaluatedItems
+    rest_same (member_at k v) = same kw.UnevaluatedProperties refl
+    rest_same (item_at n v) = same kw.UnevaluatedItems refl
 
     value : (k : Keyword) → is_plain (form_of k) ≡ true → schema_at s k ≡ schema_at t k
-    value k e = plain_same (form_of k) (schema_at s k) (schema_at t k) e (same k)
+    value k e = plain_same (form_of k) (schema_at s k) (schema_at t k) e (same k (plain_applied k e))
 
     abbrev are_plain : List Keyword → Bool
     are_plain [] = true
@@ -289,7 +297,7 @@ module _ (a b : Answers) (u : Tree) (Below : Tree → Type 0) where
   module _ (members : MembersBelow Below (members_in u)) (items : ItemsBelow Below (items_in u)) (s t : Tree)
       (refused : refuses_all s ≡ refuses_all t)
       (here : (k : Keyword) → is_here k ≡ true → ValueRel Here (form_of k) (schema_at s k) (schema_at t k))
-      (same : (k : Keyword) → ValueRel Under (form_of k) (schema_at s k) (schema_at t k))
+      (same : (k : Keyword) → is_applied k ≡ true → ValueRel Under (form_of k) (schema_at s k) (schema_at t k))
     where
       branch_same : (chosen : Bool) → branch_accepts a.accepts s u chosen ≡ branch_accepts b.accepts t u chosen
       branch_same true = map_or_same Here (λ r. a.accepts r u) (λ r. b.accepts r u) true _ _ (λ r q h. h.0) (here kw.Then refl)
@@ -297,14 +305,14 @@ module _ (a b : Answers) (u : Tree) (Below : Tree → Type 0) where
 
       contained_same : contained a.accepts s u ≡ contained b.accepts t u
       contained_same = and_then_same Under (λ r. items_passing (a.accepts r) u) (λ r. items_passing (b.accepts r) u) _ _
-          (λ r q h. items_passing_same Below (a.accepts r) (b.accepts q) h u items) (same kw.Contains)
+          (λ r q h. items_passing_same Below (a.accepts r) (b.accepts q) h u items) (same kw.Contains refl)
 
       tested : apply_all a.accepts tests s u ≡ apply_all b.accepts tests t u
       tested = λ i. (not (some_item_same Here _ _ (here kw.AnyOf refl) i) || one_same _ _ (here kw.AnyOf refl) i)
           && ((not (some_item_same Here _ _ (here kw.OneOf refl) i) || (count_same _ _ (here kw.OneOf refl) i == 1))
           && (map_or_same Here (λ r. not (a.accepts r u)) (λ r. not (b.accepts r u)) true _ _ (λ r q h. ap not h.0) (here kw.Not refl) i
           && (map_or_same Under (λ r. keys_pass (a.accepts r) (members_in u)) (λ r. keys_pass (b.accepts r) (members_in u)) true _ _
-          (λ r q h. keys_same Below (a.accepts r) (b.accepts q) h (members_in u) members) (same kw.PropertyNames) i
+          (λ r q h. keys_same Below (a.accepts r) (b.accepts q) h (members_in u) members) (same kw.PropertyNames refl) i
           && ((option_map_or is_zero (value Under s t same kw.MinContains refl i) false
           || option_map_or (λ n. not (n == 0)) (contained_same i) true)
           && (option_map_or (λ w. is_count_at_most (contained_same i) w) (value Under s t same kw.MaxContains refl i) true
@@ -315,7 +323,7 @@ module _ (a b : Answers) (u : Tree) (Below : Tree → Type 0) where
           && (map_or_same Here (λ r. branch_accepts a.accepts s u (a.accepts r u)) (λ r. branch_accepts b.accepts t u (b.accepts r u))
           true _ _ (λ r q h. branch_same (a.accepts r u) ∙ ap (branch_accepts b.accepts t u) h.0) (here kw.If refl) i
           && (dependents_same _ _ (here kw.DependentSchemas refl) i
-          && (patterns_same _ _ (members_in u) (same kw.PatternProperties) members i && true)))
+          && (patterns_same _ _ (members_in u) (same kw.PatternProperties refl) members i && true)))
 
       members_same : (ms : Members) → MembersBelow Below ms → members_accepted a.accepts s ms ≡ members_accepted b.accepts t ms
       members_same no_members g = refl
@@ -339,9 +347,9 @@ module _ (a b : Answers) (u : Tree) (Below : Tree → Type 0) where
 
       applies_same : (x : Child) → Below (value_of x) → applies_to a.accepts s x ≡ applies_to b.accepts t x
       applies_same (member_at k v) g = λ i. some_same Under _ _ (member_same Under s t same k) i
-          || found_same Under k _ _ (same kw.PatternProperties) i
+          || found_same Under k _ _ (same kw.PatternProperties refl) i
       applies_same (item_at n v) g = λ i. some_same Under _ _ (item_same Under s t same n) i
-          || map_or_same Under (λ r. a.accepts r v) (λ r. b.accepts r v) false _ _ (λ r q h. h v g) (same kw.Contains) i
+          || map_or_same Under (λ r. a.accepts r v) (λ r. b.accepts r v) false _ _ (λ r q h. h v g) (same kw.Contains refl) i
 
       module _ (e f : Child → Bool) (led : (x : Child) → Below (value_of x) → e x ≡ f x) where
         abbrev others : Answers → Tree → (Child → Bool) → Child → Bool

@@ -1,5 +1,5 @@
 -- Schemas of a document, each in a dynamic scope, and schemas of a document of one resource that do the same.
-use Rattle.std.proofs.Common.{◌≡◌, Bool, true, Option, Some, None}
+use Rattle.std.proofs.Common.{◌≡◌, Bool, true, false, Option, Some, None}
 use Rattle.std.specs.Option.{option_map_or}
 use Rattle.std.specs.Prelude.{⊤}
 use Rattle.tinyjson.specs.Tree.{Tree, Items, no_items, item, Members, no_members, member}
@@ -9,6 +9,7 @@ use Rattle.tinyjson_schema_keywords.specs.References.{referenced}
 use Rattle.tinyjson_schema_keywords.specs.declared.keyword.Form.{Form}
 use Rattle.tinyjson_schema_keywords.specs.declared.keyword.Form.TheVariants as form
 use Rattle.tinyjson_schema_keywords.specs.declared.keyword.Keyword.{Keyword}
+use Rattle.tinyjson_schema_keywords.specs.declared.keyword.Keyword.TheVariants as kw
 use Rattle.tinyjson_schema.specs.Nested.{is_reference}
 use Rattle.tinyjson_schema.specs.Schemas.{is_schema}
 use Rattle.tinyjson_schema.specs.Valid.{refuses_all}
@@ -55,11 +56,16 @@ LedRel B None None = ⊤
 LedRel B (Some r) (Some d) = B d.0 d.1 r
 LedRel B _ _ = ⊥
 
+-- `$defs` holds schemas, but no rule applies them
+abbrev pub is_applied : Keyword → Bool
+is_applied kw.Defs = false
+is_applied _ = true
+
 -- B relates a schema s of the document t, in a dynamic scope c, to a schema r of the document `whole`. They have the
 -- same keywords, with subschemas that are related, and lead to schemas that are.
 pub record Simulates (t whole : Tree) (B : Scope → Tree → Tree → Type 0) : Type 0 where
   pub refuses : (c : Scope) (s r : Tree) → B c s r → refuses_all s ≡ refuses_all r
-  pub parts : (c : Scope) (s r : Tree) → B c s r → (k : Keyword)
+  pub parts : (c : Scope) (s r : Tree) → B c s r → (k : Keyword) → is_applied k ≡ true
       → ValueRel (λ q v. B (entered c q) q v) (form_of k) (schema_at s k) (schema_at r k)
   pub led : (c : Scope) (s r : Tree) → B c s r → (k : Keyword) → is_reference k ≡ true
       → LedRel B (referenced whole k r) (target_in t c k s)

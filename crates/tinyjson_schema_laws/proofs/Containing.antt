@@ -1,6 +1,6 @@
 -- Places within places, and the resources that contain a place.
 use Rattle.std.proofs.Common.{◌≡◌, ℕ, zero, suc, ◌+◌, ◌<◌, ◌≤◌, ◌^◌, Bool, true, false, ◌&&◌, ◌==◌, List, [], ◌∷◌, ◌++◌, nat_le}
-use Rattle.std.proofs.Common.{Option, Some, None, length, take, drop, get_or, is_some, cond}
+use Rattle.std.proofs.Common.{Some, None, length, take, drop, get_or, is_some, cond}
 use Rattle.std.proofs.Common.{refl, sym, ap, ◌∙◌, true≢false, bytes_eq, subst}
 use Rattle.std.proofs.Common.{take-append-drop, append_assoc, append-nil, length-append, codes, arith, eqb-true, eq-eqb, encode_utf8_all}
 use Rattle.std.proofs.lemmas.Bool.{and_parts, and_from, false_from_ne_true, leb-true}
@@ -12,7 +12,6 @@ use Rattle.std.proofs.lemmas.Str.{encode_same, encode_ascii, char_from_byte, len
 use Rattle.std.proofs.lemmas.Str.Parse.{IsNumeralModel, numerals_by_value, tells_all_ascii_digits}
 use Rattle.std.specs.Char.{is_ascii_digit}
 use Rattle.std.specs.Fmt.{decimal}
-use Rattle.std.specs.Prelude.{⊤}
 use Rattle.std.specs.Str.{all_ascii_digits}
 use Rattle.std.specs.Str.Parse.{digits_value}
 use lib.Utf8.{encode}
@@ -26,6 +25,7 @@ use Rattle.tinyjson_schema_keywords.specs.Names.{name}
 use Rattle.tinyjson_schema_keywords.specs.declared.keyword.Form.{Form}
 use Rattle.tinyjson_schema_keywords.specs.declared.keyword.Form.TheVariants as form
 use Rattle.tinyjson_schema_keywords.specs.declared.keyword.Keyword.TheVariants as kw
+pub use Rattle.tinyjson_schema_laws.specs.Short.{IsShort, AreShort, HaveShort}
 use Rattle.tinyjson_schema_bundle.specs.Bundles.{Marked, token_char, token_text, at_key, at_index, begins_pointer, base_in, is_resource}
 use Rattle.tinyjson_schema_bundle.specs.Bundles.{resource_marks, name_kind, name_marks, with_name, is_fragment, reference_marks, marks_by}
 use Rattle.tinyjson_schema_bundle.specs.Bundles.{marks_in, marks_among, marks_in_list, marks_in_map, marks_of_items, marks_of_members}
@@ -227,21 +227,6 @@ not_item p q i h = false_from_ne_true (is_within (at_index p i) q)
     (λ g. true≢false (sym (within_within p (at_index p i) q (within_index p i) g) ∙ h))
 
 -- ---- arrays that are not too long
-
--- each array has less than 2^64 items
-abbrev mutual
-  pub IsShort : Tree → Type 0
-  IsShort (array ts) = (item_count ts ≤ 2 ^ 64) × AreShort ts
-  IsShort (object ms) = HaveShort ms
-  IsShort _ = ⊤
-
-  pub AreShort : Items → Type 0
-  AreShort no_items = ⊤
-  AreShort (item t ts) = IsShort t × AreShort ts
-
-  pub HaveShort : Members → Type 0
-  HaveShort no_members = ⊤
-  HaveShort (member k t ms) = IsShort t × HaveShort ms
 
 pub no_tree : (v : Tree) → None ≡ Some v → ⊥
 no_tree v e = cc

@@ -16,8 +16,8 @@ use Rattle.tinyjson_schema.specs.Valid.{IsValidIn, judge}
 use Rattle.tinyjson_schema_laws.specs.Laws.{by_value}
 use Rattle.tinyjson_schema_laws.specs.Scoped as scoped
 use Rattle.tinyjson_schema_laws.specs.Scoped.{Scope, Scoped, IsValidScoped, outer, entered, target_in, judged}
-use Rattle.tinyjson_schema_laws.proofs.Alike.{ItemsBelow, MembersBelow}
-use Rattle.tinyjson_schema_laws.proofs.Bisimilar.{ValueRel, LedRel, Simulates}
+use Rattle.tinyjson_schema_laws.proofs.Alike.{here_applied, ItemsBelow, MembersBelow}
+use Rattle.tinyjson_schema_laws.proofs.Bisimilar.{ValueRel, LedRel, Simulates, is_applied}
 use Rattle.tinyjson_schema_laws.proofs.Relations.{value_map, value_and, led_map}
 use Rattle.tinyjson_schema_laws.proofs.Settled.{settled, here_settles, led_settles}
 use Rattle.tinyjson_schema_laws.proofs.Sizes.{size, items_size, members_size, opt_size, key_size, referenced_size}
@@ -58,11 +58,11 @@ module _ (t whole : Tree) (B : Scope → Tree → Tree → Type 0) (sim : Simula
   abbrev Within : Scope → Tree → Tree → Type 0
   Within c s r = B c s r × (size r ≤ size whole)
 
-  within_parts : (c : Scope) (s r : Tree) → Within c s r → (k : Keyword)
+  within_parts : (c : Scope) (s r : Tree) → Within c s r → (k : Keyword) → is_applied k ≡ true
       → ValueRel (λ q v. Within (entered c q) q v) (form_of k) (schema_at s k) (schema_at r k)
-  within_parts c s r m k = value_map (λ q v. B (entered c q) q v) (λ q v. Within (entered c q) q v) (form_of k) (schema_at s k)
+  within_parts c s r m k e = value_map (λ q v. B (entered c q) q v) (λ q v. Within (entered c q) q v) (form_of k) (schema_at s k)
       (schema_at r k) (λ q v l h. (h, (let n : opt_size (schema_at r k) ≤ size r = key_size r (name k) in let o = m.1 in omega arith)))
-      (sim.parts c s r m.0 k)
+      (sim.parts c s r m.0 k e)
 
   within_led : (c : Scope) (s r : Tree) → Within c s r → (k : Keyword) → is_reference k ≡ true
       → LedRel Within (referenced whole k r) (target_in t c k s)
@@ -101,9 +101,9 @@ module _ (t whole : Tree) (B : Scope → Tree → Tree → Type 0) (sim : Simula
         (λ q v. HereIn t whole B sim formats a b u (IsSmall d) (entered c q) q v) (form_of x) (schema_at s x) (schema_at r x)
         (λ q v small p. rec d k (omega arith) (entered c q) q v p.0 p.1 u j)
         (value_and (λ q v. Within (entered c q) q v) (settles whole k) (form_of x) (schema_at s x) (schema_at r x)
-        (within_parts c s r m x) (here_settles whole k r e x is)))
-        (λ x. value_map (λ q v. Within (entered c q) q v) (λ q v. UnderIn t whole B sim formats a b u (IsSmall d) (entered c q) q v)
-        (form_of x) (schema_at s x) (schema_at r x) (λ q v small p. under_same d k l (entered c q) q v p u) (within_parts c s r m x))
+        (within_parts c s r m x (here_applied x is)) (here_settles whole k r e x is)))
+        (λ x is. value_map (λ q v. Within (entered c q) q v) (λ q v. UnderIn t whole B sim formats a b u (IsSmall d) (entered c q) q v)
+        (form_of x) (schema_at s x) (schema_at r x) (λ q v small p. under_same d k l (entered c q) q v p u) (within_parts c s r m x is))
         (λ x is. led_map Within (HereIn t whole B sim formats a b u (IsSmall d)) (referenced whole x r) (target_in t c x s)
         (λ f q v o p. rec d k (omega arith) f q v p (led_settles whole k r e x is v o) u j) (within_led c s r m x is))
 

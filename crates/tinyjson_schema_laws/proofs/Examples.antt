@@ -1,6 +1,6 @@
 -- The example of the standard (JSON Schema 2020-12, Core, 8.2.3.2 and appendix C), and one with contested names: what a
 -- dynamic scope decides, by computing.
-use Rattle.std.proofs.Common.{◌≡◌, ℕ, true, false, List, [], ◌∷◌, ◌++◌, Some, None, refl, codes}
+use Rattle.std.proofs.Common.{◌≡◌, ℕ, true, false, List, [], ◌∷◌, ◌++◌, Some, None, refl, codes, inl, inr, arith}
 use Rattle.std.specs.Fmt.{digits}
 use Rattle.std.specs.Str.{is_utf8, chars}
 use lib.Utf8.{encode}
@@ -12,7 +12,8 @@ use Rattle.tinyjson_schema_bundle.specs.declared.mark.Kind.TheVariants as kind
 use Rattle.tinyjson_schema.specs.Evaluated.{Answers}
 use Rattle.tinyjson_schema.specs.Schemas.{is_schema}
 use Rattle.tinyjson_schema.specs.Valid.{plain, judge}
-use Rattle.tinyjson_schema_laws.specs.Laws.{IsUncontested}
+use Rattle.tinyjson_schema_laws.specs.Laws.{IsUncontested, IsCopied}
+use Rattle.tinyjson_schema_laws.specs.Short.{IsShort}
 use Rattle.tinyjson_schema_laws.specs.Scoped.{Scoped, judged, led_to, located_at, outer}
 
 abbrev text : List ℕ → Tree
@@ -133,10 +134,86 @@ wrong_bundled : (g : Answers)
 unfolding is_utf8 chars encode digits
 wrong_bundled g = refl
 
+-- it is one that the law of copies is about
+named_sound : IsTree (named no_members)
+unfolding encode
+named_sound = ((refl, ((refl, refl, tt), (tt, tt)), tt), (tt, tt))
+
+typed_sound : (type : List ℕ) → IsTree (text type) → IsTree (named (member (codes "type") (text type) no_members))
+unfolding encode
+typed_sound type h = ((refl, ((refl, refl, (refl, h, tt)), (refl, (tt, tt))), tt), (tt, tt))
+
+refers_sound : (uri : List ℕ) → IsTree (text uri) → IsTree (refers uri)
+unfolding encode
+refers_sound uri h = ((refl, h, tt), (tt, tt))
+
+list_sound : IsTree list_schema
+unfolding encode
+list_sound = ((refl, named_sound, (refl, refl, (refl, ((refl, refl, tt), (tt, tt)), tt))), (refl, (refl, (tt, tt))))
+
+list_of_sound : (uri type : List ℕ) → IsTree (text uri) → IsTree (text type) → IsTree (list_of uri type)
+unfolding encode
+list_of_sound uri type g h = ((refl, typed_sound type h, (refl, g, (refl, refl, tt))), (refl, (refl, (tt, tt))))
+
+lists_sound : IsTree lists_schema
+unfolding encode
+lists_sound = (
+  (
+    refl,
+    (
+      (
+        refl,
+        list_sound,
+        (
+          refl,
+          list_of_sound (codes "texts") (codes "string") refl refl,
+          (refl, list_of_sound (codes "truths") (codes "boolean") refl refl, tt),
+        ),
+      ),
+      (refl, (refl, (tt, tt))),
+    ),
+    (
+      refl,
+      ((refl, refers_sound (codes "texts") refl, (refl, refers_sound (codes "truths") refl, tt)), (refl, (tt, tt))),
+      tt,
+    ),
+  ),
+  (refl, (tt, tt)),
+)
+
+lists_short : IsShort lists_schema
+lists_short = (
+  (
+    (((tt, tt), tt), (tt, ((tt, tt), tt))),
+    ((((tt, (tt, tt)), tt), (tt, (tt, tt))), ((((tt, (tt, tt)), tt), (tt, (tt, tt))), tt)),
+  ),
+  (((tt, tt), ((tt, tt), tt)), tt),
+)
+
+lists_copied : IsCopied lists_schema both_copies
+unfolding is_utf8 chars encode digits
+lists_copied = record {
+  sound = lists_sound;
+  short = lists_short;
+  several = refl;
+  applied = refl;
+  leading = refl;
+  states = record {
+    few = omega arith;
+    scopes = (
+      (inr (inr (inr (inr (inr (inl refl))))), refl, tt),
+      (
+        (inr (inr (inr (inr (inr (inr (inr (inr (inl refl)))))))), refl, tt),
+        tt,
+      ),
+    );
+  };
+}
+
 -- ---- what no law can say
 
 -- Not for all copies do both agree: those for a scope that has the same place under another name are for no scope of the
--- document, and still every reference leads to a schema.
+-- document (`AreCopies`), and still every reference leads to a schema.
 abbrev other_name : List ℕ → List ℕ → List Marked
 other_name uri place = (kind.DynamicName, uri, place) ∷ []
 

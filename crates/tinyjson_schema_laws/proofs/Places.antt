@@ -166,11 +166,11 @@ module _ (t : Tree) (sound : IsTree t) where
 
 -- ---- pointers
 
-abbrev AreScalars : List (List ℕ) → Type 0
+abbrev pub AreScalars : List (List ℕ) → Type 0
 AreScalars [] = ⊤
 AreScalars (k ∷ ks) = IsTrue (all_scalars k) × AreScalars ks
 
-after_place : (p : List ℕ) (ks : List (List ℕ)) → IsPlace p → AreScalars ks → IsPlace (place_after p ks)
+pub after_place : (p : List ℕ) (ks : List (List ℕ)) → IsPlace p → AreScalars ks → IsPlace (place_after p ks)
 after_place p [] h s = h
 after_place p (k ∷ ks) h s = after_place (at_key p k) ks (key_place p k h s.0) s.1
 
@@ -200,7 +200,7 @@ unescaped (c ∷ cs) h =
     let q = and_parts _ (all_scalars []) (unescaped_char c p.0) in
     and_from _ _ q.0 (unescaped cs p.1)
 
-tokens_scalars : (ks : List (List ℕ)) → IsTrue (all_scalars (pointer_text ks)) → AreScalars ks
+pub tokens_scalars : (ks : List (List ℕ)) → IsTrue (all_scalars (pointer_text ks)) → AreScalars ks
 tokens_scalars [] h = tt
 tokens_scalars (k ∷ ks) h =
     let p = and_parts (scalar solidus) (all_scalars (escape k ++ pointer_text ks)) h in

@@ -1,6 +1,6 @@
 -- Positions in a document: schemas, and lists and objects of schemas, with the resources that contain them.
-use Rattle.std.proofs.Common.{◌≡◌, ℕ, zero, suc, ◌+◌, ◌<◌, ◌≤◌, ◌^◌, Bool, true, false, ◌&&◌, ◌||◌, List, [], ◌∷◌, ◌++◌}
-use Rattle.std.proofs.Common.{Option, Some, None, cond, refl, sym, ap, ◌∙◌, true≢false, subst, arith, encode_utf8_all}
+use Rattle.std.proofs.Common.{◌≡◌, ℕ, zero, suc, ◌<◌, ◌^◌, Bool, true, false, List, [], ◌∷◌, ◌++◌}
+use Rattle.std.proofs.Common.{Option, Some, None, cond, refl, sym, ap, ◌∙◌, true≢false, arith, encode_utf8_all}
 use Rattle.std.proofs.lemmas.Bool.{or_parts, false_from_ne_true}
 use Rattle.std.specs.Fmt.{decimal}
 use Rattle.std.specs.Option.{option_map_or}
@@ -15,7 +15,7 @@ use Rattle.tinyjson_schema_keywords.specs.References.{is_schema_form}
 use Rattle.tinyjson_schema_keywords.specs.declared.keyword.Form.{Form}
 use Rattle.tinyjson_schema_keywords.specs.declared.keyword.Form.TheVariants as form
 use Rattle.tinyjson_schema_keywords.specs.declared.keyword.Keyword.TheVariants as kw
-use Rattle.tinyjson_schema_bundle.specs.Bundles.{Marked, token_text, at_key, at_index, begins_pointer}
+use Rattle.tinyjson_schema_bundle.specs.Bundles.{token_text, at_key, at_index, begins_pointer}
 use Rattle.tinyjson_schema_bundle.specs.Bundles.{is_empty, base_by, base_in, is_resource}
 use Rattle.tinyjson_schema_bundle.specs.Bundles.{resource_marks, marks_in, marks_among, marks_within, marks_of}
 use Rattle.tinyjson_schema_bundle.specs.Scopes.{is_within}
@@ -23,7 +23,7 @@ use Rattle.tinyjson_schema_bundle.specs.declared.mark.Kind.TheVariants as kind
 use Rattle.tinyjson_schema_laws.proofs.Containing.{IsShort, nth_short, found_short, Chain, enclosing}
 use Rattle.tinyjson_schema_laws.proofs.Containing.{enclosing_both, outside_among, no_tree}
 use Rattle.tinyjson_schema_laws.proofs.Containing.{found_among, found_items, found_members, within_itself, within_within, within_key}
-use Rattle.tinyjson_schema_laws.proofs.Containing.{within_index, within_from, not_above, begins_both as begins_more}
+use Rattle.tinyjson_schema_laws.proofs.Containing.{within_index, not_above, begins_both as begins_more}
 use Rattle.tinyjson_schema_laws.proofs.Walk.{found_sound, nth_sound}
 
 -- ---- chains of resources

@@ -32,7 +32,7 @@ use Rattle.tinyjson_schema.specs.Schemas.{is_schema}
 use Rattle.tinyjson_schema_laws.specs.Scoped.{Scope, base, outermost, dynamic_in, leads_in, led_to, located, located_at, target_in}
 use Rattle.tinyjson_schema_laws.specs.Scoped.{base_within}
 use Rattle.tinyjson_schema_laws.specs.Laws.{BeginsIn}
-use Rattle.tinyjson_schema_laws.specs.Leading.{lead_by, lead_in, lead_among, lead_in_list, lead_in_map, all_lead}
+use Rattle.tinyjson_schema_laws.specs.Leading.{to_place, lead_by, lead_in, lead_among, lead_in_list, lead_in_map, all_lead}
 use Rattle.tinyjson_schema_laws.proofs.Pointed.{is_kept, picked, changed, found_pointed}
 use Rattle.tinyjson_schema_laws.proofs.Walk.{IsBundled, AreMatched, lead_found, walked}
 use Rattle.tinyjson_schema_laws.proofs.Places.{IsPlace, IfPlace, place_found, dynamic_found, first_found}
@@ -142,14 +142,14 @@ module _ (t : Tree) (sound : IsTree t) (z : List ℕ) (copies : List Reached)
   module _ (fit : is_schema root true root ≡ true) (leading : all_lead t ≡ true) where
     -- the second schema is the first one bundled
     abbrev pub Bundled : List ℕ → Tree → Tree → Type 0
-    Bundled b s r = IsBundled root (marks_of t) guide b s r
+    Bundled b s r = IsBundled root (to_place (marks_of t)) guide b s r
 
     abbrev Matched : Option Tree → Option (List ℕ × Tree) → Type 0
-    Matched = AreMatched root (marks_of t) guide
+    Matched = AreMatched root (to_place (marks_of t)) guide
 
     at_tokens : (o : Option (List (List ℕ))) → Matched (option_and_then (schema_from root) o) (option_and_then (located form.Schema [] t) o)
     at_tokens None = tt
-    at_tokens (Some ks) = walked root (marks_of t) guide ks form.Schema [] [] t sound leading (true, fit)
+    at_tokens (Some ks) = walked root (to_place (marks_of t)) guide ks form.Schema [] [] t sound leading (true, fit)
 
     at_bytes : (ds : List ℕ) → begins_pointer ds ≡ true
         → Matched (at_fragment root ds) (cond (is_utf8 ds) (option_and_then (located form.Schema [] t) (pointer_tokens (chars ds))) None)
@@ -243,7 +243,7 @@ module _ (t : Tree) (sound : IsTree t) (z : List ℕ) (copies : List Reached)
 
       -- the target of the keyword of a schema
       module _ (k : Keyword) (is : form_at (encode_utf8_all (name k)) ≡ form.Reference) (same : encode_utf8_all (name k) ≡ name k) where
-        in_members : (p : List ℕ) (ms : Members) → lead_among (marks_of t) (base c) ms ≡ true
+        in_members : (p : List ℕ) (ms : Members) → lead_among (to_place (marks_of t)) (base c) ms ≡ true
             → AreLed (option_and_then (target root) (find (name k) (pointed_among guide (base c) p ms)))
             (option_map in_scope (option_and_then (located_at t) (option_and_then (led_to (marks_of t) c (is_dynamic (name k))) (find
             (name k) ms))))
@@ -269,16 +269,17 @@ module _ (t : Tree) (sound : IsTree t) (z : List ℕ) (copies : List Reached)
                 (reference_led (is_dynamic (name k)) w
                 (sym (ap (λ x. is_some (led_to (marks_of t) (base c ∷ []) (is_dynamic x) w)) same)
                 ∙ (sym (ap (λ f. lead_by f (is_some (led_to (marks_of t) (base c ∷ []) (is_dynamic (encode_utf8_all (name k))) w))
-                (lead_in (marks_of t) (base c) w) (lead_in_list (marks_of t) (base c) w) (lead_in_map (marks_of t) (base c) w)) is)
-                ∙ lead_found (marks_of t) (base c) (name k) ms w lead e)))
+                (lead_in (to_place (marks_of t)) (base c) w) (lead_in_list (to_place (marks_of t)) (base c) w)
+                (lead_in_map (to_place (marks_of t)) (base c) w)) is)
+                ∙ lead_found (to_place (marks_of t)) (base c) (name k) ms w lead e)))
 
         pub keyword_led : (s r : Tree) → Bundled (base c) s r → AreLed (referenced root k r) (target_in t c k s)
         keyword_led s r h = subst (λ x. AreLed (option_and_then (target root) (schema_at x k)) (target_in t c k s)) (sym h.made)
             (by s h.around h.based h.leading)
           where
-            by : (s : Tree) (d : List ℕ) → base_in d s ≡ base c → lead_in (marks_of t) d s ≡ true
+            by : (s : Tree) (d : List ℕ) → base_in d s ≡ base c → lead_in (to_place (marks_of t)) d s ≡ true
                 → AreLed (option_and_then (target root) (schema_at (pointed guide d h.place s) k)) (target_in t c k s)
             by (object ms) d e lead = subst (λ b. AreLed (option_and_then (target root) (find (name k)
                 (pointed_among guide b h.place ms))) (target_in t c k (object ms)))
-                (sym e) (in_members h.place ms (subst (λ b. lead_among (marks_of t) b ms ≡ true) e lead))
+                (sym e) (in_members h.place ms (subst (λ b. lead_among (to_place (marks_of t)) b ms ≡ true) e lead))
             by _ d e lead = tt

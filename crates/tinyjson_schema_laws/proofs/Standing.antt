@@ -1,12 +1,12 @@
 -- What the bundled document keeps of the dynamic scope of a schema is the scope that a state has there.
-use Rattle.std.proofs.Common.{◌≡◌, ◌⊎◌, inl, inr, ⊎_elim, ℕ, Bool, true, false, ◌&&◌, ◌||◌, List, [], ◌∷◌, ◌++◌}
+use Rattle.std.proofs.Common.{◌≡◌, ◌⊎◌, inl, inr, ℕ, Bool, true, false, ◌&&◌, ◌||◌, List, [], ◌∷◌, ◌++◌}
 use Rattle.std.proofs.Common.{Option, Some, None, cond, refl, sym, ap, ◌∙◌, true≢false, subst, bytes_eq}
-use Rattle.std.proofs.lemmas.Bool.{and_parts, or_parts}
+use Rattle.std.proofs.lemmas.Bool.{and_parts}
 use Rattle.std.proofs.lemmas.Slice.Eq.{bytes_eq-Decides}
 use Rattle.std.specs.Option.{option_map_or}
-use Rattle.std.specs.Prelude.{⊤, unwrap_or, is_none}
+use Rattle.std.specs.Prelude.{⊤, is_none}
 use Rattle.tinyjson.specs.Access.{is_string}
-use Rattle.tinyjson.specs.Tree.{Tree, string, object, Members}
+use Rattle.tinyjson.specs.Tree.{Tree, string, object}
 use Rattle.tinyjson_grammar.specs.Soundness.{IsTree}
 use Rattle.tinyjson_schema_keywords.specs.Applied.{schema_at}
 use Rattle.tinyjson_schema_keywords.specs.declared.keyword.Form.TheVariants as form
@@ -17,8 +17,8 @@ use Rattle.tinyjson_schema_bundle.specs.Bundles.{Marked, is_empty, base_by, base
 use Rattle.tinyjson_schema_bundle.specs.Scopes as bundle
 use Rattle.tinyjson_schema_bundle.specs.Scopes.{Reached, from_root, is_within, is_between, name_in, settled, is_contested}
 use Rattle.tinyjson_schema_bundle.specs.Scopes.{is_entering, entered_by, scope_by, scope_at, home, reached, is_same}
-use Rattle.tinyjson_schema_laws.proofs.Containing.{IsShort, Chain, within_itself, within_within, within_from}
-use Rattle.tinyjson_schema_laws.proofs.Positions.{own, IsAt, at_root, own_base}
+use Rattle.tinyjson_schema_laws.proofs.Containing.{IsShort, Chain, within_within, within_from}
+use Rattle.tinyjson_schema_laws.proofs.Positions.{own, IsAt, at_root}
 use Rattle.tinyjson_schema_laws.proofs.States.{along, scope_here, home_base, home_contains, scope_reached}
 use Rattle.tinyjson_schema_laws.specs.Laws.{kept}
 use Rattle.tinyjson_schema_laws.specs.Scoped.{Scope, base, entered}

@@ -1,29 +1,22 @@
 -- The scopes of the bundled document along a document: what it keeps of the dynamic scope of each schema.
-use Rattle.std.proofs.Common.{◌≡◌, ℕ, Bool, true, false, ◌&&◌, ◌||◌, List, [], ◌∷◌, ◌++◌}
-use Rattle.std.proofs.Common.{Option, Some, None, cond, refl, sym, ap, ◌∙◌, true≢false, subst, bytes_eq}
+use Rattle.std.proofs.Common.{◌≡◌, ℕ, Bool, true, false, ◌&&◌, List, [], ◌∷◌, ◌++◌}
+use Rattle.std.proofs.Common.{Option, Some, None, cond, refl, sym, ap, ◌∙◌, true≢false, bytes_eq}
 use Rattle.std.proofs.Common.{⊎_elim}
-use Rattle.std.proofs.lemmas.Bool.{and_parts, and_from, and_left, and_right, and_cases, or_parts, false_from_ne_true}
+use Rattle.std.proofs.lemmas.Bool.{and_parts, and_from, and_left, and_right, and_cases, false_from_ne_true}
 use Rattle.std.proofs.lemmas.Slice.Eq.{bytes_eq-Decides}
-use Rattle.std.specs.Option.{option_map_or, option_or}
+use Rattle.std.specs.Option.{option_or}
 use Rattle.std.specs.Prelude.{⊤, unwrap_or, is_none}
-use Rattle.tinyjson.specs.Access.{is_string}
-use Rattle.tinyjson.specs.Tree.{Tree, object, Members}
-use Rattle.tinyjson_grammar.specs.Soundness.{IsTree}
-use Rattle.tinyjson_schema_keywords.specs.Applied.{schema_at}
-use Rattle.tinyjson_schema_keywords.specs.References.{is_schema_form}
+use Rattle.tinyjson.specs.Tree.{Tree, object}
 use Rattle.tinyjson_schema_keywords.specs.declared.keyword.Form.TheVariants as form
-use Rattle.tinyjson_schema_keywords.specs.declared.keyword.Keyword.TheVariants as kw
-use Rattle.uri_reference.specs.Resolving.{without_fragment, fragment_of}
+use Rattle.uri_reference.specs.Resolving.{without_fragment}
 use Rattle.tinyjson_schema_bundle.specs.Bundles.{Marked, begins_pointer, is_empty, base_in, is_resource, marks_of, place_of, is_named}
 use Rattle.tinyjson_schema_bundle.specs.Bundles.{is_dynamic_name}
 use Rattle.tinyjson_schema_bundle.specs.Bundles as names
 use Rattle.tinyjson_schema_bundle.specs.Scopes as bundle
 use Rattle.tinyjson_schema_bundle.specs.Scopes.{Reached, from_root, is_within, is_resource_mark, is_between, name_in, settled, is_contested}
 use Rattle.tinyjson_schema_bundle.specs.Scopes.{is_entering, entered_by, scope_by, scope_at, innermost, home, reached, is_same}
-use Rattle.tinyjson_schema_laws.proofs.Containing.{IsShort, Chain, enclosing, within_itself, within_within, within_begins, within_from}
-use Rattle.tinyjson_schema_laws.proofs.Positions.{IsUnder, IsNested, under_more, own, top, IsAt, at_root, own_base, chain_here, own_nested}
-use Rattle.tinyjson_schema_laws.specs.Laws.{kept}
-use Rattle.tinyjson_schema_laws.specs.Scoped.{Scope, base, entered}
+use Rattle.tinyjson_schema_laws.proofs.Containing.{Chain, enclosing, within_itself, within_within, within_begins, within_from}
+use Rattle.tinyjson_schema_laws.proofs.Positions.{IsUnder, IsNested, own, top, IsAt, own_base, chain_here, own_nested}
 
 -- ---- resources that are entered again
 
@@ -228,6 +221,9 @@ module _ (t : Tree) where
     pub home_base : (home all r p).0 ≡ base_in d s
     home_base = ap (λ x. x.0) (home_inner ∙ head_top (own d p s ch)) ∙ own_base t d p s ch at
 
+    pub home_first : home all r p ≡ top t (own d p s ch)
+    home_first = home_inner ∙ head_top (own d p s ch)
+
     inner_contains : is_within inner.1 p ≡ true
     inner_contains = by s
       where
@@ -249,6 +245,10 @@ module _ (t : Tree) where
     inner_chain : enclosing inner.1 all [] ≡ own d p s ch
     inner_chain = trim all r all inner.1 p [] inner_contains ∙ (ap (trimmed all r inner.1) (chain_here t d p s ch at)
         ∙ trimmed_top all r (own d p s ch) (own_nested t d p s ch at))
+
+    pub home_again : home all r (home all r p).1 ≡ home all r p
+    home_again = ap (λ x. home all r x.1) home_inner ∙ (home_head all r inner.1 (within_begins inner.1 p inner_contains at.begins)
+        ∙ (ap (head all r (r, [])) inner_chain ∙ sym home_inner))
 
     -- at its home the scope is the same
     pub scope_home : (st : Reached) → scope_at all r st (home all r p).1 ≡ scope_at all r st p

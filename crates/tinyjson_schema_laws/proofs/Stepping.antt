@@ -15,8 +15,8 @@ use Rattle.tinyjson_schema.specs.Valid as valid
 use Rattle.tinyjson_schema.specs.Valid.{Root}
 use Rattle.tinyjson_schema_laws.specs.Scoped as scoped
 use Rattle.tinyjson_schema_laws.specs.Scoped.{Scope, Scoped, entered, inner, target_in}
-use Rattle.tinyjson_schema_laws.proofs.Alike.{is_here, ItemsBelow, MembersBelow, Here, Under, accepts_same, evaluates_same}
-use Rattle.tinyjson_schema_laws.proofs.Bisimilar.{ValueRel, LedRel, Simulates}
+use Rattle.tinyjson_schema_laws.proofs.Alike.{is_here, here_applied, ItemsBelow, MembersBelow, Here, Under, accepts_same, evaluates_same}
+use Rattle.tinyjson_schema_laws.proofs.Bisimilar.{ValueRel, LedRel, Simulates, is_applied}
 use Rattle.tinyjson_schema_laws.proofs.Relations.{value_map, led_map}
 
 -- ---- more nested schemas
@@ -58,7 +58,8 @@ module _ (t whole : Tree) (B : Scope → Tree → Tree → Type 0) (sim : Simula
     module _ (members : MembersBelow Below (members_in u)) (items : ItemsBelow Below (items_in u)) (c : Scope) (s r : Tree) (m : B c s r)
         (here : (k : Keyword) → is_here k ≡ true
         → ValueRel (λ q v. HereIn (entered c q) q v) (form_of k) (schema_at s k) (schema_at r k))
-        (under : (k : Keyword) → ValueRel (λ q v. UnderIn (entered c q) q v) (form_of k) (schema_at s k) (schema_at r k))
+        (under : (k : Keyword) → is_applied k ≡ true → ValueRel (λ q v. UnderIn (entered c q) q v) (form_of k) (schema_at s k)
+        (schema_at r k))
         (led : (k : Keyword) → is_reference k ≡ true → LedRel HereIn (referenced whole k r) (target_in t c k s))
       where
         references_accept : scoped.reference_accepts t formats a c s u ≡ valid.reference_accepts whole b.accepts r u
@@ -97,9 +98,9 @@ module _ (t whole : Tree) (B : Scope → Tree → Tree → Type 0) (sim : Simula
   agree_one : (a : Scoped) (b : Answers) → Agree a b → Agree (scoped.by_rules t formats a) (valid.by_rules in_whole b)
   agree_one a b h c s r m u = step a b u (λ w. ⊤) (all_members (members_in u)) (all_items (items_in u)) c s r m
       (λ k e. value_map (λ q v. B (entered c q) q v) (λ q v. HereIn a b u (λ w. ⊤) (entered c q) q v) (form_of k) _ _
-      (λ q v l g. h (entered c q) q v g u) (sim.parts c s r m k))
-      (λ k. value_map (λ q v. B (entered c q) q v) (λ q v. UnderIn a b u (λ w. ⊤) (entered c q) q v) (form_of k) _ _
-      (λ q v l g w j. (h (entered c q) q v g w).0) (sim.parts c s r m k))
+      (λ q v l g. h (entered c q) q v g u) (sim.parts c s r m k (here_applied k e)))
+      (λ k e. value_map (λ q v. B (entered c q) q v) (λ q v. UnderIn a b u (λ w. ⊤) (entered c q) q v) (form_of k) _ _
+      (λ q v l g w j. (h (entered c q) q v g w).0) (sim.parts c s r m k e))
       (λ k e. led_map B (HereIn a b u (λ w. ⊤)) _ _ (λ d q v f g. h d q v g u) (sim.led c s r m k e))
 
   -- at each number of nested schemas the results are the same, if those of deeper ones are

@@ -1,6 +1,6 @@
 -- Tokens lead in the bundled document to the bundled schema that is where they lead in the document.
 use Rattle.std.proofs.Common.{◌≡◌, ℕ, zero, suc, Bool, true, false, List, [], ◌∷◌, Option, Some, None}
-use Rattle.std.proofs.Common.{cond, is_some, refl, sym, ap, ◌∙◌, true≢false, bytes_eq, subst, option_map, encode_utf8_all}
+use Rattle.std.proofs.Common.{cond, refl, sym, ap, ◌∙◌, true≢false, bytes_eq, subst, option_map, encode_utf8_all}
 use Rattle.std.proofs.lemmas.Bool.{and_parts}
 use Rattle.std.proofs.lemmas.Option.{same_Some}
 use Rattle.std.proofs.lemmas.Slice.Eq.{bytes_eq-Decides}
@@ -17,10 +17,10 @@ use Rattle.tinyjson_schema_keywords.specs.References.{form_in, form_after, is_sc
 use Rattle.tinyjson_schema_keywords.specs.declared.keyword.Form.{Form}
 use Rattle.tinyjson_schema_keywords.specs.declared.keyword.Form.TheVariants as form
 use Rattle.tinyjson_schema_bundle.specs.Bundles.{Leads, pointed, pointed_among, pointed_list, pointed_map, pointed_items, pointed_members}
-use Rattle.tinyjson_schema_bundle.specs.Bundles.{Marked, is_dynamic, at_key, at_index, base_in}
+use Rattle.tinyjson_schema_bundle.specs.Bundles.{is_dynamic, at_key, at_index, base_in}
 use Rattle.tinyjson_schema.specs.Circles.{leads}
 use Rattle.tinyjson_schema.specs.Schemas.{fits, is_schema, keywords_fit, is_schema_list, is_schema_map, are_schemas, have_schemas}
-use Rattle.tinyjson_schema_laws.specs.Scoped.{located, base_within, led_to}
+use Rattle.tinyjson_schema_laws.specs.Scoped.{located, base_within}
 use Rattle.tinyjson_schema_laws.specs.Leading.{lead_by, lead_in, lead_among, lead_in_list, lead_in_map, lead_of_items, lead_of_members}
 use Rattle.tinyjson_schema_laws.proofs.Pointed.{is_kept, picked, changed, found_pointed}
 
@@ -67,7 +67,7 @@ and_then_none : {A B : Type 0} (g : A → Option B) (o : Option A) → ((v : A) 
 and_then_none g None h = refl
 and_then_none g (Some v) h = h v
 
-dead_located : (ks : List (List ℕ)) (f : Form) (b : List ℕ) (w : Tree) → is_live f ≡ false → located f b w ks ≡ None
+pub dead_located : (ks : List (List ℕ)) (f : Form) (b : List ℕ) (w : Tree) → is_live f ≡ false → located f b w ks ≡ None
 dead_located [] form.Schema b w e = absurd (true≢false e)
 dead_located [] _ b w e = refl
 dead_located (k ∷ ks) f b w e = and_then_none (λ v. located (form_in f k) (base_within f b w) v ks) (step w k)
@@ -79,23 +79,23 @@ cond_none false = refl
 
 -- ---- schemas of which the references lead on
 
-module _ (marks : List Marked) where
+module _ (on : List ℕ → Bool → Tree → Bool) where
   -- those in a value of the form do; b is the base URI around it
   abbrev pub Lead : Form → List ℕ → Tree → Type 0
-  Lead form.Schema b w = lead_in marks b w ≡ true
-  Lead form.Schemas b w = lead_in_list marks b w ≡ true
-  Lead form.SchemaMap b w = lead_in_map marks b w ≡ true
-  Lead form.PatternMap b w = lead_in_map marks b w ≡ true
+  Lead form.Schema b w = lead_in on b w ≡ true
+  Lead form.Schemas b w = lead_in_list on b w ≡ true
+  Lead form.SchemaMap b w = lead_in_map on b w ≡ true
+  Lead form.PatternMap b w = lead_in_map on b w ≡ true
   Lead _ b w = ⊤
 
   abbrev lead_of : List ℕ → List ℕ → Tree → Bool
-  lead_of b k w = lead_by (form_at (encode_utf8_all k)) (is_some (led_to marks (b ∷ []) (is_dynamic (encode_utf8_all k)) w))
-      (lead_in marks b w) (lead_in_list marks b w) (lead_in_map marks b w)
+  lead_of b k w = lead_by (form_at (encode_utf8_all k)) (on b (is_dynamic (encode_utf8_all k)) w)
+      (lead_in on b w) (lead_in_list on b w) (lead_in_map on b w)
 
-  pub lead_found : (b k : List ℕ) (ms : Members) (v : Tree) → lead_among marks b ms ≡ true → find k ms ≡ Some v → lead_of b k v ≡ true
+  pub lead_found : (b k : List ℕ) (ms : Members) (v : Tree) → lead_among on b ms ≡ true → find k ms ≡ Some v → lead_of b k v ≡ true
   lead_found b k no_members v h e = absurd (no_some v e)
   lead_found b k (member l u ms) v h e =
-      by (lead_found b k ms v (and_parts (lead_of b l u) (lead_among marks b ms) h).1) (bytes_eq k l) refl e
+      by (lead_found b k ms v (and_parts (lead_of b l u) (lead_among on b ms) h).1) (bytes_eq k l) refl e
     where
       by : (find k ms ≡ Some v → lead_of b k v ≡ true) → (x : Bool) → bytes_eq k l ≡ x → cond x (Some u) (find k ms) ≡ Some v
           → lead_of b k v ≡ true
@@ -103,37 +103,37 @@ module _ (marks : List Marked) where
           let same : u ≡ v = same_Some u v e in
           let here : l ≡ k = sym ((bytes_eq-Decides k l).0 g) in
           subst (λ w. lead_of b k w ≡ true) same (subst (λ x. lead_of b x u ≡ true) here
-          (and_parts (lead_of b l u) (lead_among marks b ms) h).0)
+          (and_parts (lead_of b l u) (lead_among on b ms) h).0)
       by later false g e = later e
 
   lead_from : (f : Form) (x : Bool) (b : List ℕ) (w : Tree)
-      → lead_by f x (lead_in marks b w) (lead_in_list marks b w) (lead_in_map marks b w) ≡ true → Lead f b w
+      → lead_by f x (lead_in on b w) (lead_in_list on b w) (lead_in_map on b w) ≡ true → Lead f b w
   lead_from form.Schema x b w h = h
   lead_from form.Schemas x b w h = h
   lead_from form.SchemaMap x b w h = h
   lead_from form.PatternMap x b w h = h
   lead_from _ x b w h = tt
 
-  pub lead_member : (b k : List ℕ) (ms : Members) (v : Tree) → lead_among marks b ms ≡ true → find k ms ≡ Some v
+  pub lead_member : (b k : List ℕ) (ms : Members) (v : Tree) → lead_among on b ms ≡ true → find k ms ≡ Some v
       → Lead (form_at (encode_utf8_all k)) b v
   lead_member b k ms v h e = lead_from (form_at (encode_utf8_all k)) _ b v (lead_found b k ms v h e)
 
-  pub lead_item : (b : List ℕ) (ts : Items) (i : ℕ) (v : Tree) → lead_of_items marks b ts ≡ true → nth ts i ≡ Some v
-      → lead_in marks b v ≡ true
+  pub lead_item : (b : List ℕ) (ts : Items) (i : ℕ) (v : Tree) → lead_of_items on b ts ≡ true → nth ts i ≡ Some v
+      → lead_in on b v ≡ true
   lead_item b no_items i v h e = absurd (no_some v e)
-  lead_item b (item t ts) zero v h e = subst (λ w. lead_in marks b w ≡ true) (same_Some t v e)
-      (and_parts (lead_in marks b t) (lead_of_items marks b ts) h).0
-  lead_item b (item t ts) (suc i) v h e = lead_item b ts i v (and_parts (lead_in marks b t) (lead_of_items marks b ts) h).1 e
+  lead_item b (item t ts) zero v h e = subst (λ w. lead_in on b w ≡ true) (same_Some t v e)
+      (and_parts (lead_in on b t) (lead_of_items on b ts) h).0
+  lead_item b (item t ts) (suc i) v h e = lead_item b ts i v (and_parts (lead_in on b t) (lead_of_items on b ts) h).1 e
 
-  pub lead_entry : (b k : List ℕ) (ms : Members) (v : Tree) → lead_of_members marks b ms ≡ true → find k ms ≡ Some v
-      → lead_in marks b v ≡ true
+  pub lead_entry : (b k : List ℕ) (ms : Members) (v : Tree) → lead_of_members on b ms ≡ true → find k ms ≡ Some v
+      → lead_in on b v ≡ true
   lead_entry b k no_members v h e = absurd (no_some v e)
   lead_entry b k (member l u ms) v h e =
-      by (lead_entry b k ms v (and_parts (lead_in marks b u) (lead_of_members marks b ms) h).1) (bytes_eq k l) e
+      by (lead_entry b k ms v (and_parts (lead_in on b u) (lead_of_members on b ms) h).1) (bytes_eq k l) e
     where
-      by : (find k ms ≡ Some v → lead_in marks b v ≡ true) → (x : Bool) → cond x (Some u) (find k ms) ≡ Some v → lead_in marks b v ≡ true
-      by later true e = subst (λ w. lead_in marks b w ≡ true) (same_Some u v e)
-          (and_parts (lead_in marks b u) (lead_of_members marks b ms) h).0
+      by : (find k ms ≡ Some v → lead_in on b v ≡ true) → (x : Bool) → cond x (Some u) (find k ms) ≡ Some v → lead_in on b v ≡ true
+      by later true e = subst (λ w. lead_in on b w ≡ true) (same_Some u v e)
+          (and_parts (lead_in on b u) (lead_of_members on b ms) h).0
       by later false e = later e
 
 -- ---- schemas that can be applied in the root schema
@@ -185,7 +185,7 @@ module _ (root : Tree) where
           (false, (and_parts (is_schema root false u) (have_schemas root ms) h).0)
       by later false e = later e
 
-  module _ (marks : List Marked) (to : Leads) where
+  module _ (on : List ℕ → Bool → Tree → Bool) (to : Leads) where
     -- what the form f is bundled to
     abbrev pub form_pointed : Form → List ℕ → List ℕ → Tree → Tree
     form_pointed form.Schema b p w = pointed to b p w
@@ -203,7 +203,7 @@ module _ (root : Tree) where
       pub made : t ≡ pointed to around place s
       pub fit : is_schema root whole t ≡ true
       pub sound : IsTree s
-      pub leading : lead_in marks around s ≡ true
+      pub leading : lead_in on around s ≡ true
 
     abbrev pub AreMatched : Option Tree → Option (List ℕ × Tree) → Type 0
     AreMatched None None = ⊤
@@ -215,11 +215,11 @@ module _ (root : Tree) where
     led f ks o = cond (is_schema_form (form_after f ks)) (option_and_then (λ u. part_at u ks) o) None
 
     abbrev Leading : List (List ℕ) → Form → Type 0
-    Leading ks f = (b p : List ℕ) (w : Tree) → IsTree w → Lead marks f b w → Fit f (form_pointed f b p w)
+    Leading ks f = (b p : List ℕ) (w : Tree) → IsTree w → Lead on f b w → Fit f (form_pointed f b p w)
         → AreMatched (led f ks (Some (form_pointed f b p w))) (located f b w ks)
 
     next : (ks : List (List ℕ)) (f : Form) → Leading ks f → (b q : List ℕ) (o : Option Tree) (x : Option Tree)
-        → x ≡ option_map (form_pointed f b q) o → ((v : Tree) → o ≡ Some v → IsTree v) → ((v : Tree) → o ≡ Some v → Lead marks f b v)
+        → x ≡ option_map (form_pointed f b q) o → ((v : Tree) → o ≡ Some v → IsTree v) → ((v : Tree) → o ≡ Some v → Lead on f b v)
         → ((v : Tree) → x ≡ Some v → Fit f v)
         → AreMatched (led f ks x) (option_and_then (λ v. located f b v ks) o)
     next ks f ih b q None x e sound lead fit = subst (λ y. AreMatched y None) (sym (ap (led f ks) e
@@ -237,18 +237,18 @@ module _ (root : Tree) where
     gone ks f b w x e = subst (λ y. AreMatched y (located f b w ks)) (sym (ap (λ c. cond c (part_at x ks) None) (dead_after ks f e)))
         (subst (AreMatched None) (sym (dead_located ks f b w e)) tt)
 
-    live_kept : (f : Form) → is_live f ≡ true → is_kept f ≡ true
+    pub live_kept : (f : Form) → is_live f ≡ true → is_kept f ≡ true
     live_kept form.Base e = e
     live_kept form.Anchor e = e
     live_kept _ e = refl
 
-    live_changed : (f : Form) (b q : List ℕ) (w r : Tree) → is_live f ≡ true
+    pub live_changed : (f : Form) (b q : List ℕ) (w r : Tree) → is_live f ≡ true
         → picked f w r (pointed to b q w) (pointed_list to b q w) (pointed_map to b q w)
         ≡ form_pointed f b q w
     live_changed form.Reference b q w r e = absurd (true≢false (sym e))
     live_changed _ b q w r e = refl
 
-    map_same : (g h : Tree → Tree) (o : Option Tree) → ((v : Tree) → g v ≡ h v) → option_map g o ≡ option_map h o
+    pub map_same : (g h : Tree → Tree) (o : Option Tree) → ((v : Tree) → g v ≡ h v) → option_map g o ≡ option_map h o
     map_same g h o e = λ i. option_map (λ v. e v i) o
 
     pub nth_pointed : (b p : List ℕ) (j : ℕ) (ts : Items) (i : ℕ) → (q : List ℕ) × (nth (pointed_items to b p j ts) i
@@ -272,26 +272,35 @@ module _ (root : Tree) where
     no_step : (f g : Form) (ks : List (List ℕ)) (b : List ℕ) → AreMatched (led f ks None) None
     no_step f g ks b = subst (λ y. AreMatched y None) (sym (cond_none (is_schema_form (form_after f ks)))) tt
 
+    -- the part x at a token of a schema, if it is there as in the bundled schema
+    pub from_found : (k : List ℕ) (ks : List (List ℕ)) (b p : List ℕ) (ms : Members) (x : Option Tree)
+        → x ≡ find k (pointed_among to b p ms) → Leading ks (form_at (encode_utf8_all k)) → AreMembersAt power_width ms
+        → lead_among on b ms ≡ true → ((v : Tree) → x ≡ Some v → Fit (form_at (encode_utf8_all k)) v)
+        → AreMatched (led (form_at (encode_utf8_all k)) ks x)
+        (option_and_then (λ v. located (form_at (encode_utf8_all k)) b v ks) (find k ms))
+    from_found k ks b p ms x same ih sound lead fit = by (is_live (form_at (encode_utf8_all k))) refl
+      where
+        by : (l : Bool) → is_live (form_at (encode_utf8_all k)) ≡ l
+            → AreMatched (led (form_at (encode_utf8_all k)) ks x)
+            (option_and_then (λ v. located (form_at (encode_utf8_all k)) b v ks) (find k ms))
+        by false e = dead ks (form_at (encode_utf8_all k)) b (find k ms) x e
+        by true e = next ks (form_at (encode_utf8_all k)) ih b (at_key p k) (find k ms) x
+            (same ∙ (found_pointed to b p k ms (live_kept (form_at (encode_utf8_all k)) e)
+            ∙ map_same (changed to b p k) (form_pointed (form_at (encode_utf8_all k)) b (at_key p k)) (find k ms)
+            (λ v. live_changed (form_at (encode_utf8_all k)) b (at_key p k) v _ e)))
+            (λ v. found_sound k ms v sound) (λ v. lead_member on b k ms v lead) fit
+
     in_schema : (k : List ℕ) (ks : List (List ℕ)) (b p : List ℕ) (ms : Members) (whole : Bool)
-        → Leading ks (form_at (encode_utf8_all k)) → AreMembersAt power_width ms → lead_among marks b ms ≡ true
+        → Leading ks (form_at (encode_utf8_all k)) → AreMembersAt power_width ms → lead_among on b ms ≡ true
         → keywords_fit root whole (pointed_among to b p ms) ≡ true
         → AreMatched (led (form_at (encode_utf8_all k)) ks (find k (pointed_among to b p ms)))
         (option_and_then (λ v. located (form_at (encode_utf8_all k)) b v ks) (find k ms))
-    in_schema k ks b p ms whole ih sound lead fit = by (is_live (form_at (encode_utf8_all k))) refl
-      where
-        by : (x : Bool) → is_live (form_at (encode_utf8_all k)) ≡ x
-            → AreMatched (led (form_at (encode_utf8_all k)) ks (find k (pointed_among to b p ms)))
-            (option_and_then (λ v. located (form_at (encode_utf8_all k)) b v ks) (find k ms))
-        by false e = dead ks (form_at (encode_utf8_all k)) b (find k ms) (find k (pointed_among to b p ms)) e
-        by true e = next ks (form_at (encode_utf8_all k)) ih b (at_key p k) (find k ms) (find k (pointed_among to b p ms))
-            (found_pointed to b p k ms (live_kept (form_at (encode_utf8_all k)) e)
-            ∙ map_same (changed to b p k) (form_pointed (form_at (encode_utf8_all k)) b (at_key p k)) (find k ms)
-            (λ v. live_changed (form_at (encode_utf8_all k)) b (at_key p k) v _ e))
-            (λ v. found_sound k ms v sound) (λ v. lead_member marks b k ms v lead) (λ v. fit_member k (pointed_among to b p ms) v whole fit)
+    in_schema k ks b p ms whole ih sound lead fit = from_found k ks b p ms (find k (pointed_among to b p ms)) refl ih sound lead
+        (λ v. fit_member k (pointed_among to b p ms) v whole fit)
 
     in_list : (k : List ℕ) (ks : List (List ℕ)) (b p : List ℕ) (ts : Items) (o : Option ℕ) → Leading ks form.Schema
         → AreItemsAt power_width ts
-        → lead_of_items marks b ts ≡ true
+        → lead_of_items on b ts ≡ true
         → are_schemas root (pointed_items to b p 0 ts) ≡ true
         → AreMatched (led form.Schema ks (item_of (pointed_items to b p 0 ts) o)) (option_and_then (λ v. located form.Schema b v ks)
         (item_of ts o))
@@ -299,19 +308,19 @@ module _ (root : Tree) where
     in_list k ks b p ts (Some i) ih sound lead fit =
         let n = nth_pointed b p 0 ts i in
         next ks form.Schema ih b n.0 (nth ts i) (nth (pointed_items to b p 0 ts) i) n.1 (λ v. nth_sound ts i v sound)
-        (λ v. lead_item marks b ts i v lead)
+        (λ v. lead_item on b ts i v lead)
         (λ v. fit_item (pointed_items to b p 0 ts) i v fit)
 
     in_map : (k : List ℕ) (ks : List (List ℕ)) (b p : List ℕ) (ms : Members) → Leading ks form.Schema → AreMembersAt power_width ms
-        → lead_of_members marks b ms ≡ true
+        → lead_of_members on b ms ≡ true
         → have_schemas root (pointed_members to b p ms) ≡ true
         → AreMatched (led form.Schema ks (find k (pointed_members to b p ms))) (option_and_then (λ v. located form.Schema b v ks)
         (find k ms))
     in_map k ks b p ms ih sound lead fit = next ks form.Schema ih b (at_key p k) (find k ms) (find k (pointed_members to b p ms))
-        (find_pointed b p k ms) (λ v. found_sound k ms v sound) (λ v. lead_entry marks b k ms v lead) (λ v. fit_entry k
+        (find_pointed b p k ms) (λ v. found_sound k ms v sound) (λ v. lead_entry on b k ms v lead) (λ v. fit_entry k
         (pointed_members to b p ms) v fit)
 
-    pub walked : (ks : List (List ℕ)) (f : Form) (b p : List ℕ) (w : Tree) → IsTree w → Lead marks f b w → Fit f (form_pointed f b p w)
+    pub walked : (ks : List (List ℕ)) (f : Form) (b p : List ℕ) (w : Tree) → IsTree w → Lead on f b w → Fit f (form_pointed f b p w)
         → AreMatched (led f ks (Some (form_pointed f b p w))) (located f b w ks)
     walked [] form.Schema b p w sound lead fit = record {
       around = b;

@@ -1,17 +1,18 @@
 -- What the laws state.
 use Rattle.std.specs.Option.{option_or}
-use Rattle.std.specs.Prelude.{◌≡◌, ◌↔◌, ℕ, Bool, true, false, List, [], ◌∷◌, Some, ⊤, unwrap_or}
+use Rattle.std.specs.Prelude.{◌≡◌, ◌≤◌, ◌↔◌, ◌⊎◌, ℕ, Bool, true, false, List, [], ◌∷◌, Some, ⊤, unwrap_or, length}
 use Rattle.tinyjson.specs.Soundness.{IsTree}
 use Rattle.tinyjson.specs.Tree.{Tree}
 use Rattle.uri_reference.specs.Resolving.{without_fragment}
 use Rattle.tinyjson_schema_bundle.specs.Bundles as bundle
 use Rattle.tinyjson_schema_bundle.specs.Bundles.{Marked, marks_of, base_in, is_bundle, with_name, dynamic_place, begins_pointer}
-use Rattle.tinyjson_schema_bundle.specs.Scopes.{some_contested, bundled, entered, settled}
+use Rattle.tinyjson_schema_bundle.specs.Scopes.{Reached, is_contested, some_contested, bundled, entered, settled}
 use Rattle.tinyjson_schema.specs.Evaluated.{Answers, Child}
 use Rattle.tinyjson_schema.specs.Schemas.{is_schema}
 use Rattle.tinyjson_schema.specs.Valid.{Root, judge, IsValidIn}
-use Rattle.tinyjson_schema_laws.specs.Leading.{all_lead}
+use Rattle.tinyjson_schema_laws.specs.Leading.{all_lead, all_located}
 use Rattle.tinyjson_schema_laws.specs.Scoped.{Scoped, Scope, IsValidScoped, judged, outermost}
+use Rattle.tinyjson_schema_laws.specs.Short.{IsShort}
 
 -- The document has several resources, no dynamic reference in it depends on what has led to it, and bundled it can be
 -- applied. Each of its references leads to a place in it.
@@ -72,3 +73,46 @@ ScopeDecides = (t : Tree) (c : Scope) → BeginsIn (base_in [] t) c → AreUris 
     → begins_pointer n ≡ false → dynamic_place (marks_of t) (with_name u n) ≡ Some q
     → unwrap_or (option_or (bundle.outermost (marks_of t) (base_in [] t) n q) (settled (kept (marks_of t) (base_in [] t) c) n)) q
     ≡ unwrap_or (outermost (marks_of t) c n) q
+
+-- ---- documents with copies
+
+-- m is one of the marks
+abbrev pub IsOneOf : List Marked → Marked → Type 0
+IsOneOf [] m = ⊥
+IsOneOf (n ∷ ns) m = (m ≡ n) ⊎ IsOneOf ns m
+
+-- given the marks of a document, and the URI of its root
+module _ (all : List Marked) (r : List ℕ) where
+  -- Each mark of the scope is one of the document's, and contested.
+  abbrev pub IsScope : List Marked → Type 0
+  IsScope [] = ⊤
+  IsScope (m ∷ c) = IsOneOf all m × (is_contested all r m ≡ true) × IsScope c
+
+  abbrev pub HaveScopes : List Reached → Type 0
+  HaveScopes [] = ⊤
+  HaveScopes (s ∷ ss) = IsScope s.0 × HaveScopes ss
+
+-- The states for which a bundled document has copies. Their scopes have contested names of the document.
+pub record AreCopies (t : Tree) (copies : List Reached) : Type 0 where
+  pub few : length copies ≤ 1000
+  pub scopes : HaveScopes (marks_of t) (base_in [] t) copies
+
+-- The document has several resources, each of its references leads to a schema in it, no array in it has more than
+-- 2^64 items, and bundled with these copies it can be applied.
+pub record IsCopied (t : Tree) (copies : List Reached) : Type 0 where
+  pub sound : IsTree t
+  pub short : IsShort t
+  pub several : is_bundle (marks_of t) ≡ true
+  pub applied : is_schema (bundled copies t) true (bundled copies t) ≡ true
+  pub leading : all_located t ≡ true
+  pub states : AreCopies t copies
+
+-- The document accepts by its dynamic scope exactly the values that the bundled document with its copies accepts.
+abbrev pub ExactCopied : Type 0
+ExactCopied = (t : Tree) (copies : List Reached) → IsCopied t copies → (formats : Bool) (u : Tree)
+    → IsValidScoped t formats u ↔ IsValidIn (record { tree = bundled copies t; formats = formats }) u
+
+-- Such a document decides on each value too.
+abbrev pub DecidedCopied : Type 0
+DecidedCopied = (t : Tree) (copies : List Reached) → IsCopied t copies → (formats : Bool) (u : Tree)
+    → (is : Bool) × (n : ℕ) × ((g : Scoped) → judged t formats n g u ≡ is)

@@ -1,11 +1,11 @@
--- Documents of which all references lead to places in it.
-use Rattle.std.specs.Prelude.{ℕ, Bool, true, ◌&&◌, List, [], ◌∷◌, is_some, encode_utf8_all}
+-- Documents of which all references lead to places in them, or to schemas.
+use Rattle.std.specs.Prelude.{ℕ, Bool, true, ◌&&◌, List, [], ◌∷◌, is_some, option_and_then, encode_utf8_all}
 use Rattle.tinyjson.specs.Tree.{Tree, array, object, Items, no_items, item, Members, no_members, member}
 use Rattle.tinyjson_schema_keywords.specs.Forms.{form_at}
 use Rattle.tinyjson_schema_keywords.specs.declared.keyword.Form.{Form}
 use Rattle.tinyjson_schema_keywords.specs.declared.keyword.Form.TheVariants as form
 use Rattle.tinyjson_schema_bundle.specs.Bundles.{Marked, marks_of, base_in, is_dynamic}
-use Rattle.tinyjson_schema_laws.specs.Scoped.{led_to}
+use Rattle.tinyjson_schema_laws.specs.Scoped.{led_to, located_at}
 
 -- Whether the references in a keyword's value lead on. The flags are given: it is a reference that does, or those in a
 -- schema, a list of schemas or an object of schemas do.
@@ -17,17 +17,17 @@ lead_by form.SchemaMap leads one list entries = entries
 lead_by form.PatternMap leads one list entries = entries
 lead_by _ leads one list entries = true
 
-module _ (ms : List Marked) where
+-- whether a reference leads on, given the base URI of its schema and whether it is `$dynamicRef`
+module _ (leads : List ℕ → Bool → Tree → Bool) where
   abbrev mutual
-    -- Each reference in the schema, and in its subschemas, leads to a place of the document with these marks; b is the
-    -- base URI around it.
+    -- Each reference in the schema, and in its subschemas, does; b is the base URI around it.
     pub lead_in : List ℕ → Tree → Bool
     lead_in b (object ns) = lead_among (base_in b (object ns)) ns
     lead_in b _ = true
 
     pub lead_among : List ℕ → Members → Bool
     lead_among b no_members = true
-    lead_among b (member k w ns) = lead_by (form_at (encode_utf8_all k)) (is_some (led_to ms (b ∷ []) (is_dynamic (encode_utf8_all k)) w))
+    lead_among b (member k w ns) = lead_by (form_at (encode_utf8_all k)) (leads b (is_dynamic (encode_utf8_all k)) w)
         (lead_in b w) (lead_in_list b w) (lead_in_map b w) && lead_among b ns
 
     pub lead_in_list : List ℕ → Tree → Bool
@@ -46,6 +46,18 @@ module _ (ms : List Marked) where
     lead_of_members b no_members = true
     lead_of_members b (member k t ns) = lead_in b t && lead_of_members b ns
 
+-- it leads to a place of the document with the marks
+abbrev pub to_place : List Marked → List ℕ → Bool → Tree → Bool
+to_place ms b dynamic w = is_some (led_to ms (b ∷ []) dynamic w)
+
+-- it leads to a schema of the document
+abbrev pub to_schema : Tree → List ℕ → Bool → Tree → Bool
+to_schema t b dynamic w = is_some (option_and_then (located_at t) (led_to (marks_of t) (b ∷ []) dynamic w))
+
 -- Each reference in the document leads to a place in it.
 abbrev pub all_lead : Tree → Bool
-all_lead t = lead_in (marks_of t) [] t
+all_lead t = lead_in (to_place (marks_of t)) [] t
+
+-- Each reference in the document leads to a schema in it.
+abbrev pub all_located : Tree → Bool
+all_located t = lead_in (to_schema t) [] t

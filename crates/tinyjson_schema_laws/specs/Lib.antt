@@ -1,3 +1,4 @@
 pub mod Leading
 pub mod Laws
 pub mod Scoped
+pub mod Short

@@ -4,7 +4,14 @@
 //! Each law is the contract of a public function that does nothing. The statements are in `specs/`.
 #![tactic(auto)]
 
-ghost use Rattle.tinyjson_schema_laws.specs.Laws.{EachDecided, Exact, SameResults, ScopeDecides};
+ghost use Rattle.tinyjson_schema_laws.specs.Laws.{
+  DecidedCopied,
+  EachDecided,
+  Exact,
+  ExactCopied,
+  SameResults,
+  ScopeDecides,
+};
 
 /// At each number of nested schemas, a document without contested names judges a value by its dynamic
 /// scope as the bundled document does.
@@ -21,6 +28,17 @@ pub fn same_verdict()
 /// Such a document decides on each value at some number of nested schemas, whatever deeper ones say.
 pub fn each_decided()
     ensures { EachDecided }
+{}
+
+/// A document of which the references lead to schemas accepts by its dynamic scope exactly the values
+/// that the bundled one accepts, with copies of resources for contested names.
+pub fn same_verdict_with_copies()
+    ensures { ExactCopied }
+{}
+
+/// Such a document decides on each value too.
+pub fn each_decided_with_copies()
+    ensures { DecidedCopied }
 {}
 
 /// What the bundled document keeps of a dynamic scope decides as the scope does.
