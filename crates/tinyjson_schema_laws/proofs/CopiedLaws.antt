@@ -17,10 +17,10 @@ use Rattle.tinyjson_schema_keywords.specs.declared.keyword.Keyword.{Keyword}
 use Rattle.tinyjson_schema_bundle.specs.Bundles.{Marked, marks_of, place_of, base_in, is_bundle, is_empty, at_key, at_index}
 use Rattle.tinyjson_schema_bundle.specs.Scopes.{Reached, from_root, is_same, is_within, is_between, is_resource_mark, innermost, home}
 use Rattle.tinyjson_schema_bundle.specs.Scopes.{scope_at}
-use Rattle.tinyjson_schema_bundle.specs.Scopes.{is_contested, some_contested, bundled, with_copies, letters}
+use Rattle.tinyjson_schema_bundle.specs.Scopes.{is_contested, some_contested, bundled, with_copies, letters, IsOneOf, IsScope, HaveScopes}
 use Rattle.tinyjson_schema.specs.Schemas.{is_schema}
 use Rattle.tinyjson_schema.specs.Valid.{IsValidIn}
-use Rattle.tinyjson_schema_laws.specs.Laws.{kept, IsCopied, ExactCopied, DecidedCopied, IsOneOf, IsScope, HaveScopes}
+use Rattle.tinyjson_schema_laws.specs.Laws.{kept, IsCopied, ExactCopied, DecidedCopied}
 use Rattle.tinyjson_schema_laws.specs.Leading.{lead_in, to_schema}
 use Rattle.tinyjson_schema_laws.specs.Scoped.{Scope, Scoped, base, entered, led_to, judged, IsValidScoped}
 use Rattle.tinyjson_schema_laws.proofs.Containing.{IsShort, Chain, within_key, within_index, within_within}

@@ -16,7 +16,7 @@ use Rattle.tinyjson_schema_bundle.specs.Scopes.{Reached, is_same, place_in_list,
 
 -- ---- keys that are longer than the others
 
-longer_most : (n l : ℕ) (b : Bool) → nat_lt n l ≡ b → (n ≤ cond b l n) × (l ≤ cond b l n)
+pub longer_most : (n l : ℕ) (b : Bool) → nat_lt n l ≡ b → (n ≤ cond b l n) × (l ≤ cond b l n)
 longer_most n l true e = (omega (arith, ltb-true n l e), omega arith)
 longer_most n l false e = (omega arith, omega (arith, ltb-false n l e))
 

@@ -1,6 +1,6 @@
 -- What is found in the root of a bundled document: `$defs` has the copies, and all else is bundled as without copies.
 use Rattle.std.proofs.Common.{◌≡◌, ◌≢◌, ◌⊎◌, ℕ, ◌≤◌, Bool, true, false, List, [], ◌∷◌, Option, Some, None}
-use Rattle.std.proofs.Common.{refl, sym, ap, ◌∙◌, true≢false, subst, encode_utf8_all, codes, option_map}
+use Rattle.std.proofs.Common.{refl, sym, ap, ◌∙◌, true≢false, subst, encode_utf8_all, codes, option_map, cond, nat_lt}
 use Rattle.std.proofs.Common.{inl, inr}
 use Rattle.std.proofs.Common.{arith}
 use Rattle.std.proofs.lemmas.Option.{same_Some}
@@ -10,14 +10,16 @@ use Rattle.tinyjson.specs.Tree.{Tree, object, Members, no_members, find, put}
 use Rattle.tinyjson_schema_keywords.specs.Applied.{members_in, schema_map_at}
 use Rattle.tinyjson_schema_keywords.specs.Names.{name}
 use Rattle.tinyjson_schema_keywords.specs.declared.keyword.Keyword.TheVariants as kw
-use Rattle.tinyjson_schema_bundle.specs.Bundles.{Leads, marks_of, place_of, base_in, pointed, pointed_among, pointed_map}
+use Rattle.tinyjson_schema_bundle.specs.Bundles.{Marked, Leads, is_place, marks_of, place_of, base_in, pointed, pointed_among, pointed_map}
 use Rattle.tinyjson_schema_bundle.specs.Bundles.{pointed_members}
 use Rattle.tinyjson_schema_bundle.specs.Bundles.{at_key, pointed_list, pointing, is_dynamic}
 use lib.Utf8.{encode}
-use Rattle.tinyjson_schema_bundle.specs.Scopes.{Reached, from_root, some_contested, letters, longest, put_copies, leads_of}
+use Rattle.tinyjson_schema_bundle.specs.Scopes.{Reached, from_root, some_contested, letters, longest, longer, letters_in, most_letters}
+use Rattle.tinyjson_schema_bundle.specs.Scopes.{put_copies, leads_of}
 use Rattle.tinyjson_schema_bundle.specs.Scopes.{copy_of}
 use Rattle.tinyjson_schema_bundle.specs.Scopes.{defs_in, with_defs, with_copies}
 use Rattle.tinyjson_schema.specs.Schemas.{is_schema, is_schema_map}
+use Rattle.tinyjson_schema_laws.proofs.Copies.{longer_most}
 use Rattle.tinyjson_schema_laws.proofs.Pointed.{is_kept, picked, found_pointed, form_named}
 use Rattle.tinyjson_schema_laws.proofs.Walk.{Fit, fit_member, find_pointed}
 
@@ -27,10 +29,21 @@ defs = name kw.Defs
 
 -- Keys of copies have more letters than this, and no key of `$defs` is longer than this.
 abbrev pub most : Tree → ℕ
-most t = longest (schema_map_at t kw.Defs) 0
+most t = most_letters (marks_of t) (longest (schema_map_at t kw.Defs) 0)
+
+most_from : (ms : List Marked) (n : ℕ) → n ≤ most_letters ms n
+most_from [] n = omega arith
+most_from (m ∷ ms) n = by (is_place m.0) (most_from ms n) (most_from ms (longer n (letters_in m.1)))
+  where
+    by : (b : Bool) → n ≤ most_letters ms n → longer n (letters_in m.1) ≤ most_letters ms (longer n (letters_in m.1))
+        → n ≤ most_letters ms (cond b n (longer n (letters_in m.1)))
+    by true h g = h
+    by false h g =
+        let l = (longer_most n (letters_in m.1) (nat_lt n (letters_in m.1)) refl).0 in
+        omega (arith, l, g)
 
 pub longest_most : (t : Tree) → longest (schema_map_at t kw.Defs) 0 ≤ most t
-longest_most t = omega arith
+longest_most t = most_from (marks_of t) (longest (schema_map_at t kw.Defs) 0)
 
 module _ (t : Tree) (copies : List Reached) where
   -- where references lead from a schema in the state, and the bundled document

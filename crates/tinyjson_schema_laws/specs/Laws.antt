@@ -1,12 +1,12 @@
 -- What the laws state.
 use Rattle.std.specs.Option.{option_or}
-use Rattle.std.specs.Prelude.{◌≡◌, ◌≤◌, ◌↔◌, ◌⊎◌, ℕ, Bool, true, false, List, [], ◌∷◌, Some, ⊤, unwrap_or, length}
+use Rattle.std.specs.Prelude.{◌≡◌, ◌↔◌, ℕ, Bool, true, false, List, [], ◌∷◌, Some, ⊤, unwrap_or}
 use Rattle.tinyjson.specs.Soundness.{IsTree}
 use Rattle.tinyjson.specs.Tree.{Tree}
 use Rattle.uri_reference.specs.Resolving.{without_fragment}
 use Rattle.tinyjson_schema_bundle.specs.Bundles as bundle
 use Rattle.tinyjson_schema_bundle.specs.Bundles.{Marked, marks_of, base_in, is_bundle, with_name, dynamic_place, begins_pointer}
-use Rattle.tinyjson_schema_bundle.specs.Scopes.{Reached, is_contested, some_contested, bundled, entered, settled}
+use Rattle.tinyjson_schema_bundle.specs.Scopes.{Reached, AreCopies, some_contested, bundled, entered, settled}
 use Rattle.tinyjson_schema.specs.Evaluated.{Answers, Child}
 use Rattle.tinyjson_schema.specs.Schemas.{is_schema}
 use Rattle.tinyjson_schema.specs.Valid.{Root, judge, IsValidIn}
@@ -75,27 +75,6 @@ ScopeDecides = (t : Tree) (c : Scope) → BeginsIn (base_in [] t) c → AreUris 
     ≡ unwrap_or (outermost (marks_of t) c n) q
 
 -- ---- documents with copies
-
--- m is one of the marks
-abbrev pub IsOneOf : List Marked → Marked → Type 0
-IsOneOf [] m = ⊥
-IsOneOf (n ∷ ns) m = (m ≡ n) ⊎ IsOneOf ns m
-
--- given the marks of a document, and the URI of its root
-module _ (all : List Marked) (r : List ℕ) where
-  -- Each mark of the scope is one of the document's, and contested.
-  abbrev pub IsScope : List Marked → Type 0
-  IsScope [] = ⊤
-  IsScope (m ∷ c) = IsOneOf all m × (is_contested all r m ≡ true) × IsScope c
-
-  abbrev pub HaveScopes : List Reached → Type 0
-  HaveScopes [] = ⊤
-  HaveScopes (s ∷ ss) = IsScope s.0 × HaveScopes ss
-
--- The states for which a bundled document has copies. Their scopes have contested names of the document.
-pub record AreCopies (t : Tree) (copies : List Reached) : Type 0 where
-  pub few : length copies ≤ 1000
-  pub scopes : HaveScopes (marks_of t) (base_in [] t) copies
 
 -- The document has several resources, each of its references leads to a schema in it, no array in it has more than
 -- 2^64 items, and bundled with these copies it can be applied.
