@@ -2,6 +2,7 @@ pub mod Adding
 -- The schemas of a list that are known.
 pub mod Alternatives
 pub mod Applying
+pub mod Callers
 pub mod Deep
 pub mod Emptied
 pub mod Forms

@@ -18,7 +18,8 @@ place a k = name a ∷ cond (is_by_part a) (k ∷ []) []
 -- The schema for the member at the key, and its place; or there is none.
 abbrev pub IsMemberPart : Tree → List ℕ → Option Part → Type 0
 IsMemberPart s k None = member_schema s k ≡ None
-IsMemberPart s k (Some p) = (member_schema s k ≡ Some (view p.to.schema.now)) × (part_at s (place p.applicator k) ≡ Some (view p.to.schema.now))
+IsMemberPart s k (Some p) =
+    (member_schema s k ≡ Some (view p.to.schema.now)) × (part_at s (place p.applicator k) ≡ Some (view p.to.schema.now))
 
 -- The schema for the item at the index, and its place; any token may name the item.
 abbrev pub IsItemPart : Tree → ℕ → Option Part → Type 0

@@ -6,8 +6,8 @@ use Rattle.tinyjson_schema_keywords.specs.Forms.{form_at, is_some_item}
 use Rattle.tinyjson_schema_keywords.specs.Anchors.{is_own_name}
 use Rattle.tinyjson_schema_keywords.specs.declared.keyword.Form.{Form}
 use Rattle.tinyjson_schema_keywords.specs.declared.keyword.Form.TheVariants as form
-use Rattle.tinyjson_schema_assertions.specs.Operands.{is_count, is_divisor_number, are_types, is_key_list, is_key_map, is_dialect, is_pattern_text}
-use Rattle.tinyjson_schema_assertions.specs.Operands.{has_patterns}
+use Rattle.tinyjson_schema_assertions.specs.Operands.{is_count, is_divisor_number, are_types, is_key_list, is_key_map, is_dialect}
+use Rattle.tinyjson_schema_assertions.specs.Operands.{is_pattern_text, has_patterns}
 use Rattle.tinyjson_schema.specs.Circles.{leads}
 
 -- Whether a keyword's value has the form. The flags are given: it is a schema, a list of schemas, an object of

@@ -16,7 +16,7 @@ use crate::leads::led;
 use crate::walk::Walk;
 use std::alloc::{AllocError, Global};
 use tinyjson::JsonValue;
-use tinyjson_schema_keywords::{Keyword, schema_at, schema_map_at, schemas_at, target};
+use tinyjson_schema_keywords::{Keyword, items_in, listed_members, schema_at, target};
 use tinyjson_schema_table::{Known, mark_of, marks_of};
 
 /// The marks of the keywords that apply schemas.
@@ -25,7 +25,8 @@ const APPLICATORS: u64 = 0x4841_0140_7029_0051;
 /// The marks of those among them that only accept or reject.
 const TESTING: u64 = 0x4840_0000_0020_0040;
 
-/// The marks of those that apply schemas to the value itself, or by patterns, and whose violations are in these schemas.
+/// The marks of those that apply schemas to the value itself, or by patterns, and whose violations are in these
+/// schemas.
 const DEMANDING: u64 = 0x6008_0001;
 
 /// The marks of references.
@@ -140,17 +141,20 @@ impl<'s> Applied<'s> {
         if !self.may_have(keyword) {
             return None;
         }
-        schema_at(self.schema, keyword)
+        match self.known {
+            Some(known) => known.shape.value_of(keyword),
+            None => schema_at(self.schema, keyword),
+        }
     }
 
     /// The list of schemas that the keyword has, or an empty one.
     pub fn schemas_at(&self, keyword: Keyword) -> &'s [JsonValue]
         ensures { items_view result.now ≡ schemas_at (view self.now.schema.now) keyword }
     {
-        if !self.may_have(keyword) {
-            return &[];
+        match self.schema_at(keyword) {
+            Some(list) => items_in(list),
+            None => &[],
         }
-        schemas_at(self.schema, keyword)
     }
 
     /// The members of the object of schemas that the keyword has, in the order of their keys; or none.
@@ -163,10 +167,10 @@ impl<'s> Applied<'s> {
             members_listed listed.items ≡ schema_map_at (view self.now.schema.now) keyword) }
         ensures sorted { IfOk result (λ listed. IsSorted (members_listed listed.items)) }
     {
-        if !self.may_have(keyword) {
-            return Ok(Vec::new(alloc));
+        match self.schema_at(keyword) {
+            Some(map) => listed_members(map, alloc),
+            None => Ok(Vec::new(alloc)),
         }
-        schema_map_at(self.schema, keyword, alloc)
     }
 
     /// The schema to which the keyword, `$ref` or `$dynamicRef`, leads, within the whole schema.

@@ -1,4 +1,5 @@
 pub mod Callers
 pub mod Givens
+pub mod Held
 pub mod Links
 pub mod Marking

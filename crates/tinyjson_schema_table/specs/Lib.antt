@@ -1,4 +1,5 @@
 pub mod Givens
+pub mod Held
 pub mod Links
 pub mod Marks
 pub mod Places

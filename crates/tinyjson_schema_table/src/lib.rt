@@ -13,6 +13,7 @@ mod link;
 mod marks;
 mod shape;
 mod table;
+mod values;
 
 pub use constraints::{assertions, unmet_given};
 pub use given::Given;

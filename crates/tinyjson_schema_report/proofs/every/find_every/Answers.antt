@@ -3,7 +3,7 @@ use Rattle.std.specs.List.{All}
 use Rattle.tinyjson_pointer.specs.Tokens.{tokens_of}
 use Rattle.tinyjson_pointer.specs.Walk.{part_at}
 use Rattle.tinyjson_schema.specs.Every.{AreFirst, AreNoneIfValid}
-use Rattle.tinyjson_schema.proofs.Deep.{raised_alone}
+use Rattle.tinyjson_schema.proofs.Callers.{raised_alone}
 use Rattle.tinyjson_schema.specs.Reading.{root_in}
 use Rattle.tinyjson_schema.specs.declared.walk.CheckError.TheVariants.{OutOfMemory}
 use Rattle.tinyjson_schema.specs.declared.violation.Violation.{Violation}
