@@ -130,8 +130,8 @@ module _ (all : List Marked) (r : List ℕ) where
 
 -- ---- copies
 
--- The copies are in `$defs`, at keys that begin with these letters `z`: so many that no key there has as many bytes,
--- and no reference as many bytes of `z` or of `%`, which may encode it. So no reference is a copy's place.
+-- The copies are in `$defs`, at keys that begin with letters `z`: more than each key there has bytes, and than each
+-- reference has bytes of `z` and of `%`, which may encode one. So no reference names a copy.
 abbrev pub longer : ℕ → ℕ → ℕ
 longer n l = cond (nat_lt n l) l n
 
