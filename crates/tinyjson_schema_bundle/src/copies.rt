@@ -26,11 +26,7 @@ use uri_reference::resolve;
 
 /// The letters with which the keys of copies begin. They are longer than each key of `$defs`, and no reference of the
 /// document has as many: so a reference that leads nowhere leads to no copy.
-pub fn letters(
-    document: &JsonValue,
-    marks: &[Mark],
-    alloc: Global,
-) -> Result<String, AllocError>
+pub fn letters(document: &JsonValue, marks: &[Mark], alloc: Global) -> Result<String, AllocError>
     requires { all_marked marks.now ≡ marks_of (view document.now) }
     ensures { IfOk result (λ s. string_bytes s ≡ letters (view document.now)) }
 {

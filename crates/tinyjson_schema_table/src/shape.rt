@@ -8,8 +8,8 @@ ghost use Rattle.tinyjson_schema_table.specs.Marks.{HasMarks};
 
 use crate::constraints::given_of;
 use crate::given::Given;
-use crate::values::{place_of, values_of};
 use crate::marks::marks_of;
+use crate::values::{place_of, values_of};
 use std::alloc::{AllocError, Global};
 use tinyjson::JsonValue;
 use tinyjson_schema_keywords::{Keyword, schema_at};
