@@ -1,4 +1,5 @@
 pub mod Alike
+pub mod Alone
 pub mod Bisimilar
 pub mod Containing
 pub mod Contested
@@ -9,6 +10,8 @@ pub mod Distinct
 pub mod Dynamic
 pub mod Exactly
 pub mod Examples
+pub mod Fitting
+pub mod Fragments
 pub mod Homes
 pub mod Kept
 pub mod Keys
@@ -29,6 +32,7 @@ pub mod Standing
 pub mod States
 pub mod Stepping
 pub mod Texts
+pub mod Ties
 pub mod Tokens
 pub mod Walk
 pub mod Whole

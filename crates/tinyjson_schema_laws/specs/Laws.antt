@@ -95,3 +95,16 @@ ExactCopied = (t : Tree) (copies : List Reached) → IsCopied t copies → (form
 abbrev pub DecidedCopied : Type 0
 DecidedCopied = (t : Tree) (copies : List Reached) → IsCopied t copies → (formats : Bool) (u : Tree)
     → (is : Bool) × (n : ℕ) × ((g : Scoped) → judged t formats n g u ≡ is)
+
+-- ---- documents of one resource
+
+-- The document can be applied as it is, so that it has one resource. No array in it has more than 2^64 items.
+pub record IsAlone (t : Tree) : Type 0 where
+  pub sound : IsTree t
+  pub short : IsShort t
+  pub applied : is_schema t true t ≡ true
+
+-- The document accepts by its dynamic scope exactly the values that it accepts as a root schema.
+abbrev pub ExactAlone : Type 0
+ExactAlone = (t : Tree) → IsAlone t → (formats : Bool) (u : Tree)
+    → IsValidScoped t formats u ↔ IsValidIn (record { tree = t; formats = formats }) u

@@ -8,6 +8,7 @@ ghost use Rattle.tinyjson_schema_laws.specs.Laws.{
   DecidedCopied,
   EachDecided,
   Exact,
+  ExactAlone,
   ExactCopied,
   SameResults,
   ScopeDecides,
@@ -39,6 +40,12 @@ pub fn same_verdict_with_copies()
 /// Such a document decides on each value too.
 pub fn each_decided_with_copies()
     ensures { DecidedCopied }
+{}
+
+/// A document of one resource, which can be applied as it is, accepts by its dynamic scope exactly
+/// the values that it accepts as a root schema.
+pub fn same_verdict_alone()
+    ensures { ExactAlone }
 {}
 
 /// What the bundled document keeps of a dynamic scope decides as the scope does.
