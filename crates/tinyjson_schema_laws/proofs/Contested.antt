@@ -42,7 +42,7 @@ some_fragment x n h e = by (fragment_of x) e
 named_uri : (x u n : List ℕ) → begins_pointer n ≡ false → unwrap_or (fragment_of x) [] ≡ n → without_fragment x ≡ u → x ≡ with_name u n
 named_uri x u n h e f = rejoined x n (some_fragment x n h e) ∙ ap (λ y. with_name y n) f
 
-cut_name : (u n : List ℕ) → without_fragment (without_fragment u ++ 35 ∷ n) ≡ without_fragment u
+pub cut_name : (u n : List ℕ) → without_fragment (without_fragment u ++ 35 ∷ n) ≡ without_fragment u
 cut_name [] n = refl
 cut_name (c ∷ u) n = by (cut_name u n) (is_number_sign c) refl
   where

@@ -59,7 +59,6 @@ strict_uncontested = record {
   several = refl;
   none = refl;
   applied = refl;
-  leading = refl;
 }
 
 abbrev one_child : List ℕ → Tree

@@ -1,6 +1,6 @@
 -- A reference that is only a fragment, resolved against a base URI, is this URI with the fragment.
 use Rattle.std.proofs.Common.{◌≡◌, ℕ, Bool, true, false, List, [], ◌∷◌, ◌++◌, Option, Some, None}
-use Rattle.std.proofs.Common.{cond, refl, sym, ap, ◌∙◌, codes, append_assoc, append-nil, encode_utf8_all}
+use Rattle.std.proofs.Common.{cond, refl, sym, ap, ◌∙◌, codes, subst, append_assoc, append-nil, encode_utf8_all}
 use Rattle.uri_reference.proofs.Marks.{split_fragment}
 use Rattle.uri_reference.proofs.Whole.{split_whole}
 use Rattle.uri_reference.specs.Letters.{is_number_sign, before, from, after}
@@ -57,3 +57,6 @@ inside_resolved u f h =
     (35 ∷ f)
     ∙ ap (λ x. x ++ 35 ∷ f) (ap (λ o. scheme_text (split u).scheme ++ (marked (codes "//") (split u).authority ++ ((split u).path
     ++ (marked (codes "?") (split u).query ++ marked (codes "#") o)))) (sym (split_fragment u ∙ no_fragment u h)) ∙ split_whole u)
+
+pub fragment_resolved : (u f : List ℕ) → without_fragment u ≡ u → resolved u (35 ∷ f) ≡ with_name u f
+fragment_resolved u f h = inside_resolved u f (subst IsClean h (cut_clean u))

@@ -16,6 +16,7 @@ pub mod Homes
 pub mod Kept
 pub mod Keys
 pub mod Led
+pub mod Located
 pub mod Looking
 pub mod Names
 pub mod Parts
@@ -24,6 +25,7 @@ pub mod Pointed
 pub mod Positions
 pub mod Referring
 pub mod Relations
+pub mod Resolved
 pub mod SameLaws
 pub mod Settled
 pub mod Simulation
@@ -34,5 +36,6 @@ pub mod Stepping
 pub mod Texts
 pub mod Ties
 pub mod Tokens
+pub mod Unnamed
 pub mod Walk
 pub mod Whole

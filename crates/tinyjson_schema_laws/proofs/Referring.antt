@@ -58,12 +58,12 @@ no_plain (c ∷ cs) h = ap (λ x. is_name_start x && are_name_parts cs) (eqb-tru
 
 -- ---- whether a reference leads on does not depend on the scope
 
-some_cond : (x : Bool) (o p o' p' : Option (List ℕ)) → is_some o ≡ is_some o' → is_some p ≡ is_some p'
+pub some_cond : (x : Bool) (o p o' p' : Option (List ℕ)) → is_some o ≡ is_some o' → is_some p ≡ is_some p'
     → is_some (cond x o p) ≡ is_some (cond x o' p')
 some_cond true o p o' p' h g = h
 some_cond false o p o' p' h g = g
 
-some_then : (g h : List ℕ → Option (List ℕ)) (o : Option (List ℕ)) → ((ds : List ℕ) → is_some (g ds) ≡ is_some (h ds))
+pub some_then : (g h : List ℕ → Option (List ℕ)) (o : Option (List ℕ)) → ((ds : List ℕ) → is_some (g ds) ≡ is_some (h ds))
     → is_some (option_and_then g o) ≡ is_some (option_and_then h o)
 some_then g h None e = refl
 some_then g h (Some ds) e = e ds

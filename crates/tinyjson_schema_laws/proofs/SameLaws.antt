@@ -1,5 +1,5 @@
 -- The laws of documents without contested names.
-use Rattle.std.proofs.Common.{◌≡◌, ℕ, Bool, true, [], refl, sym, ap, ◌∙◌, cond, subst}
+use Rattle.std.proofs.Common.{◌≡◌, ℕ, Bool, true, false, [], refl, sym, ap, ◌∙◌, cond, subst}
 use Rattle.std.specs.Prelude.{◌↔◌}
 use Rattle.tinyjson.specs.Tree.{Tree}
 use Rattle.tinyjson_schema_bundle.specs.Bundles.{marks_of, base_in, place_of, pointed}
@@ -8,9 +8,11 @@ use Rattle.tinyjson_schema.specs.Evaluated.{Child}
 use Rattle.tinyjson_schema.specs.Schemas.{is_schema}
 use Rattle.tinyjson_schema.specs.Valid.{IsValidIn, judge}
 use Rattle.tinyjson_schema_laws.specs.Laws.{IsUncontested, SameResults, Exact, EachDecided, bundled_root, by_value}
+use Rattle.tinyjson_schema_laws.specs.Leading.{all_lead}
 use Rattle.tinyjson_schema_laws.specs.Scoped.{Scope, judged, outer, IsValidScoped}
 use Rattle.tinyjson_schema_laws.proofs.Bisimilar.{Simulates}
 use Rattle.tinyjson_schema_laws.proofs.Exactly.{exactly, each_value_decided}
+use Rattle.tinyjson_schema_laws.proofs.Located.{each_leads}
 use Rattle.tinyjson_schema_laws.proofs.Referring.{root}
 use Rattle.tinyjson_schema_laws.proofs.Simulation.{Related, simulates, begins}
 use Rattle.tinyjson_schema_laws.proofs.Stepping.{simulated}
@@ -27,14 +29,17 @@ module _ (t : Tree) (is : IsUncontested t) where
   applied : is_schema made true made ≡ true
   applied = subst (λ b. is_schema b true b ≡ true) (sym made_bundled) is.applied
 
+  leading : all_lead t ≡ true
+  leading = each_leads (letters t) false [] t is.sound applied
+
   abbrev Bundled : Scope → Tree → Tree → Type 0
-  Bundled = Related t is.sound (letters t) [] is.none applied is.leading
+  Bundled = Related t is.sound (letters t) [] is.none applied leading
 
   same_steps : Simulates t made Bundled
-  same_steps = simulates t is.sound (letters t) [] is.none applied is.leading
+  same_steps = simulates t is.sound (letters t) [] is.none applied leading
 
   start : Bundled (outer t) t made
-  start = begins t is.sound (letters t) [] is.none applied is.leading
+  start = begins t is.sound (letters t) [] is.none applied leading
 
   same : (formats : Bool) (n : ℕ) (x : Tree → Bool) (y : Tree → Child → Bool) (u : Tree)
       → judged t formats n (λ c. by_value x y) u ≡ judge (bundled_root t formats) n (by_value x y) (bundled [] t) u

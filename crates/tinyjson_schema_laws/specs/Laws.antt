@@ -10,18 +10,17 @@ use Rattle.tinyjson_schema_bundle.specs.Scopes.{Reached, AreCopies, some_contest
 use Rattle.tinyjson_schema.specs.Evaluated.{Answers, Child}
 use Rattle.tinyjson_schema.specs.Schemas.{is_schema}
 use Rattle.tinyjson_schema.specs.Valid.{Root, judge, IsValidIn}
-use Rattle.tinyjson_schema_laws.specs.Leading.{all_lead, all_located}
+use Rattle.tinyjson_schema_laws.specs.Leading.{all_located}
 use Rattle.tinyjson_schema_laws.specs.Scoped.{Scoped, Scope, IsValidScoped, judged, outermost}
 use Rattle.tinyjson_schema_laws.specs.Short.{IsShort}
 
 -- The document has several resources, no dynamic reference in it depends on what has led to it, and bundled it can be
--- applied. Each of its references leads to a place in it.
+-- applied.
 pub record IsUncontested (t : Tree) : Type 0 where
   pub sound : IsTree t
   pub several : is_bundle (marks_of t) ≡ true
   pub none : some_contested (marks_of t) (base_in [] t) (marks_of t) ≡ false
   pub applied : is_schema (bundled [] t) true (bundled [] t) ≡ true
-  pub leading : all_lead t ≡ true
 
 -- the bundled document as the root schema
 abbrev pub bundled_root : Tree → Bool → Root
