@@ -288,11 +288,22 @@ target_texts base r h g = either_texts (is_some r.scheme) (record r { path = wit
     (record { scheme = h.scheme; authority = g.authority; path = dots_text r.path g.path; query = g.query; fragment = g.fragment })
     (either_texts (is_empty r.path) (record base { query = option_or r.query base.query; fragment = r.fragment })
     (record r { scheme = base.scheme; authority = base.authority; path = path_from base r.path })
-    (record { scheme = h.scheme; authority = h.authority; path = h.path; query = or_text r.query base.query g.query h.query;
-    fragment = g.fragment })
-    (record { scheme = h.scheme; authority = h.authority; path = dots_text (cond (begins_with_slash r.path) r.path
-    (merged base r.path)) (either_text (begins_with_slash r.path) r.path
-    (merged base r.path) g.path (merged_text base r.path h g.path)); query = g.query; fragment = g.fragment })))
+    (record {
+      scheme = h.scheme;
+      authority = h.authority;
+      path = h.path;
+      query = or_text r.query base.query g.query h.query;
+      fragment = g.fragment;
+    })
+    (record {
+      scheme = h.scheme;
+      authority = h.authority;
+      path = dots_text (cond (begins_with_slash r.path) r.path
+          (merged base r.path)) (either_text (begins_with_slash r.path) r.path
+          (merged base r.path) g.path (merged_text base r.path h g.path));
+      query = g.query;
+      fragment = g.fragment;
+    })))
 
 pub resolved_text : (b r : List ℕ) → IsUtf8 b → IsUtf8 r → IsUtf8 (resolved b r)
 resolved_text b r u v = composed_text (target (split b) (split r)) (target_texts (split b) (split r) (split_texts b u) (split_texts r v))

@@ -103,13 +103,19 @@ Whole k w = Inner (form_at (encode_utf8_all k)) w
 
 put_unnamed : (s : Tree) (k : List ℕ) (w : Tree) (ms : Members) → Whole k w → Unnamed (members_among s ms)
     → Unnamed (members_among s (put k w ms))
-put_unnamed s k w no_members h g = (h.0, both (members_by (form_at (encode_utf8_all k)) (schema_members w) (members_in_list w)
-    (members_in_map w)) [] h.1 tt)
+put_unnamed s k w no_members h g = (
+  h.0,
+  both (members_by (form_at (encode_utf8_all k)) (schema_members w) (members_in_list w)
+      (members_in_map w)) [] h.1 tt,
+)
 put_unnamed s k w (member l u ms) h g = by (key_cmp k l) (put_unnamed s k w ms h)
   where
     one : (ns : Members) → Unnamed (members_among s ns) → Unnamed (members_among s (member k w ns))
-    one ns n = (h.0, both (members_by (form_at (encode_utf8_all k)) (schema_members w) (members_in_list w)
-        (members_in_map w)) (members_among s ns) h.1 n)
+    one ns n = (
+      h.0,
+      both (members_by (form_at (encode_utf8_all k)) (schema_members w) (members_in_list w)
+          (members_in_map w)) (members_among s ns) h.1 n,
+    )
 
     after : (xs ys : List InSchema) → Unnamed (xs ++ ys) → Unnamed xs × Unnamed ys
     after [] ys n = (tt, n)
@@ -124,8 +130,11 @@ put_unnamed s k w (member l u ms) h g = by (key_cmp k l) (put_unnamed s k w ms h
         → Unnamed (members_among s (put_at o k w l u ms (put k w ms)))
     by Less more = one (member l u ms) g
     by Equal more = one ms parts.1
-    by Greater more = (g.0, both (members_by (form_at (encode_utf8_all l)) (schema_members u) (members_in_list u) (members_in_map u))
-        (members_among s (put k w ms)) parts.0 (more parts.1))
+    by Greater more = (
+      g.0,
+      both (members_by (form_at (encode_utf8_all l)) (schema_members u) (members_in_list u) (members_in_map u))
+          (members_among s (put k w ms)) parts.0 (more parts.1),
+    )
 
 entry_unnamed : (k : List ℕ) (w : Tree) (ms : Members) → Unnamed (schema_members w) → Unnamed (members_of_entries ms)
     → Unnamed (members_of_entries (put k w ms))
@@ -171,8 +180,11 @@ module _ (to : Leads) where
     where
       by : (x : Bool) → IfInner form.Anchor (cond x None (Some (string_of (with_name b (encode_utf8_all cs)))))
       by true = tt
-      by false = (ap is_plain_name (encodes-chars (with_name b (encode_utf8_all cs))
-          (named_text b (encode_utf8_all cs) u (tree_text cs h))) ∙ no_name b (encode_utf8_all cs), tt)
+      by false = (
+        ap is_plain_name (encodes-chars (with_name b (encode_utf8_all cs))
+            (named_text b (encode_utf8_all cs) u (tree_text cs h))) ∙ no_name b (encode_utf8_all cs),
+        tt,
+      )
   anchor_kept b p _ u h = (tt, tt)
 
   id_kept : (b p : List ℕ) (w : Tree) → IfInner form.Base (kept_id to.0 b p w)
