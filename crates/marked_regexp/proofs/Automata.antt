@@ -1,20 +1,22 @@
 -- What an automaton remembers.
-use Rattle.std.proofs.Common.{◌≡◌, ◌≢◌, ℕ, zero, suc, ◌+◌, ◌*◌, ◌-◌, ◌<◌, ◌≤◌, Bool, true, false, List, [], ◌∷◌, ◌++◌, length, get_or, set}
-use Rattle.std.proofs.Common.{Option, Some, None, ⊎_elim, refl, sym, ap, ◌∙◌, ◌||◌, subst, arith, length-append, append-nil, true≢false, cond, Result, Ok, Err, replicate, ◌⊎◌, inl, inr}
+use Rattle.std.proofs.Common.{◌≡◌, ℕ, zero, suc, ◌+◌, ◌*◌, ◌-◌, ◌<◌, ◌≤◌, Bool, true, false, List, [], ◌∷◌, ◌++◌, length, get_or, set}
+use Rattle.std.proofs.Common.{not, Option, Some, None, ⊎_elim, refl, sym, ap, ◌∙◌, ◌||◌, subst, arith, length-append, append-nil, true≢false, cond, Result, Ok, Err, replicate, ◌⊎◌, inl, inr}
 use Rattle.std.specs.List.{slice_get}
 use Rattle.std.specs.Option.{option_map_or}
 use Rattle.std.specs.Result.{is_err, is_ok}
-use Rattle.std.proofs.lemmas.Bool.{cases_lt}
-use Rattle.std.proofs.lemmas.List.{get_or-set_other, get_or-append_right, get_or_append_left}
-use Rattle.std.proofs.lemmas.Option.{slice_get-get_or, slice_get_within, slice_get_past}
-use Rattle.marked_regexp.specs.Automata.{Extends, HasForm, HasMarksAt, HaveForm, IsRowOf, Knows, LeadsTo, row_reads}
-use mathlib.Core.Logic.{∥∥₁_elim, ∥∥₁_map}
-use mathlib.Core.Bool.{Bool-set}
+use lib.Dec.{eqb}
+use lib.Pointwise.{pointwise}
+use Rattle.std.proofs.lemmas.Bool.{cases_lt, eq-eqb, eqb-true}
+use Rattle.std.proofs.lemmas.Slice.Eq.{slice_eq-Decides}
+use Rattle.std.proofs.lemmas.List.{get_or-append_right, get_or_append_left}
+use Rattle.std.proofs.lemmas.Option.{slice_get-get_or, slice_get_within}
+use Rattle.marked_regexp.specs.Automata.{AreStates, Extends, HasMarksAt, IsRowOf, IsState, Knows, LeadsTo, row_reads}
 use Rattle.std.specs.Prelude.{IfSome}
-use Rattle.marked_regexp.specs.Marked.{ends_here, is_kept, is_marked, reads, skips, tree_form}
+use Rattle.marked_regexp.specs.Marked.{ends_here, is_kept, is_marked, placed, reads, skips}
 use Rattle.marked_regexp.proofs.Kept.{kept_from}
 use Rattle.marked_regexp.proofs.Marking.{ends_unmarked}
-use Rattle.marked_regexp.proofs.Rereading.{same_reads, verdict_right}
+use Rattle.marked_regexp.proofs.Rereading.{verdict_right}
+use Rattle.marked_regexp.proofs.Placing.{kept_placed, placed_none}
 use Rattle.marked_regexp.specs.declared.marked.Node.{Node}
 use Rattle.marked_regexp.specs.declared.state.State.{State}
 
@@ -30,11 +32,19 @@ at_start root states zero cs none = refl
 at_start root states (suc k) cs none = absurd (none (omega arith))
 
 pub at_state : (root : Node) (states : List State) (row place : ℕ) (s : State) (cs : List ℕ) → 1 ≤ row → place ≡ row - 1
-    → slice_get states place ≡ Some s → row_reads root states row cs ≡ reads false s.tree cs
+    → slice_get states place ≡ Some s → row_reads root states row cs ≡ reads false (placed root s.marks.items) cs
 at_state root states zero place s cs some is had = absurd (omega arith)
 at_state root states (suc k) place s cs some is had =
     let same : k ≡ place = omega (arith, is) in
-    ap (λ o. option_map_or (λ x. reads false x.tree cs) o false) (ap (slice_get states) same ∙ had)
+    ap (λ o. option_map_or (λ x. reads false (placed root x.marks.items) cs) o false) (ap (slice_get states) same ∙ had)
+
+pub same_list : (xs ys : List ℕ) (ne : Bool) → ne ≡ not (pointwise eqb xs ys) → ne ≡ false → xs ≡ ys
+same_list xs ys ne e h =
+    (slice_eq-Decides (λ a b. (eqb-true a b, eq-eqb a b)) xs ys (not ne) (ap not e ∙ not_not (pointwise eqb xs ys))).0 (ap not h)
+  where
+    not_not : (b : Bool) → not (not b) ≡ b
+    not_not true = refl
+    not_not false = refl
 
 -- ---- more states
 
@@ -53,22 +63,22 @@ pub rows_stay : (root : Node) (states more : List State) (row : ℕ) (cs : List 
     → row_reads root (states ++ more) row cs ≡ row_reads root states row cs
 rows_stay root states more zero cs h = refl
 rows_stay root states more (suc k) cs h =
-    ap (λ o. option_map_or (λ x. reads false x.tree cs) o false) (get_more states more k (omega arith))
+    ap (λ o. option_map_or (λ x. reads false (placed root x.marks.items) cs) o false) (get_more states more k (omega arith))
 
 pub row_added : (root : Node) (states : List State) (s : State) (row : ℕ) (cs : List ℕ) → row ≡ length states + 1
-    → row_reads root (states ++ s ∷ []) row cs ≡ reads false s.tree cs
+    → row_reads root (states ++ s ∷ []) row cs ≡ reads false (placed root s.marks.items) cs
 row_added root states s zero cs h = absurd (omega arith)
 row_added root states s (suc k) cs h =
-    ap (λ o. option_map_or (λ x. reads false x.tree cs) o false) (get_last states s k (omega arith))
+    ap (λ o. option_map_or (λ x. reads false (placed root x.marks.items) cs) o false) (get_last states s k (omega arith))
 
-pub formed_more : (root : Node) (states : List State) (s : State) → HaveForm root states → HasForm root s
-    → HaveForm root (states ++ s ∷ [])
-formed_more root states s all one k x had =
+pub right_more : (root : Node) (states : List State) (s : State) → AreStates root states → IsState root s
+    → AreStates root (states ++ s ∷ [])
+right_more root states s all one k x had =
     ⊎_elim (λ within. all k x (sym (get_more states (s ∷ []) k within) ∙ had)) (λ past.
     let last : k ≡ length states =
     omega (arith, slice_get_within (states ++ s ∷ []) k x had, length-append states (s ∷ []), past) in
     let same : s ≡ x = cc_some (sym (get_last states s k last) ∙ had) in
-    subst (HasForm root) same one) (cases_lt k (length states))
+    subst (IsState root) same one) (cases_lt k (length states))
   where
     cc_some : Some s ≡ Some x → s ≡ x
     cc_some e = cc
@@ -105,16 +115,13 @@ knows_state root states steps more known row c next ascii h =
       λ cs. rows_stay root states more (suc next) cs k.1 ∙ (k.2 cs ∙ sym (rows_stay root states more row (c ∷ cs) k.0)),
     )
 
--- another tree that reads the same from the start on
-pub knows_root : (root other : Node) (states : List State) (steps : List ℕ) → ((cs : List ℕ) → reads true root cs ≡ reads true other cs)
-    → Knows root states steps → Knows other states steps
-knows_root root other states steps same known row c next ascii h =
-    let k = known row c next ascii h in
-    (k.0, k.1, λ cs. k.2 cs ∙ row_same row (c ∷ cs))
-  where
-    row_same : (r : ℕ) (cs : List ℕ) → row_reads root states r cs ≡ row_reads other states r cs
-    row_same zero cs = same cs
-    row_same (suc k) cs = refl
+-- so it is for the tree as it is after a call
+pub right_root : (root other : Node) (states : List State) → other ≡ root → AreStates root states → AreStates other states
+right_root root other states e = subst (λ n. AreStates n states) (sym e)
+
+pub knows_root : (root other : Node) (states : List State) (steps : List ℕ) → other ≡ root → Knows root states steps
+    → Knows other states steps
+knows_root root other states steps e = subst (λ n. Knows n states steps) (sym e)
 
 one_place : (row c row' c' : ℕ) → c < 128 → c' < 128 → row' * 128 + c' ≡ row * 128 + c → (row' ≡ row) × (c' ≡ c)
 one_place row c row' c' h k e = (omega (arith, h, k, e), omega (arith, h, k, e))
@@ -145,35 +152,31 @@ knows_step root states steps row c next known within ascii fits leads row' c' ne
 -- ---- for the calls
 
 module _ (root : Node) (states : List State) (row place : ℕ) (s : State) (some : 1 ≤ row) (is : place ≡ row - 1)
-    (had : slice_get states place ≡ Some s) where
+    (had : slice_get states place ≡ Some s) (kept : is_kept root ≡ true) (all : AreStates root states) where
   pub verdict_had : (o : Option Bool) → o ≡ s.verdict → IfSome o (λ b. (cs : List ℕ) → row_reads root states row cs ≡ b)
   verdict_had None e = tt
   verdict_had (Some b) e = λ cs. at_state root states row place s cs some is had
-      ∙ verdict_right s.tree b cs (kept_from s.tree s.kept) (e ∙ s.judged)
+      ∙ verdict_right (placed root s.marks.items) b cs (kept_placed root s.marks.items (kept_from root kept)) (e ∙ (all place s had).1)
 
   pub ends_had : s.ends ≡ row_reads root states row []
-  ends_had = s.ended ∙ (or_false (ends_here s.tree) ∙ sym (at_state root states row place s [] some is had))
+  ends_had = (all place s had).0 ∙ (or_false (ends_here (placed root s.marks.items)) ∙ sym (at_state root states row place s [] some is had))
     where
       or_false : (b : Bool) → b ≡ (b || false)
       or_false true = refl
       or_false false = refl
 
--- a tree of the same regular expression, after a character
-pub moved_form : (root : Node) (s : State) (o : Option State) → HasForm root s → IfSome o (λ x. tree_form x.tree ≡ tree_form s.tree)
-    → IfSome o (λ x. HasForm root x)
-moved_form root s None one h = tt
-moved_form root s (Some x) one h = ∥∥₁_map one (λ e. h ∙ e)
-
-pub moved_first : (root : Node) (o : Option State) → IfSome o (λ x. tree_form x.tree ≡ tree_form root) → IfSome o (λ x. HasForm root x)
-moved_first root None h = tt
-moved_first root (Some x) h = ∣ h ∣₁
-
 pub moved_reads : (start : Bool) (n root : Node) (states : List State) (row c : ℕ) (o : Option State)
     → ((cs : List ℕ) → row_reads root states row (c ∷ cs) ≡ reads start n (c ∷ cs))
-    → IfSome o (λ x. (cs : List ℕ) → reads false x.tree cs ≡ reads start n (c ∷ cs))
-    → IfSome o (λ x. (cs : List ℕ) → reads false x.tree cs ≡ row_reads root states row (c ∷ cs))
+    → IfSome o (λ x. (cs : List ℕ) → reads false (placed root x.marks.items) cs ≡ reads start n (c ∷ cs))
+    → IfSome o (λ x. (cs : List ℕ) → reads false (placed root x.marks.items) cs ≡ row_reads root states row (c ∷ cs))
 moved_reads start n root states row c None same h = tt
 moved_reads start n root states row c (Some x) same h = λ cs. h cs ∙ sym (same cs)
+
+-- from the start on, there are no marks
+pub first_reads : (root : Node) (states : List State) (row c : ℕ) (cs : List ℕ) → is_kept root ≡ true → is_marked root ≡ false
+    → (1 ≤ row → ⊥) → row_reads root states row (c ∷ cs) ≡ reads true (placed root []) (c ∷ cs)
+first_reads root states row c cs kept none first =
+    at_start root states row (c ∷ cs) first ∙ ap (λ n. reads true n (c ∷ cs)) (sym (placed_none root (kept_from root kept) none))
 
 -- at the start the empty text is matched if it is skipped
 pub ends_start : (root : Node) (states : List State) (row : ℕ) → is_kept root ≡ true → is_marked root ≡ false → (1 ≤ row → ⊥)
@@ -182,15 +185,14 @@ ends_start root states row kept none first =
     sym (at_start root states row [] first ∙ ap (λ b. b || skips root) (ends_unmarked root (kept_from root kept) none))
 
 -- a state that has the marks of another is as good
-pub row_found : (root : Node) (states : List State) (place : ℕ) (s : State) → HaveForm root states → HasForm root s
-    → HasMarksAt states place s.tree → IsRowOf root states (place + 1) s
-row_found root states place s all one h =
+pub row_found : (root : Node) (states : List State) (place : ℕ) (s : State) → HasMarksAt states place s.marks.items
+    → IsRowOf root states (place + 1) s
+row_found root states place s h =
     let within = slice_get_within states place h.0 h.1 in (
       omega arith,
       omega (arith, within),
       λ cs. at_state root states (place + 1) place h.0 cs (omega arith) (omega arith) h.1
-          ∙ ∥∥₁_elim (all place h.0 h.1) (Bool-set _ _) (λ e. ∥∥₁_elim one (Bool-set _ _) (λ f.
-          same_reads false h.0.tree s.tree cs (kept_from h.0.tree h.0.kept) (kept_from s.tree s.kept) (e ∙ sym f) h.2)),
+          ∙ ap (λ ms. reads false (placed root ms) cs) h.2,
     )
 
 pub row_new : (root : Node) (states : List State) (s : State) (row : ℕ) → row ≡ length (states ++ s ∷ [])
@@ -218,15 +220,15 @@ pub knows_room : (grown : Bool) (root : Node) (states : List State) (steps new :
 knows_room true root states steps new n known is = subst (Knows root states) (sym is) (knows_more root states steps n known)
 knows_room false root states steps new n known is = subst (Knows root states) (sym is) known
 
-module _ (root : Node) (states new : List State) (steps : List ℕ) (s : State) (all : HaveForm root states) (one : HasForm root s)
+module _ (root : Node) (states new : List State) (steps : List ℕ) (s : State) (all : AreStates root states) (one : IsState root s)
     (known : Knows root states steps) where
-  pub added_few : (grown : Bool) → new ≡ cond grown (states ++ s ∷ []) states → length states < 60 → length new ≤ 60
+  pub added_few : (grown : Bool) → new ≡ cond grown (states ++ s ∷ []) states → length states < 2500 → length new ≤ 2500
   added_few true is h = omega (arith, ap length is, length-append states (s ∷ []), h)
   added_few false is h = omega (arith, ap length is, h)
 
-  pub added_formed : (grown : Bool) → new ≡ cond grown (states ++ s ∷ []) states → HaveForm root new
-  added_formed true is = subst (HaveForm root) (sym is) (formed_more root states s all one)
-  added_formed false is = subst (HaveForm root) (sym is) all
+  pub added_right : (grown : Bool) → new ≡ cond grown (states ++ s ∷ []) states → AreStates root new
+  added_right true is = subst (AreStates root) (sym is) (right_more root states s all one)
+  added_right false is = subst (AreStates root) (sym is) all
 
   pub added_known : (grown : Bool) → new ≡ cond grown (states ++ s ∷ []) states → Knows root new steps
   added_known true is = subst (λ ss. Knows root ss steps) (sym is) (knows_state root states steps (s ∷ []) known)

@@ -5,3 +5,4 @@ pub mod Building
 pub mod Callers
 pub mod Rereading
 pub mod Automata
+pub mod Placing

@@ -168,22 +168,6 @@ is_kept (Alternation' p l q r lm rm) = is_kept l && (is_kept r && (same_bool lm 
 is_kept (Star' p b ends) = same_bool ends (ends_here b) && is_kept b
 is_kept (UpTo cl most left) = is_within left most
 
--- both counts are equal, or there is none
-abbrev pub same_count : Option ℕ → Option ℕ → Bool
-same_count None None = true
-same_count (Some n) (Some m) = n == m
-same_count _ _ = false
-
--- two trees of one regular expression have the same marks
-abbrev pub same_marks : Node → Node → Bool
-same_marks Empty Empty = true
-same_marks (Class cl mark) (Class cl' mark') = same_bool mark mark'
-same_marks (Concat' p l q r le re ends lm rm) (Concat' p' l' q' r' le' re' ends' lm' rm') = same_marks l l' && same_marks r r'
-same_marks (Alternation' p l q r lm rm) (Alternation' p' l' q' r' lm' rm') = same_marks l l' && same_marks r r'
-same_marks (Star' p b ends) (Star' p' b' ends') = same_marks b b'
-same_marks (UpTo cl most left) (UpTo cl' most' left') = same_count left left'
-same_marks _ _ = false
-
 -- the text is matched from the marks on or, with `start`, from its beginning
 abbrev pub reads : Bool → Node → List ℕ → Bool
 reads start n [] = ends_here n || (start && skips n)
@@ -192,3 +176,55 @@ reads start n (c ∷ cs) = reads false (shifted start c n) cs
 -- whether each text is matched that goes on from the marks, or none is, where that is plain
 abbrev pub verdict_in : Node → Option Bool
 verdict_in n = cond (is_marked n) (cond (is_settled n) (Some true) None) (Some false)
+
+-- ---- marks as a list
+
+-- that there is no count, or that there is one, and which
+abbrev pub count_marks : Option ℕ → List ℕ
+count_marks None = 0 ∷ []
+count_marks (Some n) = 1 ∷ n ∷ []
+
+-- whether there is a mark and, if so, those of the parts
+abbrev pub marks_of : Node → List ℕ
+marks_of Empty = []
+marks_of (Class cl mark) = cond mark 1 0 ∷ []
+marks_of (Concat' p l q r le re ends lm rm) = cond (lm || rm) (1 ∷ (marks_of l ++ marks_of r)) (0 ∷ [])
+marks_of (Alternation' p l q r lm rm) = cond (lm || rm) (1 ∷ (marks_of l ++ marks_of r)) (0 ∷ [])
+marks_of (Star' p b ends) = marks_of b
+marks_of (UpTo cl most left) = count_marks left
+
+-- the first number, or 0
+abbrev pub first : List ℕ → ℕ
+first [] = 0
+first (m ∷ ms) = m
+
+-- the numbers behind the first one
+abbrev pub rest : List ℕ → List ℕ
+rest [] = []
+rest (m ∷ ms) = ms
+
+-- what is behind the marks of the tree
+abbrev pub behind : Node → List ℕ → List ℕ
+behind Empty ms = ms
+behind (Class cl mark) ms = rest ms
+behind (Concat' p l q r le re ends lm rm) ms = cond (first ms == 0) (rest ms) (behind r (behind l (rest ms)))
+behind (Alternation' p l q r lm rm) ms = cond (first ms == 0) (rest ms) (behind r (behind l (rest ms)))
+behind (Star' p b ends) ms = behind b ms
+behind (UpTo cl most left) ms = cond (first ms == 0) (rest ms) (rest (rest ms))
+
+-- a tree without marks, with those of the list
+abbrev pub placed : Node → List ℕ → Node
+placed Empty ms = Empty
+placed (Class cl mark) ms = Class cl (nat_le 1 (first ms))
+placed (Concat' p l q r le re ends lm rm) ms =
+    cond (first ms == 0) (Concat' p l q r le re ends lm rm)
+    (Concat' p (placed l (rest ms)) q (placed r (behind l (rest ms))) le re (ends_here (placed l (rest ms)))
+    (is_marked (placed l (rest ms))) (is_marked (placed r (behind l (rest ms)))))
+placed (Alternation' p l q r lm rm) ms =
+    cond (first ms == 0) (Alternation' p l q r lm rm)
+    (Alternation' p (placed l (rest ms)) q (placed r (behind l (rest ms)))
+    (is_marked (placed l (rest ms))) (is_marked (placed r (behind l (rest ms)))))
+placed (Star' p b ends) ms = Star' p (placed b ms) (ends_here (placed b ms))
+placed (UpTo cl most left) ms =
+    cond (first ms == 0) (UpTo cl most left)
+    (UpTo cl most (cond (nat_le (first (rest ms)) most) (Some (first (rest ms))) None))

@@ -1,19 +1,23 @@
 //! An automaton of a regular expression, which is built while texts are matched.
 ghost use Rattle.std.specs.Prelude.{◌≡◌, ◌↔◌, ◌∷◌, ◌<◌, ◌≤◌, ℕ, [], List, true, false, IsTrue, IfSome, length};
 ghost use Rattle.std.specs.Str.{chars};
-ghost use Rattle.marked_regexp.specs.Automata.{Extends, HasForm, HasMarksAt, HaveForm, IsRowOf};
+ghost use Rattle.marked_regexp.specs.Automata.{AreStates, Extends, HasMarksAt, IsRowOf, IsState};
 ghost use Rattle.marked_regexp.specs.Automata.{Knows, LeadsTo, row_reads};
 ghost use Rattle.marked_regexp.specs.Building.{form_of};
 ghost use Rattle.marked_regexp.specs.Forms.{Matches};
-ghost use Rattle.marked_regexp.specs.Marked.{reads};
+ghost use Rattle.marked_regexp.specs.Marked.{placed, reads};
 
 use crate::expression::Expression;
-use crate::marked::Node;
+use crate::run::matches_whole;
 use crate::state::State;
 use std::alloc::Global;
+use std::collections::HashMap;
 
 /// How many states are kept.
-const STATES: usize = 60;
+const STATES: usize = 2_500;
+
+/// How many numbers the lists of their marks have; the last one may go beyond.
+const NUMBERS: usize = 100_000;
 
 /// How many characters have steps that are kept: those of ASCII.
 const ASCII: usize = 128;
@@ -21,8 +25,8 @@ const ASCII: usize = 128;
 /// A regular expression, and what it remembers of the texts that were matched: to which marks the characters of ASCII
 /// lead. A text over these characters, whose marks were all met before, takes one look a character.
 ///
-/// At most 60 states of marks are kept. A text that leads to another one, or that has other characters, is matched as
-/// [`Expression::matches`] does, and so it is where memory is refused.
+/// Up to 2,500 states of marks are kept, in up to about 2 MB. A text that leads to another one, or that has other
+/// characters, is matched as [`Expression::matches`] does, and so it is where memory is refused.
 ///
 /// ```
 /// let digit = Expression::one_of(Class::single(alloc, Item::Range('0', '9'))?);
@@ -36,9 +40,13 @@ pub struct Automaton {
     alloc: Global,
     states: Vec<State>,
     /// For the start and each state, and for each character of ASCII: the row of the state after it, from 1, or 0.
-    steps: Vec<u8>,
-    ghost few: { length states.items ≤ 60 },
-    ghost formed: { HaveForm expression.root states.items },
+    steps: Vec<u16>,
+    /// Where the state is whose marks have this sum.
+    places: HashMap<usize, usize>,
+    /// How many more numbers the lists of marks may have.
+    room: usize,
+    ghost few: { length states.items ≤ 2500 },
+    ghost right: { AreStates expression.root states.items },
     ghost known: { Knows expression.root states.items steps.items },
 }
 
@@ -57,6 +65,8 @@ impl Automaton {
             alloc,
             states: Vec::new(alloc),
             steps: Vec::new(alloc),
+            places: HashMap::new(alloc),
+            room: NUMBERS,
         }
     }
 
@@ -73,7 +83,7 @@ impl Automaton {
     {
         match self.judge(text) {
             Some(matches) => matches,
-            None => self.expression.matches(text),
+            None => matches_whole(&mut self.expression.root, text),
         }
     }
 
@@ -81,7 +91,7 @@ impl Automaton {
     fn judge(&mut self, text: &str) -> Option<bool>
         ensures matched { IfSome result (λ b. b
             ≡ reads true self.old.expression.root (chars text.now)) }
-        ensures same { self.new.expression ≡ self.old.expression }
+        ensures same { self.new.expression.root ≡ self.old.expression.root }
     {
         let mut row = 0;
         for c in text.chars() {
@@ -122,7 +132,7 @@ impl Automaton {
     #[inline(always)]
     fn step(&mut self, row: usize, c: char) -> Option<usize>
         requires { row ≤ length self.old.states.items }
-        ensures same { self.new.expression ≡ self.old.expression }
+        ensures same { self.new.expression.root ≡ self.old.expression.root }
         ensures next { IfSome result (λ next. LeadsTo self.old.expression.root self.old.states.items
             self.new.states.items row c next) }
     {
@@ -142,10 +152,13 @@ impl Automaton {
     fn grow(&mut self, row: usize, c: char) -> Option<usize>
         requires row { row ≤ length self.old.states.items }
         requires ascii { c < 128 }
-        ensures same { self.new.expression ≡ self.old.expression }
+        ensures same { self.new.expression.root ≡ self.old.expression.root }
         ensures next { IfSome result (λ next. LeadsTo self.old.expression.root self.old.states.items
             self.new.states.items row c next) }
     {
+        if self.states.len() >= STATES || self.room == 0 {
+            return None;
+        }
         self.make_room();
         let state = self.moved(row, c)?;
         let next = self.row_of(state)?;
@@ -154,64 +167,74 @@ impl Automaton {
     }
 
     /// The state after a character, from the row.
-    fn moved(&self, row: usize, c: char) -> Option<State>
-        requires { row ≤ length self.now.states.items }
-        ensures form { IfSome result (λ s. HasForm self.now.expression.root s) }
-        ensures reads { IfSome result (λ s. (cs : List ℕ) → reads false s.tree cs
-            ≡ row_reads self.now.expression.root self.now.states.items row (c ∷ cs)) }
+    fn moved(&mut self, row: usize, c: char) -> Option<State>
+        requires { row ≤ length self.old.states.items }
+        ensures same { self.new.expression.root ≡ self.old.expression.root }
+        ensures states { self.new.states ≡ self.old.states }
+        ensures right { IfSome result (λ s. IsState self.old.expression.root s) }
+        ensures reads { IfSome result (λ s. (cs : List ℕ) →
+            reads false (placed self.old.expression.root s.marks.items) cs
+            ≡ row_reads self.old.expression.root self.old.states.items row (c ∷ cs)) }
     {
         let Some(place) = row.checked_sub(1) else {
-            return State::after(self.alloc, &self.expression.root, true, c);
+            return State::after(self.alloc, &mut self.expression.root, &[], true, c);
         };
-        State::after(self.alloc, &self.states.get(place)?.tree, false, c)
+        let marks = self.states.get(place)?.marks.as_slice();
+        State::after(self.alloc, &mut self.expression.root, marks, false, c)
     }
 
     /// The row of the state that has the same marks. If there is none, this one is added.
     fn row_of(&mut self, state: State) -> Option<usize>
-        requires { HasForm self.old.expression.root state }
-        ensures same { self.new.expression ≡ self.old.expression }
+        requires right { IsState self.old.expression.root state }
+        requires room { length self.old.states.items < 2500 }
+        ensures same { self.new.expression.root ≡ self.old.expression.root }
         ensures rows { Extends self.old.states.items self.new.states.items }
         ensures next { IfSome result (λ next. IsRowOf self.new.expression.root
             self.new.states.items next state) }
     {
-        if let Some(place) = self.place_of(&state.tree) {
-            return Some(place + 1);
+        let sum = sum_of(state.marks.as_slice());
+        match self.place_of(sum, &state) {
+            Some(place) => Some(place + 1),
+            None => self.add(sum, state),
         }
-        self.add(state)
     }
 
-    /// The place of a state that has these marks.
-    fn place_of(&self, tree: &Node) -> Option<usize>
-        ensures { IfSome result (λ place. HasMarksAt self.now.states.items place tree.now) }
+    /// The place of a state that has the same marks, which have this sum.
+    fn place_of(&self, sum: usize, state: &State) -> Option<usize>
+        ensures { IfSome result (λ place. HasMarksAt self.now.states.items place
+            state.now.marks.items) }
     {
-        for place in 0..self.states.len() {
-            if self.states.get(place)?.tree.has_marks_of(tree) {
-                return Some(place);
-            }
+        let place = self.places.get(&sum).copied()?;
+        let known = self.states.get(place)?;
+        if known.marks.as_slice() != state.marks.as_slice() {
+            return None;
         }
-        None
+        Some(place)
     }
 
     /// Adds the state, and returns its row.
-    fn add(&mut self, state: State) -> Option<usize>
-        requires { HasForm self.old.expression.root state }
-        ensures same { self.new.expression ≡ self.old.expression }
+    fn add(&mut self, sum: usize, state: State) -> Option<usize>
+        requires right { IsState self.old.expression.root state }
+        requires room { length self.old.states.items < 2500 }
+        ensures same { self.new.expression.root ≡ self.old.expression.root }
         ensures rows { Extends self.old.states.items self.new.states.items }
         ensures next { IfSome result (λ next. IsRowOf self.new.expression.root
             self.new.states.items next state) }
     {
-        if self.states.len() >= STATES {
-            return None;
-        }
+        self.room = self.room.saturating_sub(state.marks.len());
         if self.states.push(state).is_err() {
             return None;
         }
-        Some(self.states.len())
+        let row = self.states.len();
+        if self.places.insert(sum, row - 1).is_err() {
+            return None;
+        }
+        Some(row)
     }
 
     /// Makes room for the steps from one more row, if there is none for the last one, and there is memory.
     fn make_room(&mut self)
-        ensures same { self.new.expression ≡ self.old.expression }
+        ensures same { self.new.expression.root ≡ self.old.expression.root }
         ensures states { self.new.states ≡ self.old.states }
     {
         if self.steps.len() > self.states.len() * ASCII {
@@ -230,11 +253,20 @@ impl Automaton {
         requires reads { (cs : List ℕ) →
             row_reads self.old.expression.root self.old.states.items next cs
             ≡ row_reads self.old.expression.root self.old.states.items row (c ∷ cs) }
-        ensures same { self.new.expression ≡ self.old.expression }
+        ensures same { self.new.expression.root ≡ self.old.expression.root }
         ensures states { self.new.states ≡ self.old.states }
     {
         if let Some(step) = self.steps.get_mut(row * ASCII + c as usize) {
-            *step = next as u8;
+            *step = next as u16;
         }
     }
+}
+
+/// A number that is the same for the same marks.
+fn sum_of(marks: &[usize]) -> usize {
+    let mut sum: usize = 0;
+    for mark in marks {
+        sum = sum.wrapping_mul(1_000_003).wrapping_add(*mark);
+    }
+    sum
 }

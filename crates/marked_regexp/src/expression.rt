@@ -37,9 +37,7 @@ impl Expression {
         ensures matched { IsTrue result ↔ Matches (form_of self.old) (chars text.now) }
         ensures same { form_of self.new ≡ form_of self.old }
     {
-        let found = matches_whole(&mut self.root, text);
-        self.root.clear();
-        found
+        matches_whole(&mut self.root, text)
     }
 
     /// Whether it matches a part of the text: some consecutive characters, or none. Time and memory

@@ -1,8 +1,8 @@
 //! The tree of a regular expression, with marks where the text read so far can end.
-ghost use Rattle.std.specs.Prelude.{◌≡◌, IfOk};
+ghost use Rattle.std.specs.Prelude.{◌≡◌, ◌++◌, false, IfOk, OnOk};
 ghost use Rattle.marked_regexp.specs.Marked.{IsKept, shifted, cleared, skips, is_marked, ends_here};
 ghost use Rattle.marked_regexp.specs.Marked.{is_empty, is_each, is_any, is_settled, fewer, IsCopy};
-ghost use Rattle.marked_regexp.specs.Marked.{same_marks};
+ghost use Rattle.marked_regexp.specs.Marked.{marks_of, placed, behind, first, rest};
 
 use crate::class::Class;
 use std::alloc::{AllocError, Global};
@@ -177,40 +177,114 @@ impl Node {
         }
     }
 
-    /// Whether both have the same marks. They are trees of one regular expression.
-    pub(crate) fn has_marks_of(&self, other: &Node) -> bool
-        ensures { result ≡ same_marks self.now other.now }
+    /// Appends the marks to a list: for each part whether it has any, and if so those of its parts.
+    pub(crate) fn list_marks(&self, list: &mut Vec<usize>) -> Result<(), AllocError>
+        ensures { OnOk result (list.new.items ≡ list.old.items ++ marks_of self.now) }
     {
         match self {
-            Node::Empty => other.is_empty(),
-            Node::Class { mark, .. } => match other {
-                Node::Class { mark: as_here, .. } => *mark == *as_here,
-                _ => false,
-            },
-            Node::Concat { left, right, .. } => match other {
-                Node::Concat {
-                    left: first,
-                    right: second,
-                    ..
-                } => left.has_marks_of(first) && right.has_marks_of(second),
-                _ => false,
-            },
-            Node::Alternation { left, right, .. } => match other {
-                Node::Alternation {
-                    left: first,
-                    right: second,
-                    ..
-                } => left.has_marks_of(first) && right.has_marks_of(second),
-                _ => false,
-            },
-            Node::Star { body, .. } => match other {
-                Node::Star { body: repeated, .. } => body.has_marks_of(repeated),
-                _ => false,
-            },
-            Node::UpTo { left, .. } => match other {
-                Node::UpTo { left: as_here, .. } => *left == *as_here,
-                _ => false,
-            },
+            Node::Empty => {}
+            Node::Class { mark, .. } => list.push(if *mark { 1 } else { 0 })?,
+            Node::Concat {
+                left,
+                right,
+                left_marked,
+                right_marked,
+                ..
+            }
+            | Node::Alternation {
+                left,
+                right,
+                left_marked,
+                right_marked,
+            } => {
+                if !(*left_marked | *right_marked) {
+                    list.push(0)?;
+                    return Ok(());
+                }
+                list.push(1)?;
+                left.list_marks(list)?;
+                right.list_marks(list)?;
+            }
+            Node::Star { body, .. } => body.list_marks(list)?,
+            Node::UpTo { left: None, .. } => list.push(0)?,
+            Node::UpTo {
+                left: Some(count),
+                ..
+            } => {
+                list.push(1)?;
+                list.push(*count)?;
+            }
+        }
+        Ok(())
+    }
+
+    /// Sets the marks of a list in a tree that has none. Returns the rest of the list, whether the
+    /// text can end here, and whether there is a mark.
+    pub(crate) fn set_marks<'a>(&mut self, list: &'a [usize]) -> (&'a [usize], bool, bool)
+        requires kept { IsKept self.old }
+        requires unmarked { is_marked self.old ≡ false }
+        ensures marks { self.new ≡ placed self.old list.now }
+        ensures rest { result.0.now ≡ behind self.old list.now }
+        ensures ends { result.1 ≡ ends_here self.new }
+        ensures marked { result.2 ≡ is_marked self.new }
+    {
+        match self {
+            Node::Empty => (list, false, false),
+            Node::Class { mark, .. } => {
+                let (first, rest) = split(list);
+                *mark = first > 0;
+                (rest, *mark, *mark)
+            }
+            Node::Concat {
+                left,
+                right,
+                right_empty,
+                left_ends,
+                left_marked,
+                right_marked,
+                ..
+            } => {
+                let (first, rest) = split(list);
+                if first == 0 {
+                    return (rest, false, false);
+                }
+                let (rest, ends, goes_left) = left.set_marks(rest);
+                *left_ends = ends;
+                *left_marked = goes_left;
+                let (rest, found, goes_right) = right.set_marks(rest);
+                *right_marked = goes_right;
+                (rest, found | (ends & *right_empty), goes_left | goes_right)
+            }
+            Node::Alternation {
+                left,
+                right,
+                left_marked,
+                right_marked,
+            } => {
+                let (first, rest) = split(list);
+                if first == 0 {
+                    return (rest, false, false);
+                }
+                let (rest, left_ends, goes_left) = left.set_marks(rest);
+                *left_marked = goes_left;
+                let (rest, right_ends, goes_right) = right.set_marks(rest);
+                *right_marked = goes_right;
+                (rest, left_ends | right_ends, goes_left | goes_right)
+            }
+            Node::Star { body, body_ends } => {
+                let (rest, ends, marked) = body.set_marks(list);
+                *body_ends = ends;
+                (rest, ends, marked)
+            }
+            Node::UpTo { most, left, .. } => {
+                let (first, rest) = split(list);
+                if first == 0 {
+                    return (rest, false, false);
+                }
+                let (count, rest) = split(rest);
+                *left = (count <= *most).then_some(count);
+                (rest, left.is_some(), left.is_some())
+            }
         }
     }
 
@@ -340,6 +414,17 @@ impl Node {
                 (left.is_some(), left.is_some())
             }
         }
+    }
+}
+
+/// The first number, or 0 if there is none, and the numbers behind it.
+fn split(list: &[usize]) -> (usize, &[usize])
+    ensures first { result.0 ≡ first list.now }
+    ensures rest { result.1.now ≡ rest list.now }
+{
+    match list.split_first() {
+        Some((first, rest)) => (*first, rest),
+        None => (0, list),
     }
 }
 

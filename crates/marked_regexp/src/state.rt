@@ -1,6 +1,7 @@
 //! Marks that a text has moved to.
 ghost use Rattle.std.specs.Prelude.{◌≡◌, ◌∷◌, ℕ, List, true, false, IfSome};
-ghost use Rattle.marked_regexp.specs.Marked.{IsKept, ends_here, is_kept, is_marked, reads, tree_form, verdict_in};
+ghost use Rattle.marked_regexp.specs.Automata.{IsState};
+ghost use Rattle.marked_regexp.specs.Marked.{IsKept, is_marked, placed, reads, verdict_in};
 
 use crate::marked::Node;
 use std::alloc::Global;
@@ -8,34 +9,42 @@ use std::alloc::Global;
 /// Marks that a text has moved to.
 #[derive(Drop)]
 pub(crate) struct State {
-    pub(crate) tree: Node,
+    /// The marks of a tree, as a list.
+    pub(crate) marks: Vec<usize>,
     /// Whether a text can end here.
     pub(crate) ends: bool,
     /// Whether each text is matched that goes on from here, or none is, where that is known.
     pub(crate) verdict: Option<bool>,
-    ghost kept: { is_kept tree ≡ true },
-    ghost ended: { ends ≡ ends_here tree },
-    ghost judged: { verdict ≡ verdict_in tree },
 }
 
 impl State {
-    /// The state after a character, from the marks of the tree.
-    pub(crate) fn after(alloc: Global, tree: &Node, start: bool, c: char) -> Option<State>
-        requires { IsKept tree.now }
-        ensures form { IfSome result (λ s. tree_form s.tree ≡ tree_form tree.now) }
+    /// The state after a character, from these marks of the tree. It has none before and afterwards.
+    pub(crate) fn after(
+        alloc: Global,
+        tree: &mut Node,
+        marks: &[usize],
+        start: bool,
+        c: char,
+    ) -> Option<State>
+        requires kept { IsKept tree.old }
+        requires unmarked { is_marked tree.old ≡ false }
+        ensures same { tree.new ≡ tree.old }
+        ensures right { IfSome result (λ s. IsState tree.old s) }
         ensures reads { IfSome result (λ s. (cs : List ℕ) →
-            reads false s.tree cs ≡ reads start tree.now (c ∷ cs)) }
+            reads false (placed tree.old s.marks.items) cs
+            ≡ reads start (placed tree.old marks.now) (c ∷ cs)) }
     {
-        let Ok(mut moved) = tree.copy(alloc) else {
+        let _rest = tree.set_marks(marks);
+        let (ends, marked) = tree.shift(start, c);
+        let verdict = verdict_of(tree, marked);
+        let mut marks = Vec::new(alloc);
+        let listed = tree.list_marks(&mut marks);
+        tree.clear();
+        let Ok(()) = listed else {
             return None;
         };
-        if !moved.has_marks_of(tree) {
-            return None;
-        }
-        let (ends, marked) = moved.shift(start, c);
-        let verdict = verdict_of(&moved, marked);
         Some(State {
-            tree: moved,
+            marks,
             ends,
             verdict,
         })

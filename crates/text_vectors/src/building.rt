@@ -145,3 +145,44 @@ fn automaton_of_letters(rt: HostRuntime) -> Result<(), Fail> {
     assert!(rt; !word.matches("aBba"));
     Ok(())
 }
+
+/// Of `Automaton`: texts of ASCII that lead to more states than are kept.
+#[test]
+fn automaton_beyond_its_states(rt: HostRuntime) -> Result<(), Fail> {
+    let alloc = rt.alloc();
+    let digit = Expression::one_of(Class::single(alloc, Item::Range('0', '9'))?);
+    let mut number = Automaton::new(alloc, digit.repeat(alloc, 0, Some(2600))?);
+    let mut text = String::new(alloc);
+    for _i in 0..2600 {
+        text.push('7')?;
+    }
+    assert!(rt; number.matches(text.as_str()));
+    assert!(rt; number.matches("77"));
+    text.push('7')?;
+    assert!(rt; !number.matches(text.as_str()));
+    assert!(rt; !number.matches("7x"));
+    Ok(())
+}
+
+/// Of `Automaton`: states with long lists of marks, of which few are kept.
+#[test]
+fn automaton_with_many_marks(rt: HostRuntime) -> Result<(), Fail> {
+    let alloc = rt.alloc();
+    let letter = Expression::one_of(Class::single(alloc, Item::Range('a', 'z'))?);
+    let mut pairs = Vec::new(alloc);
+    pairs.push(Expression::star(alloc, letter)?)?;
+    let a = Expression::one_of(Class::single(alloc, Item::Range('a', 'a'))?);
+    let b = Expression::one_of(Class::single(alloc, Item::Range('b', 'b'))?);
+    pairs.push(Expression::concat(alloc, a, b)?.repeat(alloc, 300, Some(300))?)?;
+    let mut ends = Automaton::new(alloc, Expression::sequence_of(alloc, pairs)?);
+    let mut text = String::new(alloc);
+    for _i in 0..350 {
+        text.push_str("ab")?;
+    }
+    assert!(rt; ends.matches(text.as_str()));
+    assert!(rt; ends.matches(text.as_str()));
+    text.push('c')?;
+    assert!(rt; !ends.matches(text.as_str()));
+    assert!(rt; !ends.matches("ab"));
+    Ok(())
+}

@@ -1,5 +1,5 @@
-use Rattle.std.proofs.Common.{◌≡◌, ◌∙◌, ap, arith, length}
-use Rattle.marked_regexp.proofs.Automata.{ends_had, ends_start, state_had}
+use Rattle.std.proofs.Common.{◌∙◌, ap, arith, length}
+use Rattle.marked_regexp.proofs.Automata.{ends_start}
 use Rattle.marked_regexp.proofs.automaton.Automaton.ends.Goals as goal
 
 pub returns-in_default : goal.returns-in_default

@@ -1,11 +1,10 @@
-use Rattle.std.proofs.Common.{◌≡◌, ◌∙◌, ap, arith, refl, sym, subst, true}
+use Rattle.std.proofs.Common.{◌∙◌, ap, arith, refl, sym, subst, true}
 use Rattle.std.proofs.StrCases.{chars_of_empty}
 use Rattle.std.proofs.lemmas.Str.{chars_past_char, IsUtf8-past_char}
 use Rattle.std.specs.Str.{chars, IsUtf8}
 use Rattle.std.specs.Str.Iter.{chars_rest}
 use Rattle.marked_regexp.specs.Automata.{row_reads}
 use Rattle.marked_regexp.specs.Marked.{reads}
-use Rattle.marked_regexp.specs.declared.expression.Expression.{Expression}
 use Rattle.marked_regexp.proofs.automaton.Automaton.judge.Goals as goal
 
 pub loop-c-init : goal.loop-c-init
@@ -26,7 +25,7 @@ loop-c-preserved c =
       utf8 = IsUtf8-past_char _ _ c.in-Some.c held.utf8 parts;
       row = step.next.0;
       same = step.same ∙ held.same;
-      reads = ap (λ (x : Expression). row_reads x.root c.step.new.self.states.items c.in_ok-row.row rest) step.same
+      reads = ap (λ x. row_reads x c.step.new.self.states.items c.in_ok-row.row rest) step.same
           ∙ (step.next.1 rest ∙ (ap (row_reads c.loop-c.self.expression.root c.loop-c.self.states.items c.loop-c.row)
           (sym (chars_past_char _ _ c.in-Some.c held.utf8 parts)) ∙ held.reads));
     }
@@ -38,7 +37,7 @@ returns-in-Some-verdict-clause-matched c =
     let step = c.in_ok-row.ensures in
     let rest = chars (chars_rest c.next.new.self) in
     sym (c.in-Some-verdict.ensures rest)
-    ∙ (ap (λ (x : Expression). row_reads x.root c.step.new.self.states.items c.in_ok-row.row rest) step.same
+    ∙ (ap (λ x. row_reads x c.step.new.self.states.items c.in_ok-row.row rest) step.same
     ∙ (step.next.1 rest ∙ (ap (row_reads c.loop-c.self.expression.root c.loop-c.self.states.items c.loop-c.row)
     (sym (chars_past_char _ _ c.in-Some.c held.utf8 parts)) ∙ held.reads)))
 

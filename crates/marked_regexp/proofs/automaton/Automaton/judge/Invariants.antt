@@ -9,7 +9,7 @@ abbrev pub invariant-loop-c : goal.invariant-loop-c
 invariant-loop-c l = record {
   utf8 : IsUtf8 (chars_rest l.c-iterator);
   row : l.row ≤ length l.self.states.items;
-  same : l.self.expression ≡ l.fn.self.expression;
+  same : l.self.expression.root ≡ l.fn.self.expression.root;
   reads : row_reads l.self.expression.root l.self.states.items l.row (chars (chars_rest l.c-iterator))
       ≡ reads true l.fn.self.expression.root (chars l.fn.text);
 }

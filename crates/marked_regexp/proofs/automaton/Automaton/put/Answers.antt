@@ -1,4 +1,3 @@
-use Rattle.std.proofs.Common.{arith}
 use Rattle.marked_regexp.proofs.Automata.{knows_step}
 use Rattle.marked_regexp.proofs.automaton.Automaton.put.Goals as goal
 
@@ -7,7 +6,7 @@ invariant_of-self c =
     let x = c.args.self.now in
     record {
       few = x.few;
-      formed = x.formed;
+      right = x.right;
       known = knows_step x.expression.root x.states.items x.steps.items c.args.row c.args.c c.args.next x.known c.requires.row c.requires.ascii
           c.requires.next.1 c.requires.reads;
     }

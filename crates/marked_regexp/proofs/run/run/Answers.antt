@@ -3,9 +3,10 @@ use Rattle.std.proofs.lemmas.Str.{chars_past_char, IsUtf8-past_char}
 use Rattle.std.proofs.StrCases.{chars_of_empty}
 use Rattle.std.specs.Str.{chars, IsUtf8}
 use Rattle.std.specs.Str.Iter.{chars_rest}
-use Rattle.marked_regexp.specs.Marked.{tree_form, skips}
+use Rattle.marked_regexp.specs.Marked.{cleared, tree_form, skips}
 use Rattle.marked_regexp.proofs.Running.{Whole, whole_init, whole_step, whole_end, whole_settled, whole_unmarked, cleared_unmarked}
-use Rattle.marked_regexp.proofs.run.matches_whole.Goals as goal
+use Rattle.marked_regexp.proofs.Placing.{cleared_shifted}
+use Rattle.marked_regexp.proofs.run.run.Goals as goal
 
 pub loop-c-init : goal.loop-c-init
 loop-c-init c =
@@ -14,62 +15,60 @@ loop-c-init c =
     let front = chars (chars_rest c.into_iter-c-iterator.result) in
     let still = cleared_unmarked c.args.root.now c.requires.kept c.requires.unmarked in
     let start = whole_init c.args.root.now c.skips-ends.result front text c.requires.kept (c.skips-ends.ensures ∙ ap skips still)
-    (ap chars rest) in (
-      subst IsUtf8 (sym rest) c.utf8.text,
-      subst (λ n. Whole (tree_form c.args.root.now) n true c.skips-ends.result front text) (sym still) start,
-    )
+    (ap chars rest) in record {
+      utf8 = subst IsUtf8 (sym rest) c.utf8.text;
+      whole = subst (λ n. Whole (tree_form c.args.root.now) n true c.skips-ends.result front text) (sym still) start;
+      same = sym still;
+    }
 
 pub loop-c-preserved : goal.loop-c-preserved
 loop-c-preserved c =
     let held = c.loop-c.invariant in
-    let parts = c.in-Some.ensures.steps.0 in (
-      IsUtf8-past_char _ _ c.in-Some.c held.0 parts,
-      whole_step _ _ _ _ _ _ c.in-Some.c _ _ _ held.1
-          (chars_past_char _ _ c.in-Some.c held.0 parts) c.shift-found.ensures.marks c.shift-found.ensures.ends,
-    )
+    let parts = c.in-Some.ensures.steps.0 in record {
+      utf8 = IsUtf8-past_char _ _ c.in-Some.c held.utf8 parts;
+      whole = whole_step _ _ _ _ _ _ c.in-Some.c _ _ _ held.whole
+          (chars_past_char _ _ c.in-Some.c held.utf8 parts) c.shift-found.ensures.marks c.shift-found.ensures.ends;
+      same = ap cleared c.shift-found.ensures.marks ∙ (cleared_shifted c.loop-c.root _ _ ∙ held.same);
+    }
 
 pub returns-then-not-marked-clause-kept : goal.returns-then-not-marked-clause-kept
 returns-then-not-marked-clause-kept c =
-    (whole_step _ _ _ _ _ _ c.in-Some.c _ _ _ c.loop-c.invariant.1
-    (chars_past_char _ _ c.in-Some.c c.loop-c.invariant.0 c.in-Some.ensures.steps.0)
+    (whole_step _ _ _ _ _ _ c.in-Some.c _ _ _ c.loop-c.invariant.whole
+    (chars_past_char _ _ c.in-Some.c c.loop-c.invariant.utf8 c.in-Some.ensures.steps.0)
     c.shift-found.ensures.marks c.shift-found.ensures.ends).kept
 
 pub returns-then-not-marked-clause-same : goal.returns-then-not-marked-clause-same
 returns-then-not-marked-clause-same c =
-    (whole_step _ _ _ _ _ _ c.in-Some.c _ _ _ c.loop-c.invariant.1
-    (chars_past_char _ _ c.in-Some.c c.loop-c.invariant.0 c.in-Some.ensures.steps.0)
-    c.shift-found.ensures.marks c.shift-found.ensures.ends).form
+    ap cleared c.shift-found.ensures.marks ∙ (cleared_shifted c.loop-c.root _ _ ∙ c.loop-c.invariant.same)
 
 pub returns-then-not-marked-clause-matched : goal.returns-then-not-marked-clause-matched
 returns-then-not-marked-clause-matched c =
-    whole_unmarked _ _ _ _ _ (whole_step _ _ _ _ _ _ c.in-Some.c _ _ _ c.loop-c.invariant.1
-    (chars_past_char _ _ c.in-Some.c c.loop-c.invariant.0 c.in-Some.ensures.steps.0)
+    whole_unmarked _ _ _ _ _ (whole_step _ _ _ _ _ _ c.in-Some.c _ _ _ c.loop-c.invariant.whole
+    (chars_past_char _ _ c.in-Some.c c.loop-c.invariant.utf8 c.in-Some.ensures.steps.0)
     c.shift-found.ensures.marks c.shift-found.ensures.ends) (sym c.shift-found.ensures.marked ∙ c.if-not-marked.true)
 
 pub returns-then-is_settled-clause-kept : goal.returns-then-is_settled-clause-kept
 returns-then-is_settled-clause-kept c =
-    (whole_step _ _ _ _ _ _ c.in-Some.c _ _ _ c.loop-c.invariant.1
-    (chars_past_char _ _ c.in-Some.c c.loop-c.invariant.0 c.in-Some.ensures.steps.0)
+    (whole_step _ _ _ _ _ _ c.in-Some.c _ _ _ c.loop-c.invariant.whole
+    (chars_past_char _ _ c.in-Some.c c.loop-c.invariant.utf8 c.in-Some.ensures.steps.0)
     c.shift-found.ensures.marks c.shift-found.ensures.ends).kept
 
 pub returns-then-is_settled-clause-same : goal.returns-then-is_settled-clause-same
 returns-then-is_settled-clause-same c =
-    (whole_step _ _ _ _ _ _ c.in-Some.c _ _ _ c.loop-c.invariant.1
-    (chars_past_char _ _ c.in-Some.c c.loop-c.invariant.0 c.in-Some.ensures.steps.0)
-    c.shift-found.ensures.marks c.shift-found.ensures.ends).form
+    ap cleared c.shift-found.ensures.marks ∙ (cleared_shifted c.loop-c.root _ _ ∙ c.loop-c.invariant.same)
 
 pub returns-then-is_settled-clause-matched : goal.returns-then-is_settled-clause-matched
 returns-then-is_settled-clause-matched c =
-    whole_settled _ _ _ _ _ _ (whole_step _ _ _ _ _ _ c.in-Some.c _ _ _ c.loop-c.invariant.1
-    (chars_past_char _ _ c.in-Some.c c.loop-c.invariant.0 c.in-Some.ensures.steps.0)
+    whole_settled _ _ _ _ _ _ (whole_step _ _ _ _ _ _ c.in-Some.c _ _ _ c.loop-c.invariant.whole
+    (chars_past_char _ _ c.in-Some.c c.loop-c.invariant.utf8 c.in-Some.ensures.steps.0)
     c.shift-found.ensures.marks c.shift-found.ensures.ends) (sym c.is_settled.ensures ∙ c.if-is_settled.true)
 
 pub returns-clause-kept : goal.returns-clause-kept
-returns-clause-kept c = c.loop-c.invariant.1.kept
+returns-clause-kept c = c.loop-c.invariant.whole.kept
 
 pub returns-clause-same : goal.returns-clause-same
-returns-clause-same c = c.loop-c.invariant.1.form
+returns-clause-same c = c.loop-c.invariant.same
 
 pub returns-clause-matched : goal.returns-clause-matched
 returns-clause-matched c =
-    whole_end _ _ _ _ _ _ c.loop-c.invariant.1 (chars_of_empty (chars_rest c.loop-c.c-iterator) c.in-None.ensures.steps.0.0)
+    whole_end _ _ _ _ _ _ c.loop-c.invariant.whole (chars_of_empty (chars_rest c.loop-c.c-iterator) c.in-None.ensures.steps.0.0)

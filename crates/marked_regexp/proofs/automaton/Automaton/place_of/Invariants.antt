@@ -1,4 +1,0 @@
-use Rattle.marked_regexp.proofs.automaton.Automaton.place_of.Given as goal
-
-abbrev pub invariant-loop-place : goal.invariant-loop-place
-invariant-loop-place l = Unit {0}
