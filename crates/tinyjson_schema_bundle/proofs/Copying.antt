@@ -1,13 +1,13 @@
 -- Which states copies are made for, and the letters of their keys.
-use Rattle.std.proofs.Common.{◌≡◌, ◌≤◌, ◌<◌, ◌+◌, ◌⊎◌, inl, inr, ℕ, zero, suc, Bool, true, false, ◌&&◌, List, [], ◌∷◌, ◌++◌, cond, length, map}
-use Rattle.std.proofs.Common.{drop, get_or, is_none, bytes_eq, refl, sym, ap, ◌∙◌, subst, arith}
+use Rattle.std.proofs.Common.{◌≡◌, ◌≤◌, ◌<◌, inl, inr, ℕ, zero, suc, Bool, true, false, ◌&&◌, List, [], ◌∷◌, ◌++◌, cond, length, map}
+use Rattle.std.proofs.Common.{get_or, is_none, bytes_eq, refl, sym, ap, subst, arith}
 use Rattle.std.proofs.lemmas.Bool.{and_parts}
 use Rattle.tinyjson.specs.Tree.{Tree}
 use Rattle.uri_reference.specs.Resolving.{without_fragment}
 use Rattle.tinyjson_schema_bundle.specs.Bundles.{Marked, marks_of, base_in}
 use Rattle.tinyjson_schema_bundle.specs.Scopes.{Scope, Reached, IsOneOf, is_contested, is_entering, entered_by, entered, scope_by, scope_at}
 use Rattle.tinyjson_schema_bundle.specs.Scopes.{reached, home, settled, name_in, is_between, IsScope, HaveScopes, AreCopies, reached_of}
-use Rattle.tinyjson_schema_bundle.specs.Scopes.{MayAppend, may_be_letter, letters_in}
+use Rattle.tinyjson_schema_bundle.specs.Scopes.{MayAppend}
 use Rattle.tinyjson_schema_bundle.specs.declared.scope.State.{State}
 
 module _ (all : List Marked) (r : List ℕ) where

@@ -12,7 +12,7 @@ use Rattle.tinyjson.specs.declared.value.JsonValue.{JsonValue}
 use Rattle.tinyjson.specs.declared.value.JsonValue.TheVariants as is
 use Rattle.uri_reference.specs.Resolving.{resolved, without_fragment}
 use Rattle.tinyjson_schema_keywords.specs.Forms.{form_at}
-use Rattle.tinyjson_schema_keywords.specs.Subschemas.{InForm, by_key, by_index, keyword_parts, item_parts, entry_parts, parts_of}
+use Rattle.tinyjson_schema_keywords.specs.Subschemas.{by_key, keyword_parts, item_parts, entry_parts, parts_of}
 use Rattle.tinyjson_schema_keywords.specs.Subschemas.{way_of, part_seen, all_parts}
 use Rattle.tinyjson_schema_keywords.specs.declared.keyword.Form.{Form}
 use Rattle.tinyjson_schema_keywords.specs.declared.keyword.Form.TheVariants as form

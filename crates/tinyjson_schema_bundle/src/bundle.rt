@@ -1,5 +1,6 @@
 //! Bundling: every reference to a schema in the document becomes a JSON pointer from the root.
 ghost use Rattle.std.specs.Prelude.{◌≡◌, ◌&&◌, List, IfOk, OnOk, option_map};
+ghost use Rattle.std.specs.Option.{option_map_or};
 ghost use Rattle.std.specs.Str.{chars};
 ghost use Rattle.std.specs.String.{string_bytes};
 ghost use Rattle.tinyjson.specs.View.{view, items_view, members_view, members_listed};
@@ -32,22 +33,39 @@ use uri_reference::{resolve, without_fragment};
 /// on what has led to it. What can't be resolved stays as it is, as a reference out of the document; `Schema::read`
 /// of `tinyjson_schema` then rejects it with its place. The only error is out of memory.
 ///
-/// It is recursive: it takes stack with the nesting of the schema. Not inlined, so that a later check has all of
-/// the stack.
+/// It is recursive: it takes stack with the nesting of the schema.
 ///
 /// ```
 /// bundled(&document, alloc)?; // {"$ref":"x","$defs":{"y":{"$id":"x"}}} becomes {"$ref":"#/$defs/y","$defs":{"y":{}}}
 /// ```
-#[inline(never)]
 pub fn bundled(document: &JsonValue, alloc: Global) -> Result<JsonValue, AllocError>
     ensures { IfOk result (λ v. (copies : List Reached)
         × (view v ≡ bundled copies (view document.now))
         × AreCopies (view document.now) copies) }
 {
+    match bundle_of(document, alloc)? {
+        Some(bundle) => Ok(bundle),
+        None => document.try_clone(alloc),
+    }
+}
+
+/// As [`bundled`], without a copy: `None` if the document is such a single resource already.
+///
+/// Not inlined, so that a later check has all of the stack.
+///
+/// ```
+/// bundle_of(&document, alloc)?; // of {"$ref":"#/$defs/y","$defs":{"y":{}}}: None
+/// ```
+#[inline(never)]
+pub fn bundle_of(document: &JsonValue, alloc: Global) -> Result<Option<JsonValue>, AllocError>
+    ensures { IfOk result (λ o. (copies : List Reached)
+        × (option_map_or view o (view document.now) ≡ bundled copies (view document.now))
+        × AreCopies (view document.now) copies) }
+{
     let gathered = marks_of(document, alloc)?;
     let marks = gathered.as_slice();
     if !is_bundle(marks) {
-        return document.try_clone(alloc);
+        return Ok(None);
     }
     let places = places_of(marks, alloc)?;
     let uri = base_in("", document, alloc)?;
@@ -71,7 +89,7 @@ pub fn bundled(document: &JsonValue, alloc: Global) -> Result<JsonValue, AllocEr
         copies: copies.as_slice(),
         ..guide
     };
-    with_copies(document, &guide)
+    Ok(Some(with_copies(document, &guide)?))
 }
 
 #[cycle(bundle)]

@@ -13,4 +13,4 @@ mod mark;
 mod place;
 mod scope;
 
-pub use bundle::bundled;
+pub use bundle::{bundle_of, bundled};

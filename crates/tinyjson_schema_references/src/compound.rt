@@ -1,5 +1,6 @@
 //! Compound documents: a schema with further documents embedded.
 ghost use Rattle.std.specs.Prelude.{◌≡◌, ◌||◌, map, IfErr, IfOk};
+ghost use Rattle.std.specs.Option.{option_map_or};
 ghost use Rattle.tinyjson.specs.View.{view};
 ghost use Rattle.tinyjson_schema_documents.specs.Documents.{string_of};
 ghost use Rattle.tinyjson_schema_meta.specs.Meta.{published};
@@ -12,7 +13,7 @@ use crate::wanted::wanted;
 use std::alloc::{AllocError, Global};
 use tinyjson::{JsonParseError, JsonValue};
 use tinyjson_pointer::put_member;
-use tinyjson_schema_bundle::bundled;
+use tinyjson_schema_bundle::bundle_of;
 use tinyjson_schema_documents::with_document;
 use tinyjson_schema_drafts::{Draft, read_as};
 use tinyjson_schema_keywords::Keyword;
@@ -89,23 +90,42 @@ pub fn with_meta_schemas(compound: Compound, alloc: Global) -> Result<Compound, 
     ensures ok { IfOk result (λ c. HasMetaSchemas (seen compound) (seen c)) }
     ensures err { IfErr result IsCause }
 {
-    let bundle = bundled(&compound.tree, alloc)?;
-    let documents = wanted(&compound.tree, &bundle, alloc)?;
+    let bundle = bundle_of(&compound.tree, alloc)?;
+    let single = bundle_or(&bundle, &compound.tree);
+    let documents = wanted(&compound.tree, single, alloc)?;
     if documents.as_slice().is_empty() {
-        compound.tree.dismantle();
-        return Ok(Compound {
-            tree: bundle,
-            is_older: compound.is_older,
-        });
+        return Ok(in_its_place(compound, bundle));
     }
-    bundle.dismantle();
+    if let Some(tree) = bundle {
+        tree.dismantle();
+    }
     let whole = with_all(compound, documents.as_slice(), alloc)?;
-    let tree = bundled(&whole.tree, alloc)?;
-    whole.tree.dismantle();
-    Ok(Compound {
+    let bundle = bundle_of(&whole.tree, alloc)?;
+    Ok(in_its_place(whole, bundle))
+}
+
+/// The bundle of a schema, which is the schema itself if there is no other.
+fn bundle_or<'a>(bundle: &'a Option<JsonValue>, tree: &'a JsonValue) -> &'a JsonValue
+    ensures { view result.now ≡ option_map_or view bundle.now (view tree.now) }
+{
+    match bundle {
+        Some(bundle) => bundle,
+        None => tree,
+    }
+}
+
+/// The schema with the bundle in its place, if there is one.
+fn in_its_place(compound: Compound, bundle: Option<JsonValue>) -> Compound
+    ensures { seen result ≡ (option_map_or view bundle (view compound.tree), compound.is_older) }
+{
+    let Some(tree) = bundle else {
+        return compound;
+    };
+    compound.tree.dismantle();
+    Compound {
         tree,
-        is_older: whole.is_older,
-    })
+        is_older: compound.is_older,
+    }
 }
 
 /// The schema with these meta-schemas.

@@ -1,6 +1,6 @@
 use Rattle.std.proofs.Common.{◌≡◌, ◌<◌, get_or, length, subst, sym, rules}
 use Rattle.tinyjson_schema_bundle.specs.Bundles.{all_marked}
-use Rattle.tinyjson_schema_bundle.specs.Scopes.{IsScope, Reached, reached_of}
+use Rattle.tinyjson_schema_bundle.specs.Scopes.{IsScope, Reached}
 use Rattle.tinyjson_schema_bundle.proofs.Copying.{scope_of}
 use Rattle.tinyjson_schema_bundle.proofs.copies.copies_of.Goals as goal
 

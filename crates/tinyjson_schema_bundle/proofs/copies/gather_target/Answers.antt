@@ -1,4 +1,4 @@
-use Rattle.std.proofs.Common.{◌≡◌, ◌<◌, length, subst, sym, rules}
+use Rattle.std.proofs.Common.{◌<◌, length, subst, sym, rules}
 use Rattle.std.proofs.lemmas.List.{length-map}
 use Rattle.tinyjson_schema_bundle.specs.Bundles.{all_marked}
 use Rattle.tinyjson_schema_bundle.specs.Scopes.{IsScope, Reached, reached_of, states_in}

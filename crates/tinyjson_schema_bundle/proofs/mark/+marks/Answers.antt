@@ -1,4 +1,4 @@
-use Rattle.std.proofs.Common.{◌≡◌, ◌++◌, ◌<◌, ◌+◌, ◌*◌, ◌∙◌, arith, rules, ap, sym, subst}
+use Rattle.std.proofs.Common.{◌≡◌, ◌++◌, ◌<◌, ◌+◌, ◌*◌, ◌∙◌, arith, rules, ap, subst}
 use Rattle.std.specs.Prelude.{OnOk}
 use Rattle.tinyjson.specs.Tree.{tree_depth}
 use Rattle.tinyjson.specs.View.{view}
