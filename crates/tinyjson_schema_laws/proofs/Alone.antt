@@ -32,13 +32,13 @@ use Rattle.tinyjson_schema.specs.Circles.{settles, reference_steps, leads}
 use Rattle.tinyjson_schema.specs.Nested.{is_reference}
 use Rattle.tinyjson_schema.specs.Schemas.{fits, is_schema, keywords_fit, are_schemas, have_schemas}
 use Rattle.tinyjson_schema.specs.Valid.{IsValidIn, refuses_all}
-use Rattle.tinyjson_schema_laws.specs.Laws.{IsAlone, ExactAlone}
-use Rattle.tinyjson_schema_laws.specs.Scoped.{Scope, IsValidScoped, entered, outermost, dynamic_in, leads_in, led_to, located_at}
-use Rattle.tinyjson_schema_laws.specs.Scoped.{located, target_in}
+use Rattle.tinyjson_schema_laws.specs.Laws.{IsAlone, ExactAlone, DecidedAlone}
+use Rattle.tinyjson_schema_laws.specs.Scoped.{Scope, Scoped, IsValidScoped, judged, entered, outermost, dynamic_in, leads_in, led_to}
+use Rattle.tinyjson_schema_laws.specs.Scoped.{located_at, located, target_in}
 use Rattle.tinyjson_schema_laws.specs.Short.{IsShort}
 use Rattle.tinyjson_schema_laws.proofs.Bisimilar.{AllRel, MapRel, ValueRel, LedRel, Simulates, is_applied}
 use Rattle.tinyjson_schema_laws.proofs.Dynamic.{in_base, empty_base}
-use Rattle.tinyjson_schema_laws.proofs.Exactly.{exactly}
+use Rattle.tinyjson_schema_laws.proofs.Exactly.{exactly, each_value_decided}
 use Rattle.tinyjson_schema_laws.proofs.Fitting.{fit_found, no_id, led_there}
 use Rattle.tinyjson_schema_laws.proofs.Fragments.{base_clean, front_kept, inside_resolved}
 use Rattle.tinyjson_schema_laws.proofs.Places.{AreScalars, tokens_scalars}
@@ -328,7 +328,10 @@ module _ (ms : Members) (sound : IsTree (object ms)) (short : IsShort (object ms
   exact_object : (formats : Bool) (u : Tree) → IsValidScoped t formats u ↔ IsValidIn (record { tree = t; formats = formats }) u
   exact_object formats u = exactly t t Related simulates ([], refl, tt, refl, true, fit) formats u
 
--- ---- the law
+  decided_object : (formats : Bool) (u : Tree) → (is : Bool) × (n : ℕ) × ((g : Scoped) → judged t formats n g u ≡ is)
+  decided_object formats u = each_value_decided t t Related simulates ([], refl, tt, refl, true, fit) formats u
+
+-- ---- the laws
 
 module _ (x : Bool) where
   abbrev AreBoolean : Scope → Tree → Tree → Type 0
@@ -351,4 +354,12 @@ exact_alone t is formats u = by t is
     by : (t : Tree) → IsAlone t → IsValidScoped t formats u ↔ IsValidIn (record { tree = t; formats = formats }) u
     by (object ms) is = exact_object ms is.sound is.short is.applied formats u
     by (boolean x) is = exactly (boolean x) (boolean x) (AreBoolean x) (boolean_simulates x) (refl, refl) formats u
+    by _ is = absurd (true≢false (sym is.applied))
+
+pub decided_alone : DecidedAlone
+decided_alone t is formats u = by t is
+  where
+    by : (t : Tree) → IsAlone t → (is : Bool) × (n : ℕ) × ((g : Scoped) → judged t formats n g u ≡ is)
+    by (object ms) is = decided_object ms is.sound is.short is.applied formats u
+    by (boolean x) is = each_value_decided (boolean x) (boolean x) (AreBoolean x) (boolean_simulates x) (refl, refl) formats u
     by _ is = absurd (true≢false (sym is.applied))

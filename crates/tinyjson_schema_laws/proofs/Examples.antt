@@ -12,7 +12,7 @@ use Rattle.tinyjson_schema_bundle.specs.declared.mark.Kind.TheVariants as kind
 use Rattle.tinyjson_schema.specs.Evaluated.{Answers}
 use Rattle.tinyjson_schema.specs.Schemas.{is_schema}
 use Rattle.tinyjson_schema.specs.Valid.{plain, judge}
-use Rattle.tinyjson_schema_laws.specs.Laws.{IsUncontested, IsCopied}
+use Rattle.tinyjson_schema_laws.specs.Laws.{IsUncontested, IsCopied, IsAlone}
 use Rattle.tinyjson_schema_laws.specs.Short.{IsShort}
 use Rattle.tinyjson_schema_laws.specs.Scoped.{Scoped, judged, led_to, located_at, outer}
 
@@ -48,7 +48,15 @@ tree_sound = (
   (refl, (refl, (tt, tt))),
 )
 
--- so it is a document that the laws are about
+tree_short : IsShort tree_schema
+tree_short = (tt, (tt, ((((tt, tt), tt), (tt, tt)), tt)))
+
+-- alone, it is a document of one resource that the laws are about
+tree_alone : IsAlone tree_schema
+unfolding is_utf8 chars encode
+tree_alone = record { sound = tree_sound; short = tree_short; applied = refl }
+
+-- and the strict one is a document of several
 strict_uncontested : IsUncontested strict_schema
 unfolding is_utf8 chars encode
 strict_uncontested = record {

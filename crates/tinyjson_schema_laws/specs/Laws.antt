@@ -107,3 +107,8 @@ pub record IsAlone (t : Tree) : Type 0 where
 abbrev pub ExactAlone : Type 0
 ExactAlone = (t : Tree) → IsAlone t → (formats : Bool) (u : Tree)
     → IsValidScoped t formats u ↔ IsValidIn (record { tree = t; formats = formats }) u
+
+-- Such a document decides on each value too.
+abbrev pub DecidedAlone : Type 0
+DecidedAlone = (t : Tree) → IsAlone t → (formats : Bool) (u : Tree)
+    → (is : Bool) × (n : ℕ) × ((g : Scoped) → judged t formats n g u ≡ is)

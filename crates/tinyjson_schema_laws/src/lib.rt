@@ -5,6 +5,7 @@
 #![tactic(auto)]
 
 ghost use Rattle.tinyjson_schema_laws.specs.Laws.{
+  DecidedAlone,
   DecidedCopied,
   EachDecided,
   Exact,
@@ -46,6 +47,11 @@ pub fn each_decided_with_copies()
 /// the values that it accepts as a root schema.
 pub fn same_verdict_alone()
     ensures { ExactAlone }
+{}
+
+/// Such a document decides on each value too.
+pub fn each_decided_alone()
+    ensures { DecidedAlone }
 {}
 
 /// What the bundled document keeps of a dynamic scope decides as the scope does.
