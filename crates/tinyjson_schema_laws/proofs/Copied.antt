@@ -27,7 +27,7 @@ use Rattle.tinyjson_schema.specs.Nested.{is_reference}
 use Rattle.tinyjson_schema.specs.Schemas.{is_schema, keywords_fit}
 use Rattle.tinyjson_schema.specs.Valid.{refuses_all}
 use Rattle.tinyjson_schema_laws.specs.Laws.{BeginsIn, AreUris, kept}
-use Rattle.tinyjson_schema_laws.specs.Leading.{lead_by, lead_in, lead_in_list, lead_in_map, lead_among, to_schema}
+use Rattle.tinyjson_schema_laws.proofs.Leading.{lead_by, lead_in, lead_in_list, lead_in_map, lead_among, to_schema}
 use Rattle.tinyjson_schema_laws.specs.Scoped.{Scope, base, entered, outer, led_to, located, located_at, base_within, target_in}
 use Rattle.tinyjson_schema_laws.proofs.Bisimilar.{ValueRel, LedRel, Simulates, is_applied}
 use Rattle.tinyjson_schema_laws.proofs.Dynamic.{ends_more}

@@ -21,8 +21,9 @@ use Rattle.tinyjson_schema_bundle.specs.Scopes.{is_contested, some_contested, bu
 use Rattle.tinyjson_schema.specs.Schemas.{is_schema}
 use Rattle.tinyjson_schema.specs.Valid.{IsValidIn}
 use Rattle.tinyjson_schema_laws.specs.Laws.{kept, IsCopied, ExactCopied, DecidedCopied}
-use Rattle.tinyjson_schema_laws.specs.Leading.{lead_in, to_schema}
+use Rattle.tinyjson_schema_laws.proofs.Leading.{lead_in, to_schema}
 use Rattle.tinyjson_schema_laws.specs.Scoped.{Scope, Scoped, base, entered, led_to, judged, IsValidScoped}
+use Rattle.tinyjson_schema_laws.proofs.Astray.{each_located}
 use Rattle.tinyjson_schema_laws.proofs.Containing.{IsShort, Chain, within_key, within_index, within_within}
 use Rattle.tinyjson_schema_laws.proofs.Copied.{Positions, Related, simulates, begins}
 use Rattle.tinyjson_schema_laws.proofs.Copies.{listed}
@@ -218,9 +219,10 @@ exact_copied t copies is formats u = by t is
     by : (t : Tree) → IsCopied t copies → IsValidScoped t formats u ↔ IsValidIn (record { tree = bundled copies t; formats = formats }) u
     by (object ms) is =
         let same = is_whole (object ms) copies is.several in
+        let few : length copies < 2 ^ 64 = (let l = is.states.few in omega (arith, l)) in
+        let fit = subst (λ b. is_schema b true b ≡ true) same is.applied in
         subst (λ b. IsValidScoped (object ms) formats u ↔ IsValidIn (record { tree = b; formats = formats }) u) (sym same)
-        (whole_exact ms copies (let l = is.states.few in omega (arith, l)) (subst (λ b. is_schema b true b ≡ true) same is.applied) is.sound
-        is.leading is.short is.states.scopes formats u)
+        (whole_exact ms copies few fit is.sound (each_located ms copies few fit is.sound is.short) is.short is.states.scopes formats u)
     by _ is = absurd (true≢false (sym is.several))
 
 pub decided_copied : DecidedCopied
@@ -228,8 +230,7 @@ decided_copied t copies is formats u = by t is
   where
     by : (t : Tree) → IsCopied t copies → (is : Bool) × (n : ℕ) × ((g : Scoped) → judged t formats n g u ≡ is)
     by (object ms) is =
-        let same = is_whole (object ms) copies is.several in
-        whole_decided ms copies (let l = is.states.few in omega (arith, l)) (subst (λ b. is_schema b true b ≡ true) same is.applied)
-        is.sound
-        is.leading is.short is.states.scopes formats u
+        let few : length copies < 2 ^ 64 = (let l = is.states.few in omega (arith, l)) in
+        let fit = subst (λ b. is_schema b true b ≡ true) (is_whole (object ms) copies is.several) is.applied in
+        whole_decided ms copies few fit is.sound (each_located ms copies few fit is.sound is.short) is.short is.states.scopes formats u
     by _ is = absurd (true≢false (sym is.several))

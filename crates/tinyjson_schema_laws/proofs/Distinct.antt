@@ -30,10 +30,11 @@ use Rattle.tinyjson_schema_bundle.specs.Bundles.{put_some, kept_by, kept_id, kep
 use Rattle.tinyjson_schema_bundle.specs.Scopes.{Reached, from_root, is_resource_mark}
 use Rattle.tinyjson_schema_bundle.specs.declared.mark.Kind.TheVariants as kind
 use Rattle.tinyjson_schema.specs.Schemas.{fits, is_schema, keywords_fit, is_schema_list, is_schema_map, are_schemas, have_schemas}
-use Rattle.tinyjson_schema_laws.specs.Leading.{lead_in}
+use Rattle.tinyjson_schema_laws.proofs.Leading.{lead_in}
 use Rattle.tinyjson_schema_laws.proofs.Looking.{entry_is, map_is}
 use Rattle.tinyjson_schema_laws.proofs.Pointed.{changed, found_pointed, form_named}
 use Rattle.tinyjson_schema_laws.proofs.Walk.{is_live, live_kept, live_changed, form_pointed, find_pointed, found_sound, nth_sound}
+use Rattle.tinyjson_schema_laws.proofs.Walk.{first_found, rest_found}
 use Rattle.tinyjson_schema_laws.proofs.Whole.{defs, leading, whole, made, IsWhole, is_whole}
 
 no_some : {A B : Type 0} (v : A) → None ≡ Some v → B
@@ -249,20 +250,6 @@ module _ (all : List Marked) where
     deeper [] x = refl
     deeper (c ∷ p) x = refl
 
-    first : (k : List ℕ) (w : Tree) (ms ns : Members) → ((l : List ℕ) (v : Tree) → find l (member k w ms) ≡ Some v → find l ns ≡ Some v)
-        → find k ns ≡ Some w
-    first k w ms ns h = h k w (ap (λ b. cond b (Some w) (find k ms)) ((bytes_eq-Decides k k).1 refl))
-
-    rest : (k : List ℕ) (w : Tree) (ms ns : Members) → IsSorted (member k w ms)
-        → ((l : List ℕ) (v : Tree) → find l (member k w ms) ≡ Some v → find l ns ≡ Some v)
-        → (l : List ℕ) (v : Tree) → find l ms ≡ Some v → find l ns ≡ Some v
-    rest k w ms ns s h l v e = h l v (by (bytes_eq l k) refl)
-      where
-        by : (b : Bool) → bytes_eq l k ≡ b → cond b (Some w) (find l ms) ≡ Some v
-        by true f = absurd (let none : None ≡ Some v = sym (find_below k ms s.0 s.1)
-            ∙ (ap (λ x. find x ms) (sym ((bytes_eq-Decides l k).0 f)) ∙ e) in cc)
-        by false f = e
-
     -- the marks of a keyword
     of_form : (f : Form) (key b p q : List ℕ) (w : Tree) → Fits f b q w × IsTree w
         → (Fits form.Schema b q w × IsTree w → AreOwn (marks_in b q w)) → (Fits form.Schemas b q w × IsTree w
@@ -291,9 +278,9 @@ module _ (all : List Marked) where
           → AreOwn (marks_among b p ms)
       among b p ns no_members h s g = tt
       among b p ns (member k w ms) h s g = both _ (marks_among b p ms)
-          (of_form (form_at (encode_utf8_all k)) (encode_utf8_all k) b p (at_key p k) w (h k w (first k w ms ns g))
+          (of_form (form_at (encode_utf8_all k)) (encode_utf8_all k) b p (at_key p k) w (h k w (first_found k w ms ns g))
           (in_schema b (at_key p k) w (deeper p _)) (in_list b (at_key p k) w) (in_map b (at_key p k) w))
-          (among b p ns ms h s.1 (rest k w ms ns s g))
+          (among b p ns ms h s.1 (rest_found k w ms ns s g))
 
       in_list : (b p : List ℕ) (w : Tree) → Fits form.Schemas b p w × IsTree w → AreOwn (marks_in_list b p w)
       in_list b p (array ts) h = of_items b p 0 ts ts h.0 (λ i v e. nth_sound ts i v h.1 e)
@@ -319,9 +306,9 @@ module _ (all : List Marked) where
           → IsSorted ms → ((k : List ℕ) (v : Tree) → find k ms ≡ Some v → find k ns ≡ Some v) → AreOwn (marks_of_members b p ms)
       of_members b p ns no_members h t s g = tt
       of_members b p ns (member k w ms) h t s g =
-          let at : find k ns ≡ Some w = first k w ms ns g in
+          let at : find k ns ≡ Some w = first_found k w ms ns g in
           both (marks_in b (at_key p k) w) (marks_of_members b p ms) (in_schema b (at_key p k) w (deeper p _) (h k w at, t k w at))
-          (of_members b p ns ms h t s.1 (rest k w ms ns s g))
+          (of_members b p ns ms h t s.1 (rest_found k w ms ns s g))
 
 -- ---- the document
 

@@ -204,7 +204,6 @@ lists_copied = record {
   short = lists_short;
   several = refl;
   applied = refl;
-  leading = refl;
   states = record {
     few = omega arith;
     scopes = (

@@ -29,7 +29,7 @@ use Rattle.tinyjson_schema_bundle.specs.Bundles.{pointed}
 use Rattle.tinyjson_schema_bundle.specs.Bundles.{pointed_among, pointed_items, pointed_members}
 use Rattle.tinyjson_schema_bundle.specs.Scopes.{Reached, from_root, below, home}
 use Rattle.tinyjson_schema.specs.Schemas.{is_schema}
-use Rattle.tinyjson_schema_laws.specs.Leading.{lead_in}
+use Rattle.tinyjson_schema_laws.proofs.Leading.{lead_in}
 use Rattle.tinyjson_schema_laws.specs.Scoped.{located, base_within}
 use Rattle.tinyjson_schema_laws.proofs.Containing.{IsShort, Chain, index_key, own_digits as digits_model}
 use Rattle.tinyjson_schema_laws.proofs.Led.{IsHomed}
@@ -68,13 +68,13 @@ index_decimal k i e small = by (is_index k) refl e
     by false f g = no_some i g
 
 -- the rest of a place after one that contains it
-below_rest : (e r : List ℕ) → begins_pointer r ≡ true → below e (e ++ r) ≡ Some r
+pub below_rest : (e r : List ℕ) → begins_pointer r ≡ true → below e (e ++ r) ≡ Some r
 below_rest e r h =
     ap (λ b. cond b (Some (drop (length e) (e ++ r))) None)
     (and_from _ _ ((bytes_eq-Decides (take (length e) (e ++ r)) e).1 (take-append_seam e r)) (ap begins_pointer (drop-append_seam e r) ∙ h))
     ∙ ap Some (drop-append_seam e r)
 
-text_begins : (ks : List (List ℕ)) → begins_pointer (text_of ks) ≡ true
+pub text_begins : (ks : List (List ℕ)) → begins_pointer (text_of ks) ≡ true
 text_begins [] = refl
 text_begins (k ∷ ks) = refl
 

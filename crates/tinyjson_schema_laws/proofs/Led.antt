@@ -21,7 +21,7 @@ use Rattle.tinyjson_schema_bundle.specs.Scopes as scopes
 use Rattle.tinyjson_schema.specs.Circles.{leads, settles, reference_steps}
 use Rattle.tinyjson_schema.specs.Schemas.{is_schema}
 use Rattle.tinyjson_schema_laws.specs.Laws.{BeginsIn, AreUris, kept}
-use Rattle.tinyjson_schema_laws.specs.Leading.{lead_in}
+use Rattle.tinyjson_schema_laws.proofs.Leading.{lead_in}
 use Rattle.tinyjson_schema_laws.specs.Scoped.{Scope, base, led_to, located}
 use Rattle.tinyjson_schema_laws.proofs.Containing.{within_from}
 use Rattle.tinyjson_schema_laws.proofs.Copies.{listed}
@@ -54,7 +54,7 @@ pub record IsHomed (t : Tree) (q : List ℕ) (x : List ℕ × Tree) : Type 0 whe
 
 -- ---- states in the list
 
-place_most : (ss : List Reached) (s : Reached) → place_in_list ss s ≤ length ss
+pub place_most : (ss : List Reached) (s : Reached) → place_in_list ss s ≤ length ss
 place_most [] s = omega arith
 place_most (t ∷ ss) s = by (is_same t.0 s.0 && bytes_eq t.1 s.1) (place_most ss s)
   where
@@ -62,7 +62,7 @@ place_most (t ∷ ss) s = by (is_same t.0 s.0 && bytes_eq t.1 s.1) (place_most s
     by true h = omega arith
     by false h = omega (arith, h)
 
-listed_same : (ss : List Reached) (s x : Reached) → listed ss s ≡ Some x → (is_same x.0 s.0 ≡ true) × (x.1 ≡ s.1)
+pub listed_same : (ss : List Reached) (s x : Reached) → listed ss s ≡ Some x → (is_same x.0 s.0 ≡ true) × (x.1 ≡ s.1)
 listed_same [] s x e = absurd (let none : None ≡ Some x = e in cc)
 listed_same (t ∷ ss) s x e = by (listed_same ss s x) (is_same t.0 s.0 && bytes_eq t.1 s.1) refl e
   where
@@ -75,7 +75,7 @@ listed_same (t ∷ ss) s x e = by (listed_same ss s x) (is_same t.0 s.0 && bytes
     by later false g h = later h
 
 -- a reference that leads has a target
-target_some : (root w : Tree) → leads root w ≡ true → (r : Tree) × (target root w ≡ Some r)
+pub target_some : (root w : Tree) → leads root w ≡ true → (r : Tree) × (target root w ≡ Some r)
 target_some root w h = by (target root w) refl h
   where
     by : (o : Option Tree) → target root w ≡ o → option_map_or (settles root reference_steps) o false ≡ true

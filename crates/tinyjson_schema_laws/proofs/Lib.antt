@@ -1,5 +1,6 @@
 pub mod Alike
 pub mod Alone
+pub mod Astray
 pub mod Bisimilar
 pub mod Containing
 pub mod Contested
@@ -15,9 +16,12 @@ pub mod Fragments
 pub mod Homes
 pub mod Kept
 pub mod Keys
+pub mod Leading
 pub mod Led
+pub mod Letters
 pub mod Located
 pub mod Looking
+pub mod Nameless
 pub mod Names
 pub mod Parts
 pub mod Places
@@ -26,6 +30,7 @@ pub mod Positions
 pub mod Referring
 pub mod Relations
 pub mod Resolved
+pub mod Rests
 pub mod SameLaws
 pub mod Settled
 pub mod Simulation

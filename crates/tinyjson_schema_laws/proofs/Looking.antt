@@ -19,7 +19,7 @@ use Rattle.tinyjson_schema_keywords.specs.declared.keyword.Keyword.TheVariants a
 use Rattle.tinyjson_schema_bundle.specs.Bundles.{marks_of, base_in, pointed, pointed_among, at_key}
 use Rattle.tinyjson_schema_bundle.specs.Scopes.{Reached, from_root, home, letters, copy_key, copy_by, place_in_list, schema_there}
 use Rattle.tinyjson_schema.specs.Schemas.{is_schema}
-use Rattle.tinyjson_schema_laws.specs.Leading.{lead_in}
+use Rattle.tinyjson_schema_laws.proofs.Leading.{lead_in}
 use Rattle.tinyjson_schema_laws.specs.Scoped.{located, base_within}
 use Rattle.tinyjson_schema_laws.proofs.Copies.{found_short, short_found, copy_found, key_long, listed}
 use Rattle.tinyjson_schema_laws.proofs.Pointed.{form_named}
@@ -33,7 +33,7 @@ use Rattle.tinyjson_schema_laws.proofs.Whole.{defs, most, longest_most, leading,
 no_some : {A B : Type 0} (v : A) → None ≡ Some v → B
 no_some v e = absurd (let none : None ≡ Some v = e in cc)
 
-no_cond : {A B : Type 0} (b : Bool) (v : A) → cond {A = Option A} b None None ≡ Some v → B
+pub no_cond : {A B : Type 0} (b : Bool) (v : A) → cond {A = Option A} b None None ≡ Some v → B
 no_cond true v e = no_some v e
 no_cond false v e = no_some v e
 
@@ -118,7 +118,7 @@ module _ (ms : Members) (copies : List Reached) (few : length copies < 2 ^ 64)
       (subst (λ f. Fit in_whole f (object ds)) (form_named kw.Defs) (members_fit ws w defs (object ds) e)) h
 
   -- where two tokens lead, of which the first is `$defs`
-  by_entry : (ws : Members) → IsWhole ms copies ws → (l : List ℕ) (ks : List (List ℕ)) (ds : Members) → find defs ws ≡ Some (object ds)
+  pub by_entry : (ws : Members) → IsWhole ms copies ws → (l : List ℕ) (ks : List (List ℕ)) (ds : Members) → find defs ws ≡ Some (object ds)
       → schema_from in_whole (defs ∷ l ∷ ks) ≡ goes form.Schema ks (find l ds)
   by_entry ws w l ks ds e =
       ap (λ f. cond (is_schema_form (form_after (form_in f l) ks)) (part_at in_whole (defs ∷ l ∷ ks)) None) (form_named kw.Defs)

@@ -14,7 +14,7 @@ use Rattle.tinyjson_schema_keywords.specs.declared.keyword.Form.TheVariants as f
 use Rattle.tinyjson_schema_keywords.specs.declared.keyword.Keyword.{Keyword}
 use Rattle.tinyjson_schema_bundle.specs.Bundles.{Leads, pointed, pointed_among, pointed_list, pointed_map, pointed_items, pointed_members}
 use Rattle.tinyjson_schema_bundle.specs.Bundles.{pointing, is_dynamic, at_key}
-use Rattle.tinyjson_schema_laws.specs.Leading.{lead_in, lead_among}
+use Rattle.tinyjson_schema_laws.proofs.Leading.{lead_in, lead_among}
 use Rattle.tinyjson_schema_laws.proofs.Bisimilar.{ValueRel}
 use Rattle.tinyjson_schema_laws.proofs.Pointed.{is_kept, picked, changed, found_pointed, form_named, AreParts, keyword_same}
 use Rattle.tinyjson_schema_laws.proofs.Walk.{Fit, Lead, fit_item, fit_entry, lead_member, lead_item, lead_entry}

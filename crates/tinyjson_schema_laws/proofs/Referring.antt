@@ -32,7 +32,7 @@ use Rattle.tinyjson_schema.specs.Schemas.{is_schema}
 use Rattle.tinyjson_schema_laws.specs.Scoped.{Scope, base, outermost, dynamic_in, leads_in, led_to, located, located_at, target_in}
 use Rattle.tinyjson_schema_laws.specs.Scoped.{base_within}
 use Rattle.tinyjson_schema_laws.specs.Laws.{BeginsIn}
-use Rattle.tinyjson_schema_laws.specs.Leading.{to_place, lead_by, lead_in, lead_among, lead_in_list, lead_in_map, all_lead}
+use Rattle.tinyjson_schema_laws.proofs.Leading.{to_place, lead_by, lead_in, lead_among, lead_in_list, lead_in_map, all_lead}
 use Rattle.tinyjson_schema_laws.proofs.Pointed.{is_kept, picked, changed, found_pointed}
 use Rattle.tinyjson_schema_laws.proofs.Walk.{IsBundled, AreMatched, lead_found, walked}
 use Rattle.tinyjson_schema_laws.proofs.Places.{IsPlace, IfPlace, place_found, dynamic_found, first_found}

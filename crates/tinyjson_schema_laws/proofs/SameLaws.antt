@@ -8,7 +8,7 @@ use Rattle.tinyjson_schema.specs.Evaluated.{Child}
 use Rattle.tinyjson_schema.specs.Schemas.{is_schema}
 use Rattle.tinyjson_schema.specs.Valid.{IsValidIn, judge}
 use Rattle.tinyjson_schema_laws.specs.Laws.{IsUncontested, SameResults, Exact, EachDecided, bundled_root, by_value}
-use Rattle.tinyjson_schema_laws.specs.Leading.{all_lead}
+use Rattle.tinyjson_schema_laws.proofs.Leading.{all_lead}
 use Rattle.tinyjson_schema_laws.specs.Scoped.{Scope, judged, outer, IsValidScoped}
 use Rattle.tinyjson_schema_laws.proofs.Bisimilar.{Simulates}
 use Rattle.tinyjson_schema_laws.proofs.Exactly.{exactly, each_value_decided}

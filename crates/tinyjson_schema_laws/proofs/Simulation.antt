@@ -18,7 +18,7 @@ use Rattle.tinyjson_schema.specs.Nested.{is_reference}
 use Rattle.tinyjson_schema.specs.Schemas.{is_schema, keywords_fit}
 use Rattle.tinyjson_schema.specs.Valid.{refuses_all}
 use Rattle.tinyjson_schema_laws.specs.Laws.{BeginsIn}
-use Rattle.tinyjson_schema_laws.specs.Leading.{to_place, lead_in, lead_among, all_lead}
+use Rattle.tinyjson_schema_laws.proofs.Leading.{to_place, lead_in, lead_among, all_lead}
 use Rattle.tinyjson_schema_laws.specs.Scoped.{Scope, base, entered, outer, target_in}
 use Rattle.tinyjson_schema_laws.proofs.Bisimilar.{ValueRel, LedRel, Simulates}
 use Rattle.tinyjson_schema_laws.proofs.Pointed.{no_schema_same}

@@ -22,11 +22,11 @@ use Rattle.tinyjson_schema_bundle.specs.Scopes.{schema_there}
 use Rattle.tinyjson_schema_laws.specs.Scoped.{located, located_at}
 use Rattle.tinyjson_schema_laws.proofs.Places.{AreScalars, root_place, after_place}
 
--- ---- bytes that are no `%`
+-- ---- bytes without another one
 
-abbrev pub NoPercent : List ℕ → Type 0
-NoPercent [] = ⊤
-NoPercent (b ∷ bs) = ((b == percent) ≡ false) × NoPercent bs
+abbrev pub Lacks : ℕ → List ℕ → Type 0
+Lacks d [] = ⊤
+Lacks d (b ∷ bs) = ((b == d) ≡ false) × Lacks d bs
 
 map_map : (f g h : List ℕ → List ℕ) (o : Option (List ℕ)) → ((x : List ℕ) → f (g x) ≡ h x)
     → option_map f (option_map g o) ≡ option_map h o
@@ -37,30 +37,31 @@ map_itself : (o : Option (List ℕ)) → o ≡ option_map (λ ds. ds) o
 map_itself None = refl
 map_itself (Some ds) = refl
 
-decoded_past : (xs ys : List ℕ) → NoPercent xs → percent_decoded (xs ++ ys) ≡ option_map (λ ds. xs ++ ds) (percent_decoded ys)
+decoded_past : (xs ys : List ℕ) → Lacks percent xs → percent_decoded (xs ++ ys) ≡ option_map (λ ds. xs ++ ds) (percent_decoded ys)
 decoded_past [] ys h = map_itself (percent_decoded ys)
 decoded_past (x ∷ xs) ys h =
     ap (λ c. cond c (after_percent (xs ++ ys)) (option_map (λ ds. x ∷ ds) (percent_decoded (xs ++ ys)))) h.0
     ∙ (ap (option_map (λ ds. x ∷ ds)) (decoded_past xs ys h.1)
     ∙ map_map (λ ds. x ∷ ds) (λ ds. xs ++ ds) (λ ds. x ∷ (xs ++ ds)) (percent_decoded ys) (λ ds. refl))
 
-no_percent : (xs : List ℕ) → ((k : ℕ) → k < length xs → (get_or xs k 0 == percent) ≡ false) → NoPercent xs
-no_percent [] h = tt
-no_percent (x ∷ xs) h = (h 0 (omega arith), no_percent xs (λ k l. h (suc k) (omega (arith, l))))
+module _ (d : ℕ) (small : d < 128) where
+  all_lack : (xs : List ℕ) → ((k : ℕ) → k < length xs → (get_or xs k 0 == d) ≡ false) → Lacks d xs
+  all_lack [] h = tt
+  all_lack (x ∷ xs) h = (h 0 (omega arith), all_lack xs (λ k l. h (suc k) (omega (arith, l))))
 
-encoded_past : (c : ℕ) → (c == percent) ≡ false → NoPercent (encode_utf8_all (c ∷ []))
-encoded_past c h = no_percent (encode c ++ []) at
-  where
-    at : (k : ℕ) → k < length (encode c ++ []) → (get_or (encode c ++ []) k 0 == percent) ≡ false
-    at k l = by (get_or (encode c ++ []) k 0 == percent) refl
-      where
-        by : (b : Bool) → (get_or (encode c ++ []) k 0 == percent) ≡ b → b ≡ false
-        by true e =
-            let same : get_or (encode c ++ []) k 0 ≡ 37 = eqb-true (get_or (encode c ++ []) k 0) 37 e in
-            let this : c ≡ get_or (encode c ++ []) k 0 = inside_one c [] (encode c ++ []) k refl
-            (omega (arith, l, ap length (append-nil (encode c)))) (omega (arith, same)) in
-            absurd (true≢false (sym e ∙ (ap (λ x. x == percent) (sym this) ∙ h)))
-        by false e = refl
+  pub encoded_lacks : (c : ℕ) → (c == d) ≡ false → Lacks d (encode_utf8_all (c ∷ []))
+  encoded_lacks c h = all_lack (encode c ++ []) at
+    where
+      at : (k : ℕ) → k < length (encode c ++ []) → (get_or (encode c ++ []) k 0 == d) ≡ false
+      at k l = by (get_or (encode c ++ []) k 0 == d) refl
+        where
+          by : (b : Bool) → (get_or (encode c ++ []) k 0 == d) ≡ b → b ≡ false
+          by true e =
+              let same : get_or (encode c ++ []) k 0 ≡ d = eqb-true (get_or (encode c ++ []) k 0) d e in
+              let this : c ≡ get_or (encode c ++ []) k 0 = inside_one c [] (encode c ++ []) k refl
+              (omega (arith, l, ap length (append-nil (encode c)))) (omega (arith, same, small)) in
+              absurd (true≢false (sym e ∙ (ap (λ x. x == d) (sym this) ∙ h)))
+          by false e = refl
 
 -- ---- characters, tokens and places
 
@@ -83,7 +84,7 @@ decoded_char c ys = by (c == percent) (c == tilde) (c == solidus) refl refl refl
     by true false false e f g = ap (λ x. option_map (λ ds. encode_utf8_all (x ∷ []) ++ ds) (percent_decoded ys)) (sym (eqb-true c 37 e))
     by false true z e f g = decoded_past (codes "~0") ys (refl, (refl, tt))
     by false false true e f g = decoded_past (codes "~1") ys (refl, (refl, tt))
-    by false false false e f g = decoded_past (encode_utf8_all (c ∷ [])) ys (encoded_past c e)
+    by false false false e f g = decoded_past (encode_utf8_all (c ∷ [])) ys (encoded_lacks percent (omega arith) c e)
 
 decoded_token : (k ys : List ℕ) → percent_decoded (token_text k ++ ys)
     ≡ option_map (λ ds. encode_utf8_all (escape k) ++ ds) (percent_decoded ys)

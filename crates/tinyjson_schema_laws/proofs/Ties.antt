@@ -31,7 +31,8 @@ use Rattle.tinyjson_schema_laws.proofs.Dynamic.{in_base, empty_base}
 use Rattle.tinyjson_schema_laws.proofs.Fitting.{same_base}
 use Rattle.tinyjson_schema_laws.proofs.Fragments.{base_clean, no_fragment}
 use Rattle.tinyjson_schema_laws.proofs.Texts.{located_there}
-use Rattle.tinyjson_schema_laws.proofs.Tokens.{HasTokens, at_root, at_member, at_entry, at_map, at_item, AreOf, of_first, of_rest, AreFrom}
+use Rattle.tinyjson_schema_laws.proofs.Tokens.{HasTokens, at_root, at_member, at_entry, at_map, at_item, AreOf, AreFrom}
+use Rattle.tinyjson_schema_laws.proofs.Walk.{first_found, rest_found}
 
 module _ (t : Tree) where
   abbrev b : List ℕ
@@ -157,11 +158,11 @@ module _ (t : Tree) where
         (members_among (object ns) ms)
         (of_form (form_at (encode_utf8_all k)) (bytes_eq (encode_utf8_all k) (name kw.DynamicAnchor)) x (base_in d (object ns)) p
         (at_key p k) (object ns) w e o
-        (at_member t d p ns a k w (of_first t k w ms ns f)) parts.0
+        (at_member t d p ns a k w (first_found k w ms ns f)) parts.0
         (λ i g. in_one (base_in d (object ns)) (at_key p k) w false (same_base t (base_in d (object ns)) w g ∙ e) i g)
         (in_list (base_in d (object ns)) (at_key p k) w e)
         (in_map (base_in d (object ns)) (at_key p k) w e))
-        (among d p ns ms x e a o s.1 (of_rest t k w ms ns s f) parts.1)
+        (among d p ns ms x e a o s.1 (rest_found k w ms ns s f) parts.1)
 
     in_list : (d p : List ℕ) (w : Tree) → d ≡ b → HasTokens t form.Schemas d p w → is_schema_list t w ≡ true
         → AreTied (marks_in_list d p w) (anchors_among (members_in_list w))
@@ -190,8 +191,8 @@ module _ (t : Tree) where
     of_members d p ns (member k w ms) e a s f h =
         let parts = and_parts (is_schema t false w) (have_schemas t ms) h in
         tied_both (marks_in d (at_key p k) w) (marks_of_members d p ms) (schema_members w) (members_of_entries ms)
-        (in_one d (at_key p k) w false (same_base t d w parts.0 ∙ e) (at_entry t d p ns a k w (of_first t k w ms ns f)) parts.0)
-        (of_members d p ns ms e a s.1 (of_rest t k w ms ns s f) parts.1)
+        (in_one d (at_key p k) w false (same_base t d w parts.0 ∙ e) (at_entry t d p ns a k w (first_found k w ms ns f)) parts.0)
+        (of_members d p ns ms e a s.1 (rest_found k w ms ns s f) parts.1)
 
   -- ---- the schema with a name
 

@@ -12,7 +12,6 @@ use Rattle.std.specs.Fmt.{decimal}
 use Rattle.std.specs.Option.{option_map_or, option_or}
 use Rattle.std.specs.Prelude.{⊤, option_and_then, unwrap_or}
 use Rattle.std.specs.Str.{IsUtf8, is_utf8, chars, all_scalars}
-use Rattle.tinyjson.proofs.Callers.{find_below}
 use Rattle.tinyjson.specs.Index.{nth, item_count}
 use Rattle.tinyjson.specs.Tree.{Tree, string, array, object, Items, no_items, item, Members, no_members, member, find}
 use Rattle.tinyjson_number.specs.Numeral.{power_width}
@@ -37,7 +36,7 @@ use Rattle.tinyjson_schema_laws.specs.Scoped.{Scope, base, outermost, dynamic_in
 use Rattle.tinyjson_schema_laws.proofs.Containing.{IsShort, nth_short, found_short, index_key}
 use Rattle.tinyjson_schema_laws.proofs.Places.{AreScalars, tokens_scalars}
 use Rattle.tinyjson_schema_laws.proofs.Texts.{located_there}
-use Rattle.tinyjson_schema_laws.proofs.Walk.{found_sound, nth_sound}
+use Rattle.tinyjson_schema_laws.proofs.Walk.{found_sound, nth_sound, first_found, rest_found}
 
 -- ---- tokens
 
@@ -140,7 +139,7 @@ module _ (t : Tree) where
   abbrev pub Stands : List ℕ → Type 0
   Stands p = (b : List ℕ) × (s : Tree) × HasTokens t form.Schema b p s
 
-  abbrev AllStand : List Marked → Type 0
+  abbrev pub AllStand : List Marked → Type 0
   AllStand [] = ⊤
   AllStand (m ∷ ms) = Stands m.2 × AllStand ms
 
@@ -166,17 +165,6 @@ module _ (t : Tree) where
   -- the members are among those of the object
   abbrev pub AreOf : Members → Members → Type 0
   AreOf ms ns = (k : List ℕ) (v : Tree) → find k ms ≡ Some v → find k ns ≡ Some v
-
-  pub of_first : (k : List ℕ) (w : Tree) (ms ns : Members) → AreOf (member k w ms) ns → find k ns ≡ Some w
-  of_first k w ms ns h = h k w (ap (λ b. cond b (Some w) (find k ms)) ((bytes_eq-Decides k k).1 refl))
-
-  pub of_rest : (k : List ℕ) (w : Tree) (ms ns : Members) → IsSorted (member k w ms) → AreOf (member k w ms) ns → AreOf ms ns
-  of_rest k w ms ns s h l v e = h l v (by (bytes_eq l k) refl)
-    where
-      by : (b : Bool) → bytes_eq l k ≡ b → cond b (Some w) (find l ms) ≡ Some v
-      by true f = absurd (let none : None ≡ Some v = sym (find_below k ms s.0 s.1)
-          ∙ (ap (λ x. find x ms) (sym ((bytes_eq-Decides l k).0 f)) ∙ e) in cc)
-      by false f = e
 
   -- the items are those of the array from the index on
   abbrev pub AreFrom : ℕ → Items → Items → Type 0
@@ -206,9 +194,9 @@ module _ (t : Tree) where
     among b p ns no_members a s h = tt
     among b p ns (member k w ms) a s h = both _ (marks_among (base_in b (object ns)) p ms)
         (of_form (form_at (encode_utf8_all k)) (base_in b (object ns)) p (at_key p k) (name_kind (encode_utf8_all k)) w (b, object ns, a)
-        (at_member b p ns a k w (of_first k w ms ns h)) (in_schema (base_in b (object ns)) (at_key p k) w)
+        (at_member b p ns a k w (first_found k w ms ns h)) (in_schema (base_in b (object ns)) (at_key p k) w)
         (in_list (base_in b (object ns)) (at_key p k) w) (in_map (base_in b (object ns)) (at_key p k) w))
-        (among b p ns ms a s.1 (of_rest k w ms ns s h))
+        (among b p ns ms a s.1 (rest_found k w ms ns s h))
 
     in_list : (b p : List ℕ) (w : Tree) → HasTokens t form.Schemas b p w → AllStand (marks_in_list b p w)
     in_list b p (array ts) a = of_items b p 0 ts ts a (λ j n v l e. ap (nth ts) (let same : n ≡ j = omega (arith, l) in same) ∙ e)
@@ -229,10 +217,11 @@ module _ (t : Tree) where
         → AllStand (marks_of_members b p ms)
     of_members b p ns no_members a s h = tt
     of_members b p ns (member k w ms) a s h = both (marks_in b (at_key p k) w) (marks_of_members b p ms)
-        (in_schema b (at_key p k) w (at_entry b p ns a k w (of_first k w ms ns h))) (of_members b p ns ms a s.1 (of_rest k w ms ns s h))
+        (in_schema b (at_key p k) w (at_entry b p ns a k w (first_found k w ms ns h)))
+        (of_members b p ns ms a s.1 (rest_found k w ms ns s h))
 
   module _ (sound : IsTree t) (short : IsShort t) where
-    all_stand : AllStand (marks_of t)
+    pub all_stand : AllStand (marks_of t)
     all_stand = in_schema [] [] t (at_root sound short)
 
     found_stands : (test : Marked → Bool) (look : List Marked → Option (List ℕ)) → (look [] ≡ None)
@@ -262,7 +251,7 @@ module _ (t : Tree) where
       pub place : q ≡ place_after [] tokens
       pub is : located form.Schema [] t tokens ≡ Some x
 
-    stands_located : (q : List ℕ) → Stands q → (x : List ℕ × Tree) × Located q x
+    pub stands_located : (q : List ℕ) → Stands q → (x : List ℕ × Tree) × Located q x
     stands_located q s = (
       (base_in s.0 s.1, s.1),
       record {
@@ -273,10 +262,10 @@ module _ (t : Tree) where
       },
     )
 
-    there : (q : List ℕ) (x : List ℕ × Tree) → Located q x → located_at t q ≡ Some x
+    pub there : (q : List ℕ) (x : List ℕ × Tree) → Located q x → located_at t q ≡ Some x
     there q x l = ap (located_at t) l.place ∙ (located_there l.tokens l.scalars t ∙ l.is)
 
-    outermost_stands : (c : Scope) (n p : List ℕ) → outermost (marks_of t) c n ≡ Some p → Stands p
+    pub outermost_stands : (c : Scope) (n p : List ℕ) → outermost (marks_of t) c n ≡ Some p → Stands p
     outermost_stands [] n p e = absurd (let no : None ≡ Some p = e in cc)
     outermost_stands (u ∷ c) n p e = by (outermost (marks_of t) c n) (outermost_stands c n p) e
       where
@@ -303,7 +292,7 @@ module _ (t : Tree) where
     some_place (Some p) f q e = (p, refl, e)
 
     -- the tokens of a pointer
-    below_tokens : (p ds q : List ℕ) → IsUtf8 ds → place_below p ds ≡ Some q
+    pub below_tokens : (p ds q : List ℕ) → IsUtf8 ds → place_below p ds ≡ Some q
         → (ks : List (List ℕ)) × AreScalars ks × (q ≡ place_after p ks)
     below_tokens p ds q u e = by (bytes_eq (pointer_text (split false (chars ds)).1) (chars ds)) refl e
       where

@@ -58,11 +58,11 @@ named_text b n u v = IsUtf8-append b (35 ∷ n) u (IsUtf8-append (35 ∷ []) n s
 
 -- ---- members that give no plain name
 
-abbrev NoName : Form → Tree → Type 0
+abbrev pub NoName : Form → Tree → Type 0
 NoName form.Anchor (string cs) = is_plain_name (encode_utf8_all cs) ≡ false
 NoName _ w = ⊤
 
-abbrev Unnamed : List InSchema → Type 0
+abbrev pub Unnamed : List InSchema → Type 0
 Unnamed [] = ⊤
 Unnamed (m ∷ ms) = NoName (form_by m.2) m.3 × Unnamed ms
 
@@ -79,7 +79,7 @@ not_named (x ∷ xs) ys ds g h = by (λ e. not_named xs ys ds e h) (bytes_eq x.0
     by later true e = e
     by later false e = later e
 
-none_anchored : (ms : List InSchema) (ds : List ℕ) → Unnamed ms → is_plain_name ds ≡ true → anchored (anchors_among ms) ds ≡ None
+pub none_anchored : (ms : List InSchema) (ds : List ℕ) → Unnamed ms → is_plain_name ds ≡ true → anchored (anchors_among ms) ds ≡ None
 none_anchored [] ds u e = refl
 none_anchored (m ∷ ms) ds u e = not_named (anchors_by (form_by m.2) (own_anchors m.0 m.3)) (anchors_among ms) ds
     (by (form_by m.2) m.3 u.0) (none_anchored ms ds u.1 e)
@@ -95,13 +95,13 @@ none_anchored (m ∷ ms) ds u e = not_named (anchors_by (form_by m.2) (own_ancho
     by _ w h = refl
 
 -- the members in a member's value, and the member
-abbrev Inner : Form → Tree → Type 0
+abbrev pub Inner : Form → Tree → Type 0
 Inner f w = NoName f w × Unnamed (members_by f (schema_members w) (members_in_list w) (members_in_map w))
 
-abbrev Whole : List ℕ → Tree → Type 0
+abbrev pub Whole : List ℕ → Tree → Type 0
 Whole k w = Inner (form_at (encode_utf8_all k)) w
 
-put_unnamed : (s : Tree) (k : List ℕ) (w : Tree) (ms : Members) → Whole k w → Unnamed (members_among s ms)
+pub put_unnamed : (s : Tree) (k : List ℕ) (w : Tree) (ms : Members) → Whole k w → Unnamed (members_among s ms)
     → Unnamed (members_among s (put k w ms))
 put_unnamed s k w no_members h g = (
   h.0,
@@ -136,7 +136,7 @@ put_unnamed s k w (member l u ms) h g = by (key_cmp k l) (put_unnamed s k w ms h
           (members_among s (put k w ms)) parts.0 (more parts.1),
     )
 
-entry_unnamed : (k : List ℕ) (w : Tree) (ms : Members) → Unnamed (schema_members w) → Unnamed (members_of_entries ms)
+pub entry_unnamed : (k : List ℕ) (w : Tree) (ms : Members) → Unnamed (schema_members w) → Unnamed (members_of_entries ms)
     → Unnamed (members_of_entries (put k w ms))
 entry_unnamed k w no_members h g = both (schema_members w) [] h tt
 entry_unnamed k w (member l u ms) h g = by (key_cmp k l) (entry_unnamed k w ms h)
@@ -159,7 +159,7 @@ entry_unnamed k w (member l u ms) h g = by (key_cmp k l) (entry_unnamed k w ms h
 tree_text : (cs : List ℕ) → IsTree (string cs) → IsUtf8 (encode_utf8_all cs)
 tree_text cs h = (cs, (h, refl))
 
-text_in : (b : List ℕ) (ns : Members) → IsUtf8 b → AreMembersAt power_width ns → IsUtf8 (base_in b (object ns))
+pub text_in : (b : List ℕ) (ns : Members) → IsUtf8 b → AreMembersAt power_width ns → IsUtf8 (base_in b (object ns))
 text_in b ns u h = by (schema_at (object ns) kw.Id) (λ v e. found_sound (name kw.Id) ns v h e)
   where
     by : (o : Option Tree) → ((v : Tree) → o ≡ Some v → IsTree v) → IsUtf8 (base_by b o)
@@ -215,11 +215,11 @@ module _ (to : Leads) where
   some_put s k (Some w) ms h g = put_unnamed s k w ms h g
 
   mutual
-    in_schema : (b p : List ℕ) (w : Tree) → IsUtf8 b → IsTree w → Unnamed (schema_members (pointed to b p w))
+    pub in_schema : (b p : List ℕ) (w : Tree) → IsUtf8 b → IsTree w → Unnamed (schema_members (pointed to b p w))
     in_schema b p (object ns) u h = among (pointed to b p (object ns)) (base_in b (object ns)) p ns (text_in b ns u h.0) h.0
     in_schema b p _ u h = tt
 
-    among : (s : Tree) (b p : List ℕ) (ms : Members) → IsUtf8 b → AreMembersAt power_width ms
+    pub among : (s : Tree) (b p : List ℕ) (ms : Members) → IsUtf8 b → AreMembersAt power_width ms
         → Unnamed (members_among s (pointed_among to b p ms))
     among s b p no_members u h = tt
     among s b p (member k w ms) u h = some_put s k
@@ -245,7 +245,7 @@ module _ (to : Leads) where
         (members_of_items (pointed_items to b p (suc i) ts))
         (in_schema b (at_index p i) v u h.0) (of_items b p (suc i) ts u h.1)
 
-    of_members : (b p : List ℕ) (ms : Members) → IsUtf8 b → AreMembersAt power_width ms
+    pub of_members : (b p : List ℕ) (ms : Members) → IsUtf8 b → AreMembersAt power_width ms
         → Unnamed (members_of_entries (pointed_members to b p ms))
     of_members b p no_members u h = tt
     of_members b p (member k w ms) u h = entry_unnamed k (pointed to b (at_key p k) w) (pointed_members to b p ms)

@@ -5,11 +5,11 @@ use Rattle.std.proofs.lemmas.Bool.{and_parts}
 use Rattle.std.proofs.lemmas.Option.{same_Some}
 use Rattle.std.proofs.lemmas.Slice.Eq.{bytes_eq-Decides}
 use Rattle.std.specs.Prelude.{⊤, option_and_then}
-use Rattle.tinyjson.proofs.Callers.{find_put}
+use Rattle.tinyjson.proofs.Callers.{find_below, find_put}
 use Rattle.tinyjson.specs.Index.{nth}
 use Rattle.tinyjson.specs.Tree.{Tree, boolean, array, object, Items, no_items, item, Members, no_members, member, find}
 use Rattle.tinyjson_number.specs.Numeral.{power_width}
-use Rattle.tinyjson_grammar.specs.Soundness.{IsTree, AreItemsAt, AreMembersAt}
+use Rattle.tinyjson_grammar.specs.Soundness.{IsTree, IsSorted, AreItemsAt, AreMembersAt}
 use Rattle.tinyjson_pointer.specs.Index.{index_of}
 use Rattle.tinyjson_pointer.specs.Walk.{step, part_at, item_of}
 use Rattle.tinyjson_schema_keywords.specs.Forms.{form_at, is_some_item}
@@ -21,7 +21,7 @@ use Rattle.tinyjson_schema_bundle.specs.Bundles.{is_dynamic, at_key, at_index, b
 use Rattle.tinyjson_schema.specs.Circles.{leads}
 use Rattle.tinyjson_schema.specs.Schemas.{fits, is_schema, keywords_fit, is_schema_list, is_schema_map, are_schemas, have_schemas}
 use Rattle.tinyjson_schema_laws.specs.Scoped.{located, base_within}
-use Rattle.tinyjson_schema_laws.specs.Leading.{lead_by, lead_in, lead_among, lead_in_list, lead_in_map, lead_of_items, lead_of_members}
+use Rattle.tinyjson_schema_laws.proofs.Leading.{lead_by, lead_in, lead_among, lead_in_list, lead_in_map, lead_of_items, lead_of_members}
 use Rattle.tinyjson_schema_laws.proofs.Pointed.{is_kept, picked, changed, found_pointed}
 
 no_some : (v : Tree) → None ≡ Some v → ⊥
@@ -41,6 +41,21 @@ pub nth_sound : (ts : Items) (i : ℕ) (v : Tree) → AreItemsAt power_width ts 
 nth_sound no_items i v h e = absurd (no_some v e)
 nth_sound (item t ts) zero v h e = subst IsTree (same_Some t v e) h.0
 nth_sound (item t ts) (suc i) v h e = nth_sound ts i v h.1 e
+
+-- ---- members that are among those of an object
+
+pub first_found : (k : List ℕ) (w : Tree) (ms ns : Members)
+    → ((l : List ℕ) (v : Tree) → find l (member k w ms) ≡ Some v → find l ns ≡ Some v) → find k ns ≡ Some w
+first_found k w ms ns h = h k w (ap (λ b. cond b (Some w) (find k ms)) ((bytes_eq-Decides k k).1 refl))
+
+pub rest_found : (k : List ℕ) (w : Tree) (ms ns : Members) → IsSorted (member k w ms)
+    → ((l : List ℕ) (v : Tree) → find l (member k w ms) ≡ Some v → find l ns ≡ Some v)
+    → (l : List ℕ) (v : Tree) → find l ms ≡ Some v → find l ns ≡ Some v
+rest_found k w ms ns s h l v e = h l v (by (bytes_eq l k) refl)
+  where
+    by : (b : Bool) → bytes_eq l k ≡ b → cond b (Some w) (find l ms) ≡ Some v
+    by true f = absurd (no_some v (sym (find_below k ms s.0 s.1) ∙ (ap (λ x. find x ms) (sym ((bytes_eq-Decides l k).0 f)) ∙ e)))
+    by false f = e
 
 -- ---- what leads to schemas
 

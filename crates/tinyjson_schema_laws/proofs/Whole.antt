@@ -31,7 +31,7 @@ defs = name kw.Defs
 abbrev pub most : Tree → ℕ
 most t = most_letters (marks_of t) (longest (schema_map_at t kw.Defs) 0)
 
-most_from : (ms : List Marked) (n : ℕ) → n ≤ most_letters ms n
+pub most_from : (ms : List Marked) (n : ℕ) → n ≤ most_letters ms n
 most_from [] n = omega arith
 most_from (m ∷ ms) n = by (is_place m.0) (most_from ms n) (most_from ms (longer n (letters_in m.1)))
   where

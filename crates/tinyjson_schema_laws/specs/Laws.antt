@@ -10,7 +10,6 @@ use Rattle.tinyjson_schema_bundle.specs.Scopes.{Reached, AreCopies, some_contest
 use Rattle.tinyjson_schema.specs.Evaluated.{Answers, Child}
 use Rattle.tinyjson_schema.specs.Schemas.{is_schema}
 use Rattle.tinyjson_schema.specs.Valid.{Root, judge, IsValidIn}
-use Rattle.tinyjson_schema_laws.specs.Leading.{all_located}
 use Rattle.tinyjson_schema_laws.specs.Scoped.{Scoped, Scope, IsValidScoped, judged, outermost}
 use Rattle.tinyjson_schema_laws.specs.Short.{IsShort}
 
@@ -75,14 +74,13 @@ ScopeDecides = (t : Tree) (c : Scope) → BeginsIn (base_in [] t) c → AreUris 
 
 -- ---- documents with copies
 
--- The document has several resources, each of its references leads to a schema in it, no array in it has more than
--- 2^64 items, and bundled with these copies it can be applied.
+-- The document has several resources, no array in it has more than 2^64 items, and bundled with these copies it can be
+-- applied.
 pub record IsCopied (t : Tree) (copies : List Reached) : Type 0 where
   pub sound : IsTree t
   pub short : IsShort t
   pub several : is_bundle (marks_of t) ≡ true
   pub applied : is_schema (bundled copies t) true (bundled copies t) ≡ true
-  pub leading : all_located t ≡ true
   pub states : AreCopies t copies
 
 -- The document accepts by its dynamic scope exactly the values that the bundled document with its copies accepts.

@@ -1,4 +1,3 @@
-pub mod Leading
 pub mod Laws
 pub mod Scoped
 pub mod Short

@@ -32,8 +32,8 @@ pub fn each_decided()
     ensures { EachDecided }
 {}
 
-/// A document of which the references lead to schemas accepts by its dynamic scope exactly the values
-/// that the bundled one accepts, with copies of resources for contested names.
+/// A document accepts by its dynamic scope exactly the values that the bundled one accepts, with copies
+/// of resources for contested names.
 pub fn same_verdict_with_copies()
     ensures { ExactCopied }
 {}

@@ -1,5 +1,7 @@
 -- Documents of which all references lead to places in them, or to schemas.
 use Rattle.std.specs.Prelude.{ℕ, Bool, true, ◌&&◌, List, [], ◌∷◌, is_some, option_and_then, encode_utf8_all}
+use Rattle.std.proofs.Common.{◌≡◌, refl}
+use Rattle.std.proofs.lemmas.Bool.{and_from}
 use Rattle.tinyjson.specs.Tree.{Tree, array, object, Items, no_items, item, Members, no_members, member}
 use Rattle.tinyjson_schema_keywords.specs.Forms.{form_at}
 use Rattle.tinyjson_schema_keywords.specs.declared.keyword.Form.{Form}
@@ -61,3 +63,41 @@ all_lead t = lead_in (to_place (marks_of t)) [] t
 -- Each reference in the document leads to a schema in it.
 abbrev pub all_located : Tree → Bool
 all_located t = lead_in (to_schema t) [] t
+
+-- ---- any reference is one of any kind
+
+abbrev pub any : List ℕ → Bool → Tree → Bool
+any b dynamic w = true
+
+each_form : (f : Form) (one list entries : Bool) → one ≡ true → list ≡ true → entries ≡ true → lead_by f true one list entries ≡ true
+each_form form.Schema one list entries x y z = x
+each_form form.Schemas one list entries x y z = y
+each_form form.SchemaMap one list entries x y z = z
+each_form form.PatternMap one list entries x y z = z
+each_form _ one list entries x y z = refl
+
+mutual
+  pub any_in : (b : List ℕ) (w : Tree) → lead_in any b w ≡ true
+  any_in b (object ns) = any_among (base_in b (object ns)) ns
+  any_in b _ = refl
+
+  pub any_among : (b : List ℕ) (ms : Members) → lead_among any b ms ≡ true
+  any_among b no_members = refl
+  any_among b (member k w ms) = and_from _ _ (each_form (form_at (encode_utf8_all k)) (lead_in any b w) (lead_in_list any b w)
+      (lead_in_map any b w) (any_in b w) (any_in_list b w) (any_in_map b w)) (any_among b ms)
+
+  any_in_list : (b : List ℕ) (w : Tree) → lead_in_list any b w ≡ true
+  any_in_list b (array ts) = any_of_items b ts
+  any_in_list b _ = refl
+
+  any_in_map : (b : List ℕ) (w : Tree) → lead_in_map any b w ≡ true
+  any_in_map b (object ms) = any_of_members b ms
+  any_in_map b _ = refl
+
+  any_of_items : (b : List ℕ) (ts : Items) → lead_of_items any b ts ≡ true
+  any_of_items b no_items = refl
+  any_of_items b (item t ts) = and_from _ _ (any_in b t) (any_of_items b ts)
+
+  any_of_members : (b : List ℕ) (ms : Members) → lead_of_members any b ms ≡ true
+  any_of_members b no_members = refl
+  any_of_members b (member k t ms) = and_from _ _ (any_in b t) (any_of_members b ms)
