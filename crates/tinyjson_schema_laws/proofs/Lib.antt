@@ -27,12 +27,14 @@ pub mod Parts
 pub mod Places
 pub mod Pointed
 pub mod Positions
+pub mod Read
 pub mod Referring
 pub mod Relations
 pub mod Resolved
 pub mod Rests
 pub mod SameLaws
 pub mod Settled
+pub mod Shortness
 pub mod Simulation
 pub mod Sizes
 pub mod Standing

@@ -3,6 +3,8 @@ use Rattle.std.specs.Option.{option_or}
 use Rattle.std.specs.Prelude.{◌≡◌, ◌↔◌, ℕ, Bool, true, false, List, [], ◌∷◌, Some, ⊤, unwrap_or}
 use Rattle.tinyjson.specs.Soundness.{IsTree}
 use Rattle.tinyjson.specs.Tree.{Tree}
+use Rattle.tinyjson.specs.View.{view}
+use Rattle.tinyjson.specs.declared.value.JsonValue.{JsonValue}
 use Rattle.uri_reference.specs.Resolving.{without_fragment}
 use Rattle.tinyjson_schema_bundle.specs.Bundles as bundle
 use Rattle.tinyjson_schema_bundle.specs.Bundles.{Marked, marks_of, base_in, is_bundle, with_name, dynamic_place, begins_pointer}
@@ -110,3 +112,18 @@ ExactAlone = (t : Tree) → IsAlone t → (formats : Bool) (u : Tree)
 abbrev pub DecidedAlone : Type 0
 DecidedAlone = (t : Tree) → IsAlone t → (formats : Bool) (u : Tree)
     → (is : Bool) × (n : ℕ) × ((g : Scoped) → judged t formats n g u ≡ is)
+
+-- ---- schemas in memory
+
+-- Bundled with copies for its scopes, a schema in memory accepts exactly the values that it accepts by its dynamic scope,
+-- if the bundled one can be applied.
+abbrev pub ExactRead : Type 0
+ExactRead = (v : JsonValue) (copies : List Reached) → AreCopies (view v) copies
+    → is_schema (bundled copies (view v)) true (bundled copies (view v)) ≡ true → (formats : Bool) (u : Tree)
+    → IsValidScoped (view v) formats u ↔ IsValidIn (record { tree = bundled copies (view v); formats = formats }) u
+
+-- It decides on each value.
+abbrev pub DecidedRead : Type 0
+DecidedRead = (v : JsonValue) (copies : List Reached) → AreCopies (view v) copies
+    → is_schema (bundled copies (view v)) true (bundled copies (view v)) ≡ true → (formats : Bool) (u : Tree)
+    → (is : Bool) × (n : ℕ) × ((g : Scoped) → judged (view v) formats n g u ≡ is)

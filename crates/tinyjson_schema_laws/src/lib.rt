@@ -7,10 +7,12 @@
 ghost use Rattle.tinyjson_schema_laws.specs.Laws.{
   DecidedAlone,
   DecidedCopied,
+  DecidedRead,
   EachDecided,
   Exact,
   ExactAlone,
   ExactCopied,
+  ExactRead,
   SameResults,
   ScopeDecides,
 };
@@ -52,6 +54,17 @@ pub fn same_verdict_alone()
 /// Such a document decides on each value too.
 pub fn each_decided_alone()
     ensures { DecidedAlone }
+{}
+
+/// A schema in memory accepts by its dynamic scope exactly the values that the bundled one accepts, which
+/// `tinyjson_schema_bundle` makes of it, if that can be applied.
+pub fn same_verdict_read()
+    ensures { ExactRead }
+{}
+
+/// Such a schema decides on each value too.
+pub fn each_decided_read()
+    ensures { DecidedRead }
 {}
 
 /// What the bundled document keeps of a dynamic scope decides as the scope does.
