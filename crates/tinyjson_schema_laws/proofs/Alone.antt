@@ -1,18 +1,16 @@
 -- A document of one resource that can be applied: its references lead in each dynamic scope where they lead in a root schema.
 use Rattle.std.proofs.Common.{◌≡◌, ℕ, Bool, true, false, ◌&&◌, ◌==◌, List, [], ◌∷◌, Option, Some, None}
-use Rattle.std.proofs.Common.{cond, refl, sym, ap, ◌∙◌, true≢false, bytes_eq, subst, option_map, encode_utf8_all, IsTrue, eqb-true}
+use Rattle.std.proofs.Common.{cond, refl, sym, ap, ◌∙◌, true≢false, subst, option_map, encode_utf8_all, IsTrue, eqb-true}
 use Rattle.std.proofs.lemmas.Bool.{and_parts}
-use Rattle.std.proofs.lemmas.Option.{same_Some}
 use Rattle.std.proofs.lemmas.Slice.Eq.{bytes_eq-Decides}
 use Rattle.std.proofs.lemmas.Str.{encodes-chars, scalars-chars, IsUtf8-from_is_utf8}
 use Rattle.std.specs.Option.{option_map_or, option_or}
 use Rattle.std.specs.Prelude.{⊤, ◌↔◌, option_and_then, unwrap_or}
 use Rattle.std.specs.Str.{IsUtf8, is_utf8, chars, all_scalars}
-use lib.Utf8.{encode}
 use Rattle.tinyjson.specs.Access.{is_string}
 use Rattle.tinyjson.specs.Tree.{Tree, boolean, string, array, object, Items, no_items, item, Members, no_members, member}
 use Rattle.tinyjson_grammar.specs.Soundness.{IsTree}
-use Rattle.tinyjson_pointer.specs.Text.{pointer_text, pointer_tokens, split}
+use Rattle.tinyjson_pointer.specs.Text.{pointer_tokens}
 use Rattle.tinyjson_pointer.specs.Walk.{part_at}
 use Rattle.uri_reference.specs.Resolving.{resolved}
 use Rattle.tinyjson_schema_keywords.specs.Anchors.{anchors_in, anchored, is_plain_name, is_name_start, are_name_parts}
@@ -41,12 +39,14 @@ use Rattle.tinyjson_schema_laws.proofs.Dynamic.{in_base, empty_base}
 use Rattle.tinyjson_schema_laws.proofs.Exactly.{exactly, each_value_decided}
 use Rattle.tinyjson_schema_laws.proofs.Fitting.{fit_found, no_id, led_there}
 use Rattle.tinyjson_schema_laws.proofs.Fragments.{base_clean, front_kept, inside_resolved}
+use Rattle.tinyjson_schema_laws.proofs.Letters.{tokens_text}
+use Rattle.tinyjson_schema_laws.proofs.Located.{text_begins}
 use Rattle.tinyjson_schema_laws.proofs.Places.{AreScalars, tokens_scalars}
 use Rattle.tinyjson_schema_laws.proofs.Pointed.{form_named}
 use Rattle.tinyjson_schema_laws.proofs.Texts.{located_there}
 use Rattle.tinyjson_schema_laws.proofs.Ties.{Holds, named_place, dynamic_same}
 
--- ---- the text of a pointer
+-- ---- plain names
 
 plain_begins : (ds : List ℕ) → is_plain_name ds ≡ true → begins_pointer ds ≡ false
 plain_begins [] h = absurd (true≢false (sym h))
@@ -55,20 +55,6 @@ plain_begins (c ∷ cs) h = by (c == 47) refl
     by : (x : Bool) → (c == 47) ≡ x → x ≡ false
     by true e = absurd (true≢false (sym h ∙ ap (λ x. is_name_start x && are_name_parts cs) (eqb-true c 47 e)))
     by false e = refl
-
-tokens_text : (cs : List ℕ) (ks : List (List ℕ)) → pointer_tokens cs ≡ Some ks → pointer_text ks ≡ cs
-tokens_text cs ks e = by (bytes_eq (pointer_text (split false cs).1) cs) refl e
-  where
-    by : (x : Bool) → bytes_eq (pointer_text (split false cs).1) cs ≡ x → cond x (Some (split false cs).1) None ≡ Some ks
-        → pointer_text ks ≡ cs
-    by true f g = ap pointer_text (sym (same_Some (split false cs).1 ks g))
-        ∙ (bytes_eq-Decides (pointer_text (split false cs).1) cs).0 f
-    by false f g = absurd (let none : None ≡ Some ks = g in cc)
-
-text_begins : (ks : List (List ℕ)) → begins_pointer (encode_utf8_all (pointer_text ks)) ≡ true
-unfolding encode
-text_begins [] = refl
-text_begins (k ∷ ks) = refl
 
 -- ---- values of a keyword
 

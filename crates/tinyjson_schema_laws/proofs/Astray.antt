@@ -1,17 +1,17 @@
 -- In a bundled document that can be applied each reference leads to a schema: so does each one of the document, and none to
 -- a copy alone.
-use Rattle.std.proofs.Common.{◌≡◌, ◌≢◌, ◌⊎◌, ℕ, ◌<◌, ◌≤◌, ◌^◌, Bool, true, false, ◌&&◌, ◌==◌, List, [], ◌∷◌, ◌++◌, Option, Some, None}
+use Rattle.std.proofs.Common.{◌≡◌, ◌≢◌, ◌⊎◌, ℕ, ◌<◌, ◌≤◌, ◌^◌, Bool, true, false, ◌&&◌, List, [], ◌∷◌, ◌++◌, Option, Some, None}
 use Rattle.std.proofs.Common.{cond, is_some, refl, sym, ap, ◌∙◌, true≢false, bytes_eq, subst, length, option_map, encode_utf8_all, chars}
-use Rattle.std.proofs.Common.{arith, codes, append-nil, append_assoc, inl, inr, drop, IsTrue}
-use Rattle.std.proofs.lemmas.Bool.{and_parts, and_from}
+use Rattle.std.proofs.Common.{arith, codes, append-nil, inl, inr, IsTrue}
+use Rattle.std.proofs.lemmas.Bool.{and_parts}
 use Rattle.std.proofs.lemmas.Option.{same_Some}
 use Rattle.std.proofs.lemmas.Slice.Eq.{bytes_eq-Decides}
 use Rattle.std.proofs.lemmas.Str.{scalars-chars, IsUtf8-from_is_utf8}
 use Rattle.std.specs.Option.{option_map_or}
-use Rattle.std.specs.Prelude.{⊤, option_and_then, unwrap_or}
+use Rattle.std.specs.Prelude.{option_and_then, unwrap_or}
 use Rattle.std.specs.Str.{is_utf8, all_scalars}
 use lib.Utf8.{encode}
-use Rattle.tinyjson.specs.Tree.{Tree, string, array, object, Items, no_items, item, Members, no_members, member, find}
+use Rattle.tinyjson.specs.Tree.{Tree, string, object, Members, no_members, find}
 use Rattle.tinyjson_grammar.specs.Soundness.{IsTree}
 use Rattle.tinyjson_pointer.specs.Text.{pointer_tokens}
 use Rattle.tinyjson_pointer.specs.Walk.{step, part_at}
@@ -43,7 +43,7 @@ use Rattle.tinyjson_schema_laws.proofs.Keys.{copy_text, key_scalars}
 use Rattle.tinyjson_schema_laws.proofs.Led.{place_most, listed_same, target_some}
 use Rattle.tinyjson_schema_laws.proofs.Letters.{zs, key_zs, tokens_text, pointer_letters, mark_letters}
 use Rattle.tinyjson_schema_laws.proofs.Located.{AreAmong, IsSet, HaveFits, Fits, leads_on, member_fits, root_leads}
-use Rattle.tinyjson_schema_laws.proofs.Looking.{no_cond, goes, located_part, by_entry, entry_is, entries_fit, map_is, members_fit, key}
+use Rattle.tinyjson_schema_laws.proofs.Looking.{no_cond, goes, located_part, by_entry, entry_is, entries_fit, map_is, members_fit}
 use Rattle.tinyjson_schema_laws.proofs.Looking.{Copied, in_copy}
 use Rattle.tinyjson_schema_laws.proofs.Nameless.{whole_unnamed}
 use Rattle.tinyjson_schema_laws.proofs.Places.{AreScalars, tokens_scalars}

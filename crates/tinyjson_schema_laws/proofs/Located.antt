@@ -34,8 +34,8 @@ use Rattle.tinyjson_schema_bundle.specs.Bundles.{pointed, pointed_among, pointed
 use Rattle.tinyjson_schema_bundle.specs.Bundles.{at_key, at_index}
 use Rattle.tinyjson_schema_bundle.specs.declared.mark.Kind.TheVariants as kind
 use Rattle.tinyjson_schema_bundle.specs.Scopes.{Reached, from_root, leads_of, leads_over}
-use Rattle.tinyjson_schema.specs.Circles.{leads, settles, reference_steps}
-use Rattle.tinyjson_schema.specs.Schemas.{is_schema, keywords_fit, are_schemas, have_schemas}
+use Rattle.tinyjson_schema.specs.Circles.{leads}
+use Rattle.tinyjson_schema.specs.Schemas.{is_schema, keywords_fit, are_schemas}
 use Rattle.tinyjson_schema_laws.proofs.Leading.{to_place, lead_by, lead_in, lead_among, lead_in_list, lead_in_map, lead_of_items}
 use Rattle.tinyjson_schema_laws.proofs.Leading.{lead_of_members, all_lead}
 use Rattle.tinyjson_schema_laws.specs.Scoped.{outermost, leads_in, led_to}
@@ -55,7 +55,7 @@ no_some v e = absurd (let none : None ≡ Some v = e in cc)
 
 -- ---- pointers begin as such
 
-text_begins : (ks : List (List ℕ)) → begins_pointer (encode_utf8_all (pointer_text ks)) ≡ true
+pub text_begins : (ks : List (List ℕ)) → begins_pointer (encode_utf8_all (pointer_text ks)) ≡ true
 unfolding encode
 text_begins [] = refl
 text_begins (k ∷ ks) = refl

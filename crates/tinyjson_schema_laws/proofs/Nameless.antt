@@ -1,13 +1,11 @@
 -- No schema of a bundled document with copies has a plain name.
 use Rattle.std.proofs.Common.{◌≡◌, ℕ, suc, Bool, true, false, ◌&&◌, List, [], ◌∷◌, ◌++◌, Option, Some, None}
-use Rattle.std.proofs.Common.{cond, refl, sym, ap, ◌∙◌, true≢false, subst, option_map, encode_utf8_all, bytes_eq, chars, codes}
+use Rattle.std.proofs.Common.{cond, refl, sym, ◌∙◌, true≢false, subst, option_map, encode_utf8_all, bytes_eq, chars, codes}
 use Rattle.std.proofs.lemmas.Bool.{and_parts}
 use Rattle.std.proofs.lemmas.Option.{same_Some}
 use Rattle.std.proofs.lemmas.Str.{IsUtf8-nil}
-use Rattle.std.specs.Option.{option_map_or}
 use Rattle.std.specs.Prelude.{⊤, option_and_then}
 use Rattle.std.specs.Str.{IsUtf8, is_utf8}
-use Rattle.tinyjson.specs.Access.{is_string}
 use Rattle.tinyjson.specs.Tree.{Tree, string, array, object, Items, no_items, item, Members, no_members, member, find, put}
 use Rattle.tinyjson_number.specs.Numeral.{power_width}
 use Rattle.tinyjson_grammar.specs.Soundness.{IsTree, AreItemsAt, AreMembersAt}
@@ -22,10 +20,10 @@ use Rattle.tinyjson_schema_keywords.specs.Subschemas.{schema_members, members_am
 use Rattle.tinyjson_schema_keywords.specs.declared.keyword.Form.{Form}
 use Rattle.tinyjson_schema_keywords.specs.declared.keyword.Form.TheVariants as form
 use Rattle.tinyjson_schema_keywords.specs.declared.keyword.Keyword.TheVariants as kw
-use Rattle.tinyjson_schema_bundle.specs.Bundles.{Marked, Leads, marks_of, place_of, base_in, at_key, at_index, is_resource}
+use Rattle.tinyjson_schema_bundle.specs.Bundles.{Marked, marks_of, base_in, at_key, at_index, is_resource}
 use Rattle.tinyjson_schema_bundle.specs.Bundles.{resource_marks, name_kind, name_marks, reference_marks, is_fragment, marks_by}
 use Rattle.tinyjson_schema_bundle.specs.Bundles.{marks_in, marks_among, marks_in_list, marks_in_map, marks_of_items, marks_of_members}
-use Rattle.tinyjson_schema_bundle.specs.Bundles.{pointed, pointed_among, pointed_members, put_some}
+use Rattle.tinyjson_schema_bundle.specs.Bundles.{pointed_among, pointed_members, put_some}
 use Rattle.tinyjson_schema_bundle.specs.Scopes.{Reached, from_root, is_resource_mark, is_within, is_between, innermost, home, letters}
 use Rattle.tinyjson_schema_bundle.specs.Scopes.{schema_there, copy_by, copy_key, put_copies, defs_in, with_defs}
 use Rattle.tinyjson_schema_bundle.specs.declared.mark.Kind.TheVariants as kind

@@ -56,8 +56,8 @@ pub fn each_decided_alone()
     ensures { DecidedAlone }
 {}
 
-/// A schema in memory accepts by its dynamic scope exactly the values that the bundled one accepts, which
-/// `tinyjson_schema_bundle` makes of it, if that can be applied.
+/// A schema in memory accepts by its dynamic scope exactly the values that the bundled one accepts,
+/// which `tinyjson_schema_bundle` makes of it, if that can be applied.
 pub fn same_verdict_read()
     ensures { ExactRead }
 {}
