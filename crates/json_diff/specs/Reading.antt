@@ -1,10 +1,11 @@
 -- The old text that is read.
-use Rattle.std.specs.Prelude.{◌≡◌, ℕ, List, ◌++◌, Option, Some, Result, Ok, Err, ◌⊎◌, codes}
+use Rattle.std.specs.Prelude.{◌≡◌, ℕ, List, ◌++◌, Option, Some, Result, Ok, Err, ◌⊎◌, IsErrAnd, codes}
 use Rattle.tinyjson.specs.Error.{error_kind, error_message}
 use Rattle.tinyjson.specs.Events.{TellsText}
 use Rattle.tinyjson.specs.Grammar.{IsText}
 use Rattle.tinyjson.specs.JsonParseErrorKind.TheVariants as kind
 use Rattle.tinyjson.specs.declared.parser.error.JsonParseError.{JsonParseError}
+use Rattle.tinyjson_cli.specs.Ending.{IsOfNamed}
 use Rattle.tinyjson_cli.specs.Failures.{failure_message, failure_status}
 use Rattle.tinyjson_cli.specs.declared.failure.Failure.{Failure}
 use Rattle.tinyjson_cli.specs.declared.failure.Failure.TheVariants as failure
@@ -27,3 +28,7 @@ IsOldFailure e f =
 abbrev pub ReadsOld : List ℕ → Result Document Failure → Type 0
 ReadsOld text (Ok d) = IsText text_depth text (document_tree d)
 ReadsOld text (Err f) = (e : JsonParseError) × TellsText HasTree text_depth text (Err e) × IsOldFailure e f
+
+-- The document of a file's text, or the failure for it; or that of a file that can't be read.
+abbrev pub ReadsOldFile : Result Document Failure → Type 0
+ReadsOldFile r = ((text : List ℕ) × ReadsOld text r) ⊎ IsErrAnd r IsOfNamed

@@ -1,6 +1,6 @@
 //! The old text that the arguments name.
 ghost use Rattle.std.specs.Str.{chars};
-ghost use Rattle.json_diff.specs.Reading.{IsOldFailure, ReadsOld};
+ghost use Rattle.json_diff.specs.Reading.{IsOldFailure, ReadsOld, ReadsOldFile};
 
 use std::alloc::Global;
 use tinyjson::JsonParseError;
@@ -11,7 +11,9 @@ use tinyjson_document::Document;
 pub const TEXT_DEPTH: usize = 1_000;
 
 /// The document of this file.
-pub fn read_old(rt: &HostRuntime, file: &str) -> Result<Document, Failure> {
+pub fn read_old(rt: &HostRuntime, file: &str) -> Result<Document, Failure>
+    ensures { ReadsOldFile result }
+{
     let text = read_named(rt, file)?;
     old_of(rt.alloc(), text.as_str())
 }

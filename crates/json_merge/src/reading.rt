@@ -1,6 +1,7 @@
 //! The patches that the arguments name.
+ghost use Rattle.std.specs.Prelude.{length};
 ghost use Rattle.std.specs.Str.{chars};
-ghost use Rattle.json_merge.specs.Reading.{IsPatchFailure, ReadsMergePatch};
+ghost use Rattle.json_merge.specs.Reading.{IsPatchFailure, ReadsFiles, ReadsMergePatch};
 
 use std::alloc::Global;
 use tinyjson::JsonParseError;
@@ -8,7 +9,9 @@ use tinyjson_cli::{Failure, read_named};
 use tinyjson_document::Document;
 
 /// The patches of these files, in order.
-pub fn read_patches(rt: &HostRuntime, files: &[&str]) -> Result<Vec<Document>, Failure> {
+pub fn read_patches(rt: &HostRuntime, files: &[&str]) -> Result<Vec<Document>, Failure>
+    ensures { ReadsFiles (length files.now) result }
+{
     let mut patches = Vec::new(rt.alloc());
     for file in files {
         let text = read_named(rt, file)?;

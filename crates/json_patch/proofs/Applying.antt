@@ -79,7 +79,8 @@ module _ (most : ℕ) (actions : List Action) (t : Tree) (old mid : Option (List
   text_cut new x r is j k = line_begun most false actions t old new few w.0 w.1 r j (stops_then (line_feed ∷ []) (before_line x is) k)
 
 -- compact or indented, as asked
-module _ (most : ℕ) (actions : List Action) (t u : Tree) (b c : Bool) (old new : Option (List ℕ)) (r : Result (Option Unanswered) Error) where
+module _ (most : ℕ) (actions : List Action) (t u : Tree) (b c : Bool) (old new : Option (List ℕ))
+    (r : Result (Option Unanswered) Error) where
   pub in_form : b ≡ c → u ≡ t → Answers (GivesPatchedOf most c actions u) old new r → Answers (GivesPatchedOf most b actions t) old new r
   in_form e f h =
       subst (λ x. Answers (GivesPatchedOf most x actions t) old new r) (sym e)

@@ -1,11 +1,12 @@
 -- A patch that is read.
-use Rattle.std.specs.Prelude.{◌≡◌, ℕ, List, ◌++◌, Option, Some, Result, Ok, Err, ◌⊎◌, codes}
+use Rattle.std.specs.Prelude.{◌≡◌, ℕ, List, ◌++◌, Option, Some, Result, Ok, Err, ◌⊎◌, IsErrAnd, codes}
 use Rattle.tinyjson.specs.Error.{error_kind, error_message}
 use Rattle.tinyjson.specs.Grammar.{IsText}
 use Rattle.tinyjson.specs.JsonParseErrorKind.TheVariants as kind
 use Rattle.tinyjson.specs.Parser.{ParsesText}
 use Rattle.tinyjson.specs.Tree.{Tree}
 use Rattle.tinyjson.specs.declared.parser.error.JsonParseError.{JsonParseError}
+use Rattle.tinyjson_cli.specs.Ending.{IsOfNamed}
 use Rattle.tinyjson_cli.specs.Failures.{failure_message, failure_status}
 use Rattle.tinyjson_cli.specs.declared.failure.Failure.{Failure}
 use Rattle.tinyjson_cli.specs.declared.failure.Failure.TheVariants as failure
@@ -44,3 +45,7 @@ ReadsPatchText text (Ok p) = (d : Tree) × IsText patch_depth text d × ReadsDoc
 ReadsPatchText text (Err f) =
     ((e : JsonParseError) × ParsesText patch_depth text (Err e) × IsNoText e f)
     ⊎ ((d : Tree) × IsText patch_depth text d × ReadsDocument d (Err f))
+
+-- The patch of a file's text, or the failure for it; or that of a file that can't be read.
+abbrev pub ReadsPatchFile : Result Patch Failure → Type 0
+ReadsPatchFile r = ((text : List ℕ) × ReadsPatchText text r) ⊎ IsErrAnd r IsOfNamed

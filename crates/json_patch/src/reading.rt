@@ -2,7 +2,7 @@
 ghost use Rattle.std.specs.Str.{chars};
 ghost use Rattle.tinyjson.specs.View.{view};
 ghost use Rattle.json_patch.specs.Reading.{IsNoPatch, IsNoText, ReadsDocument, ReadsPatchText};
-ghost use Rattle.json_patch.specs.Reading.{patch_depth};
+ghost use Rattle.json_patch.specs.Reading.{ReadsPatchFile, patch_depth};
 
 use std::alloc::Global;
 use tinyjson::{JsonParseError, JsonValue};
@@ -13,7 +13,9 @@ use tinyjson_patch::{Patch, PatchError};
 const PATCH_DEPTH: usize = 1_000;
 
 /// The patch of this file.
-pub fn read_patch(rt: &HostRuntime, file: &str) -> Result<Patch, Failure> {
+pub fn read_patch(rt: &HostRuntime, file: &str) -> Result<Patch, Failure>
+    ensures { ReadsPatchFile result }
+{
     let text = read_named(rt, file)?;
     patch_of(rt.alloc(), text.as_str())
 }

@@ -119,7 +119,8 @@ pub judged_all_valid : (limit : Option ℕ) (s : Tree) (text reports : List ℕ)
 judged_all_valid limit s text reports none (ts, l, os, j, w) = (ts, l, os, j, sym w ∙ none)
 
 pub judged_all : (limit : Option ℕ) (s : Tree) (text : List ℕ) (reports : Vec ℕ Global) → reports.items ≢ []
-    → (ts : List Tree) × AreLines limit text ts × (os : List (Option Located)) × AreJudged s text ts os × (reports.items ≡ reports_text 1 os)
+    → (ts : List Tree) × AreLines limit text ts × (os : List (Option Located)) × AreJudged s text ts os
+    × (reports.items ≡ reports_text 1 os)
     → DecidesLinesBy limit s text (Ok (Invalid reports))
 judged_all limit s text reports some (ts, l, os, j, w) = (ts, l, os, j, w, some)
 

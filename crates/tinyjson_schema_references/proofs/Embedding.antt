@@ -1,5 +1,6 @@
 -- Meta-schemas that are embedded one after the other, or none.
-use Rattle.std.proofs.Common.{◌≡◌, ◌∙◌, [], ◌∷◌, Bool, true, ◌==◌, ℕ, ◌<◌, ◌+◌, List, length, get_or, drop, map, refl, sym, ap, subst, arith}
+use Rattle.std.proofs.Common.{◌≡◌, ◌∙◌, [], ◌∷◌, Bool, true, ◌==◌, ℕ, ◌<◌, ◌+◌, List}
+use Rattle.std.proofs.Common.{length, get_or, drop, map, refl, sym, ap, subst, arith}
 use Rattle.std.proofs.lemmas.Bool.{eqb-true}
 use Rattle.tinyjson.specs.Tree.{Tree}
 use Rattle.tinyjson_schema_bundle.specs.Scopes.{Reached, AreCopies, bundled}

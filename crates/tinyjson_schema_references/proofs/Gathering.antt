@@ -13,9 +13,9 @@ pub drop_at : {X : Type 0} (xs : List X) (i : ℕ) (d : X) → i < length xs →
 drop_at xs i d h = drop_item xs i (get_or xs i d) h (same_item xs i d h)
 
 -- the front and what F gives for what is left are the whole
-pub gathered : {X B : Type 0} (F : List X → List B) (G : X → List B) (xs : List X) (i : ℕ) (d : X) (front whole next : List B) → i < length xs
-    → ((x : X) (ys : List X) → F (x ∷ ys) ≡ G x ++ F ys) → next ≡ front ++ G (get_or xs i d) → front ++ F (drop i xs) ≡ whole
-    → next ++ F (drop (i + 1) xs) ≡ whole
+pub gathered : {X B : Type 0} (F : List X → List B) (G : X → List B) (xs : List X) (i : ℕ) (d : X) (front whole next : List B)
+    → i < length xs → ((x : X) (ys : List X) → F (x ∷ ys) ≡ G x ++ F ys) → next ≡ front ++ G (get_or xs i d)
+    → front ++ F (drop i xs) ≡ whole → next ++ F (drop (i + 1) xs) ≡ whole
 gathered F G xs i d front whole next h each add left =
     let x = get_or xs i d in
     let rest = F (drop (i + 1) xs) in

@@ -134,7 +134,8 @@ fn with_all(
     documents: &[MetaSchema],
     alloc: Global,
 ) -> Result<Compound, EmbedError>
-    ensures ok { IfOk result (λ c. EmbedsAll (map published documents.now) (seen compound) (seen c)) }
+    ensures ok { IfOk result
+        (λ c. EmbedsAll (map published documents.now) (seen compound) (seen c)) }
     ensures err { IfErr result IsCause }
 {
     let mut whole = compound;

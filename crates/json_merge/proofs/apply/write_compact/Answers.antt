@@ -16,7 +16,8 @@ returns g c =
     let split = c.in-Some.ensures.cases.0 in
     let merged = c.in_ok-merged.ensures ∙ ap (λ ds. all_merged t (map document_tree ds)) (sym c.in-Some-split_first.ensures.cases.0) in
     let whole =
-    ap (λ p. merge_patch (tree c.root-2.result) p) c.root-3.ensures ∙ ap (λ u. merge_patch u (document_tree last)) (c.root-2.ensures ∙ merged)
+    ap (λ p. merge_patch (tree c.root-2.result) p) c.root-3.ensures
+    ∙ ap (λ u. merge_patch u (document_tree last)) (c.root-2.ensures ∙ merged)
     ∙ sym (last_merged t (map document_tree others) (document_tree last))
     ∙ ap (all_merged t) (sym (map-append document_tree others (last ∷ [])) ∙ ap (map document_tree) (sym split)) in
     subst (λ u. WritesPrefix (g.W.Write.contents c.args.output.now) (g.W.Write.contents c.write_merged-2.new.output) (laid_out false u)

@@ -10,6 +10,6 @@ pub returns : goal.returns
 returns g c =
     let bytes = c.args.text.bytes in
     let same : c.len.result ≡ length (string_bytes c.args.text) = omega (arith, c.len.ensures, bytes.ok) in
-    limited c.args.asked.is_indented (actions_of c.args.asked.patch.now) (string_bytes c.args.text) c.len.result c.copies_for-most.result _ _
-    c.answer_read.result (IsUtf8-string_bytes c.args.text) same c.copies_for-most.ensures
+    limited c.args.asked.is_indented (actions_of c.args.asked.patch.now) (string_bytes c.args.text) c.len.result
+    c.copies_for-most.result _ _ c.answer_read.result (IsUtf8-string_bytes c.args.text) same c.copies_for-most.ensures
     (c.answer_read.ensures (chars (string_bytes c.args.text)) c.of_text.ensures)

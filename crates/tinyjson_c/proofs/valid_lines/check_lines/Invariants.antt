@@ -10,7 +10,8 @@ use Rattle.tinyjson_c.proofs.valid_lines.check_lines.Given as goal
 abbrev pub invariant-loop-rest : goal.invariant-loop-rest
 invariant-loop-rest l = record {
   read : (ts : List Tree) × AreFirst (Some (schema_depth l.depth)) l.bytes ts l.rest
-      × (os : List (Option Located)) × AreJudged (tree_of l.schema) l.bytes ts os × (l.reports.items ≡ reports_text 1 os) × (l.number ≡ length ts);
+      × (os : List (Option Located)) × AreJudged (tree_of l.schema) l.bytes ts os × (l.reports.items ≡ reports_text 1 os)
+      × (l.number ≡ length ts);
   counted : l.number + length l.rest ≤ length l.bytes;
 }
 

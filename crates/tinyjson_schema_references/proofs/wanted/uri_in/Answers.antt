@@ -6,5 +6,5 @@ use Rattle.tinyjson_schema_references.proofs.wanted.uri_in.Goals as goal
 
 pub returns-in-String : goal.returns-in-String
 returns-in-String c = ap Some c.without_fragment.ensures
-    ∙ said c.args.value.now c.in-String.uri c.as_str.result.now c.in-String.is c.as_str.ensures.value (λ bs. Some (without_fragment bs)) uri_in
-    (λ cs. refl)
+    ∙ said c.args.value.now c.in-String.uri c.as_str.result.now c.in-String.is c.as_str.ensures.value
+    (λ bs. Some (without_fragment bs)) uri_in (λ cs. refl)
