@@ -1,5 +1,5 @@
 -- The verdict on a schema by its meta-schema (JSON Schema 2020-12, Core, 8.1.1), and the URIs of documents.
-use Rattle.std.specs.Prelude.{◌≡◌, ℕ, false, ◌⊎◌, List, [], ◌∷◌, ◌++◌, Option, codes, unwrap_or, Ok}
+use Rattle.std.specs.Prelude.{◌≡◌, ℕ, ◌⊎◌, List, ◌++◌, Option, codes, unwrap_or, Ok}
 use Rattle.std.specs.Str.{chars}
 use Rattle.tinyjson.specs.Grammar.{IsText}
 use Rattle.tinyjson.specs.Tree.{Tree}
@@ -12,9 +12,8 @@ use Rattle.tinyjson_cli.specs.declared.status.Status.TheVariants as status
 use Rattle.tinyjson_schema.specs.Reading.{ReadsSchema, root_in}
 use Rattle.tinyjson_schema.specs.Valid.{Root}
 use Rattle.tinyjson_schema.specs.declared.schema.Schema.{Schema}
-use Rattle.tinyjson_schema_documents.specs.Documents.{found_at, has_definition}
-use Rattle.tinyjson_schema_drafts.specs.declared.draft.Draft.{Draft}
-use Rattle.tinyjson_schema_references.specs.References.{HasMetaSchemas, Seen, embed, meta_schema_of, referring}
+use Rattle.tinyjson_schema_documents.specs.Documents.{found_at}
+use Rattle.tinyjson_schema_references.specs.References.{HasMetaSchemas, Seen, meta_schema_of, referring}
 use Rattle.json_schema.specs.Every.{TextGivesAs}
 use Rattle.json_schema.specs.Failures.{Is}
 use Rattle.json_schema.specs.Names.{joined, plain, reference}
@@ -56,17 +55,3 @@ found_in file c = (found_at (joined (codes "/") (plain file)) c.0, c.1)
 -- the URI of a document: the one that is given, or else the reference from the schema's file
 abbrev pub document_uri : List ℕ → Option (List ℕ) → List ℕ → List ℕ
 document_uri schema u file = unwrap_or u (reference (plain schema) (plain file))
-
--- ---- further documents
-
--- r is c with a document that was found at the URI u, and no document of c has that URI
-abbrev pub EmbedsNew : Draft → List ℕ → Seen → Seen → Type 0
-EmbedsNew d u c r = (has_definition c.0 u ≡ false) × ((t : Tree) × (r ≡ embed d u t c))
-
--- r is c with documents that were found at these URIs, the last one first
-abbrev pub EmbedsAt : Draft → List (List ℕ) → Seen → Seen → Type 0
-EmbedsAt d [] c r = r ≡ c
-EmbedsAt d (u ∷ us) c r = (e : Seen) × EmbedsAt d us c e × EmbedsNew d u e r
-
-abbrev pub EmbedsSome : Draft → Seen → Seen → Type 0
-EmbedsSome d c r = (us : List (List ℕ)) × EmbedsAt d us c r

@@ -2,7 +2,7 @@
 ghost use Rattle.std.specs.Prelude.{◌≡◌, option_map, IfOk};
 ghost use Rattle.std.specs.String.{string_bytes};
 ghost use Rattle.tinyjson_schema_references.specs.References.{seen};
-ghost use Rattle.json_schema.specs.Meta.{document_uri, found_in, EmbedsNew, EmbedsSome};
+ghost use Rattle.json_schema.specs.Meta.{document_uri, found_in};
 
 use crate::failure::{SchemaFailure, document_failure, schema_failure};
 use crate::folder::{is_folder, json_files};
@@ -26,10 +26,7 @@ pub fn with_documents(
     file: &str,
     draft: Draft,
     texts: &[Text<'_>],
-) -> Result<Compound, Failure>
-    ensures { IfOk result
-        (λ c. EmbedsSome draft (found_in file.now (seen compound)) (seen c)) }
-{
+) -> Result<Compound, Failure> {
     let documents = documents_of(rt, file, texts)?;
     let mut compound = found_in(rt.alloc(), compound, file)?;
     for document in &documents {
@@ -154,10 +151,7 @@ fn with_file(
     compound: Compound,
     document: &Document,
     default: Draft,
-) -> Result<Compound, Failure>
-    ensures { IfOk result
-        (λ c. EmbedsNew default (string_bytes document.now.uri) (seen compound) (seen c)) }
-{
+) -> Result<Compound, Failure> {
     let uri = document.uri.as_str();
     if has_definition(&compound.tree, uri) {
         return Err(schema_failure(rt.alloc(), &SchemaFailure::Twice(uri)));
