@@ -1,6 +1,7 @@
 -- What an automaton remembers.
 use Rattle.std.proofs.Common.{◌≡◌, ℕ, zero, suc, ◌+◌, ◌*◌, ◌-◌, ◌<◌, ◌≤◌, Bool, true, false, List, [], ◌∷◌, ◌++◌, length, get_or, set}
-use Rattle.std.proofs.Common.{not, Option, Some, None, ⊎_elim, refl, sym, ap, ◌∙◌, ◌||◌, subst, arith, length-append, append-nil, true≢false, cond, Result, Ok, Err, replicate, ◌⊎◌, inl, inr}
+use Rattle.std.proofs.Common.{not, Option, Some, None, ⊎_elim, refl, sym, ap, ◌∙◌, ◌||◌, subst, arith, length-append}
+use Rattle.std.proofs.Common.{append-nil, true≢false, cond, Result, Ok, Err, replicate, ◌⊎◌, inl, inr}
 use Rattle.std.specs.List.{slice_get}
 use Rattle.std.specs.Option.{option_map_or}
 use Rattle.std.specs.Result.{is_err, is_ok}
@@ -12,11 +13,11 @@ use Rattle.std.proofs.lemmas.List.{get_or-append_right, get_or_append_left}
 use Rattle.std.proofs.lemmas.Option.{slice_get-get_or, slice_get_within}
 use Rattle.marked_regexp.specs.Automata.{AreStates, Extends, HasMarksAt, IsRowOf, IsState, Knows, LeadsTo, row_reads}
 use Rattle.std.specs.Prelude.{IfSome}
-use Rattle.marked_regexp.specs.Marked.{ends_here, is_kept, is_marked, placed, reads, skips}
+use Rattle.marked_regexp.specs.Marked.{ends_here, is_kept, is_marked, is_plain, placed, reads, skips}
 use Rattle.marked_regexp.proofs.Kept.{kept_from}
 use Rattle.marked_regexp.proofs.Marking.{ends_unmarked}
 use Rattle.marked_regexp.proofs.Rereading.{verdict_right}
-use Rattle.marked_regexp.proofs.Placing.{kept_placed, placed_none}
+use Rattle.marked_regexp.proofs.Placing.{kept_placed, placed_none, plain_placed}
 use Rattle.marked_regexp.specs.declared.marked.Node.{Node}
 use Rattle.marked_regexp.specs.declared.state.State.{State}
 
@@ -27,7 +28,8 @@ pub state_had : (states items : List State) (place : ℕ) (s : State) → items 
 state_had states items place s same within is =
     subst (λ ss. slice_get ss place ≡ Some s) same (slice_get-get_or items place s within ∙ ap Some (sym is))
 
-pub at_start : (root : Node) (states : List State) (row : ℕ) (cs : List ℕ) → (1 ≤ row → ⊥) → row_reads root states row cs ≡ reads true root cs
+pub at_start : (root : Node) (states : List State) (row : ℕ) (cs : List ℕ) → (1 ≤ row → ⊥)
+    → row_reads root states row cs ≡ reads true root cs
 at_start root states zero cs none = refl
 at_start root states (suc k) cs none = absurd (none (omega arith))
 
@@ -153,13 +155,16 @@ knows_step root states steps row c next known within ascii fits leads row' c' ne
 
 module _ (root : Node) (states : List State) (row place : ℕ) (s : State) (some : 1 ≤ row) (is : place ≡ row - 1)
     (had : slice_get states place ≡ Some s) (kept : is_kept root ≡ true) (all : AreStates root states) where
-  pub verdict_had : (o : Option Bool) → o ≡ s.verdict → IfSome o (λ b. (cs : List ℕ) → row_reads root states row cs ≡ b)
-  verdict_had None e = tt
-  verdict_had (Some b) e = λ cs. at_state root states row place s cs some is had
-      ∙ verdict_right (placed root s.marks.items) b cs (kept_placed root s.marks.items (kept_from root kept)) (e ∙ (all place s had).1)
+  pub verdict_had : is_plain root ≡ true → (o : Option Bool) → o ≡ s.verdict → IfSome o
+      (λ b. (cs : List ℕ) → row_reads root states row cs ≡ b)
+  verdict_had plain None e = tt
+  verdict_had plain (Some b) e = λ cs. at_state root states row place s cs some is had
+      ∙ verdict_right (placed root s.marks.items) b cs (kept_placed root s.marks.items (kept_from root kept))
+      (plain_placed root s.marks.items ∙ plain) (e ∙ (all place s had).1)
 
   pub ends_had : s.ends ≡ row_reads root states row []
-  ends_had = (all place s had).0 ∙ (or_false (ends_here (placed root s.marks.items)) ∙ sym (at_state root states row place s [] some is had))
+  ends_had = (all place s had).0 ∙ (or_false (ends_here (placed root s.marks.items)) ∙ sym
+      (at_state root states row place s [] some is had))
     where
       or_false : (b : Bool) → b ≡ (b || false)
       or_false true = refl

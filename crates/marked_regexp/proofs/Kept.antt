@@ -1,11 +1,13 @@
 -- What a tree keeps, as a fact and as a test; and what a tree without marks keeps.
-use Rattle.std.proofs.Common.{◌≡◌, Bool, true, false, ◌&&◌, not, refl, sym, ap, ◌∙◌, subst, true≢false}
+use Rattle.std.proofs.Common.{◌≡◌, ℕ, Option, Bool, true, false, ◌&&◌, not, refl, sym, ap, ◌∙◌, subst, true≢false}
 use Rattle.std.proofs.lemmas.Bool.{and_parts, and_from}
-use Rattle.marked_regexp.specs.Marked.{skips, ends_here, is_marked, IsKept, is_kept, same_bool, IsCopy, cleared}
+use Rattle.marked_regexp.specs.Forms.{holds}
+use Rattle.marked_regexp.specs.Marked.{skips, ends_here, is_marked, IsKept, is_kept, same_bool, IsCopy, cleared, is_plain}
+use Rattle.marked_regexp.specs.Marked.{is_standing, Stands}
 use Rattle.marked_regexp.proofs.Marking.{ends_unmarked}
 use Rattle.marked_regexp.proofs.Running.{kept_cleared, marked_cleared}
 use Rattle.marked_regexp.specs.declared.marked.Node.{Node}
-use Rattle.marked_regexp.specs.declared.marked.Node.TheVariants.{Empty, Class, Concat', Alternation', Star', UpTo}
+use Rattle.marked_regexp.specs.declared.marked.Node.TheVariants.{Empty, Class, Assert, Concat', Alternation', Star', UpTo}
 
 pub same_true : (a b : Bool) → same_bool a b ≡ true → a ≡ b
 same_true true b h = sym h
@@ -19,6 +21,7 @@ same_from false b e = ap not (sym e)
 pub kept_from : (n : Node) → is_kept n ≡ true → IsKept n
 kept_from Empty h = tt
 kept_from (Class cl mark) h = tt
+kept_from (Assert kind held) h = tt
 kept_from (Concat' p l q r le re ends lm rm) h =
     let a = and_parts (same_bool le (skips l)) _ h in
     let b = and_parts (same_bool re (skips r)) _ a.1 in
@@ -46,6 +49,7 @@ kept_from (UpTo cl most left) h = h
 pub kept_to : (n : Node) → IsKept n → is_kept n ≡ true
 kept_to Empty k = refl
 kept_to (Class cl mark) k = refl
+kept_to (Assert kind held) k = refl
 kept_to (Concat' p l q r le re ends lm rm) k =
     and_from (same_bool le (skips l)) _ (same_from le (skips l) k.0)
     (and_from (same_bool re (skips r)) _ (same_from re (skips r) k.1)
@@ -105,3 +109,41 @@ kept_clear n m k e = ap is_kept e ∙ kept_to (cleared n) (kept_cleared n k)
 
 pub unmarked_clear : (n m : Node) → m ≡ cleared n → is_marked m ≡ false
 unmarked_clear n m e = ap is_marked e ∙ marked_cleared n
+
+-- ---- trees of trees that stand somewhere
+
+pub plain_both : (l r l' r' : Node) (p q : Bool) → l' ≡ l → r' ≡ r → p ≡ is_plain l → q ≡ is_plain r
+    → (p && q) ≡ (is_plain l' && is_plain r')
+plain_both l r l' r' p q el er e f = (λ i. (e ∙ ap is_plain (sym el)) i && (f ∙ ap is_plain (sym er)) i)
+
+pub stands_from : (b a : Option ℕ) (n : Node) → is_standing b a n ≡ true → Stands n b a
+stands_from b a Empty h = tt
+stands_from b a (Class cl mark) h = tt
+stands_from b a (Assert kind held) h = same_true held (holds kind b a) h
+stands_from b a (Concat' p l q r le re ends lm rm) h =
+    let both = and_parts (is_standing b a l) (is_standing b a r) h in
+    (stands_from b a l both.0, stands_from b a r both.1)
+stands_from b a (Alternation' p l q r lm rm) h =
+    let both = and_parts (is_standing b a l) (is_standing b a r) h in
+    (stands_from b a l both.0, stands_from b a r both.1)
+stands_from b a (Star' p d ends) h = stands_from b a d h
+stands_from b a (UpTo cl most left) h = tt
+
+pub stands_to : (b a : Option ℕ) (n : Node) → Stands n b a → is_standing b a n ≡ true
+stands_to b a Empty s = refl
+stands_to b a (Class cl mark) s = refl
+stands_to b a (Assert kind held) s = same_from held (holds kind b a) s
+stands_to b a (Concat' p l q r le re ends lm rm) s =
+    and_from (is_standing b a l) (is_standing b a r) (stands_to b a l s.0) (stands_to b a r s.1)
+stands_to b a (Alternation' p l q r lm rm) s =
+    and_from (is_standing b a l) (is_standing b a r) (stands_to b a l s.0) (stands_to b a r s.1)
+stands_to b a (Star' p d ends) s = stands_to b a d s
+stands_to b a (UpTo cl most left) s = refl
+
+pub standing_both : (l r l' r' : Node) (b a : Option ℕ) → l' ≡ l → r' ≡ r → is_standing b a l ≡ true → is_standing b a r ≡ true
+    → (is_standing b a l' && is_standing b a r') ≡ true
+standing_both l r l' r' b a el er s t =
+    and_from (is_standing b a l') (is_standing b a r') (ap (is_standing b a) el ∙ s) (ap (is_standing b a) er ∙ t)
+
+pub standing_copy : (n m : Node) (b a : Option ℕ) → IsCopy n m → is_standing b a n ≡ true → is_standing b a m ≡ true
+standing_copy n m b a c s = stands_to b a m (c.stood b a (stands_from b a n s))

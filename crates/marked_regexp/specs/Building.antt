@@ -1,13 +1,13 @@
 -- What is built; `TakesSequence` and `TakesChoice` are for private contracts.
-use Rattle.std.specs.Prelude.{◌≡◌, ℕ, false, List, [], ◌∷◌, ◌++◌, length}
+use Rattle.std.specs.Prelude.{◌≡◌, ℕ, false, List, [], ◌∷◌, ◌++◌, length, Option}
 use Rattle.marked_regexp.specs.declared.expression.Expression.{Expression}
-use Rattle.marked_regexp.specs.Forms.{Form, empty, class, concat, alternation, Matches}
+use Rattle.marked_regexp.specs.Forms.{Form, empty, class, concat, alternation, MatchesIn}
 use Rattle.marked_regexp.specs.Marked.{tree_form}
 
 -- The two match the same texts.
 pub record Same (f g : Form) : Type 0 where
-  pub to : (cs : List ℕ) → Matches f cs → Matches g cs
-  pub from : (cs : List ℕ) → Matches g cs → Matches f cs
+  pub to : (before : Option ℕ) (cs : List ℕ) (after : Option ℕ) → MatchesIn f before cs after → MatchesIn g before cs after
+  pub from : (before : Option ℕ) (cs : List ℕ) (after : Option ℕ) → MatchesIn g before cs after → MatchesIn f before cs after
 
 -- the form of the expression
 abbrev pub form_of : Expression → Form
@@ -15,8 +15,8 @@ form_of x = tree_form x.root
 
 -- The expression matches the texts that the form matches.
 pub record Means (n : Expression) (f : Form) : Type 0 where
-  pub sound : (cs : List ℕ) → Matches (form_of n) cs → Matches f cs
-  pub complete : (cs : List ℕ) → Matches f cs → Matches (form_of n) cs
+  pub sound : (before : Option ℕ) (cs : List ℕ) (after : Option ℕ) → MatchesIn (form_of n) before cs after → MatchesIn f before cs after
+  pub complete : (before : Option ℕ) (cs : List ℕ) (after : Option ℕ) → MatchesIn f before cs after → MatchesIn (form_of n) before cs after
 
 -- the expressions match what the forms match, one by one
 abbrev pub AllMean : List Expression → List Form → Type 0

@@ -5,7 +5,7 @@ ghost use Rattle.marked_regexp.specs.Automata.{AreStates, Extends, HasMarksAt, I
 ghost use Rattle.marked_regexp.specs.Automata.{Knows, LeadsTo, row_reads};
 ghost use Rattle.marked_regexp.specs.Building.{form_of};
 ghost use Rattle.marked_regexp.specs.Forms.{Matches};
-ghost use Rattle.marked_regexp.specs.Marked.{placed, reads};
+ghost use Rattle.marked_regexp.specs.Marked.{is_plain, placed, reads};
 
 use crate::expression::Expression;
 use crate::run::matches_whole;
@@ -17,7 +17,7 @@ use std::collections::HashMap;
 const STATES: usize = 2_500;
 
 /// How many numbers the lists of their marks have; the last one may go beyond.
-const NUMBERS: usize = 100_000;
+const NUMBERS: usize = 400_000;
 
 /// How many characters have steps that are kept: those of ASCII.
 const ASCII: usize = 128;
@@ -26,7 +26,8 @@ const ASCII: usize = 128;
 /// lead. A text over these characters, whose marks were all met before, takes one look a character.
 ///
 /// Up to 2,500 states of marks are kept, in up to about 2 MB. A text that leads to another one, or that has other
-/// characters, is matched as [`Expression::matches`] does, and so it is where memory is refused.
+/// characters, is matched as [`Expression::matches`] does. So it is where memory is refused, and where the expression has
+/// an assertion.
 ///
 /// ```
 /// let digit = Expression::one_of(Class::single(alloc, Item::Range('0', '9'))?);
@@ -81,14 +82,19 @@ impl Automaton {
         ensures matched { IsTrue result ↔ Matches (form_of self.old.expression) (chars text.now) }
         ensures same { form_of self.new.expression ≡ form_of self.old.expression }
     {
+        let plain = self.expression.plain;
+        if !plain {
+            return matches_whole(&mut self.expression.root, plain, text);
+        }
         match self.judge(text) {
             Some(matches) => matches,
-            None => matches_whole(&mut self.expression.root, text),
+            None => matches_whole(&mut self.expression.root, plain, text),
         }
     }
 
     /// Whether it matches the whole text, as far as the steps lead.
     fn judge(&mut self, text: &str) -> Option<bool>
+        requires plain { is_plain self.old.expression.root ≡ true }
         ensures matched { IfSome result (λ b. b
             ≡ reads true self.old.expression.root (chars text.now)) }
         ensures same { self.new.expression.root ≡ self.old.expression.root }
@@ -106,7 +112,8 @@ impl Automaton {
     /// Whether each text is matched that goes on from the row, or none is, where that is known.
     #[inline(always)]
     fn verdict(&self, row: usize) -> Option<bool>
-        requires { row ≤ length self.now.states.items }
+        requires row { row ≤ length self.now.states.items }
+        requires plain { is_plain self.now.expression.root ≡ true }
         ensures { IfSome result (λ b. (cs : List ℕ) →
             row_reads self.now.expression.root self.now.states.items row cs ≡ b) }
     {
@@ -263,10 +270,10 @@ impl Automaton {
 }
 
 /// A number that is the same for the same marks.
-fn sum_of(marks: &[usize]) -> usize {
+fn sum_of(marks: &[u16]) -> usize {
     let mut sum: usize = 0;
     for mark in marks {
-        sum = sum.wrapping_mul(1_000_003).wrapping_add(*mark);
+        sum = sum.wrapping_mul(1_000_003).wrapping_add(*mark as usize);
     }
     sum
 }

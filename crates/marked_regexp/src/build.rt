@@ -1,10 +1,11 @@
 //! Builds regular expressions from smaller ones.
 ghost use Rattle.std.specs.Prelude.{◌≡◌, ◌≤◌, ◌<◌, List, IfOk, vec_len};
-ghost use Rattle.marked_regexp.specs.Forms.{Form, empty, class, concat, alternation, repetition};
+ghost use Rattle.marked_regexp.specs.Forms.{Form, empty, class, assertion, concat, alternation, repetition};
 ghost use Rattle.marked_regexp.specs.Forms.{AtMost};
 ghost use Rattle.marked_regexp.specs.Building.{Same, Means, AllMean, form_of, sequence, choice};
 ghost use Rattle.marked_regexp.specs.Building.{TakesSequence, TakesChoice};
 
+use crate::assertion::Assertion;
 use crate::class::Class;
 use crate::expression::Expression;
 use crate::marked::Node;
@@ -21,7 +22,10 @@ impl Expression {
     pub fn empty() -> Expression
         ensures { Means result empty }
     {
-        Expression { root: Node::Empty }
+        Expression {
+            root: Node::Empty,
+            plain: true,
+        }
     }
 
     /// One character of a class.
@@ -38,6 +42,28 @@ impl Expression {
                 class: members,
                 mark: false,
             },
+            plain: true,
+        }
+    }
+
+    /// An assertion about the place in the text, which takes no character.
+    ///
+    /// ```
+    /// let end = Expression::assertion(Assertion::End);
+    /// let digit = Expression::one_of(Class::single(alloc, Item::Range('0', '9'))?);
+    /// let mut last = Expression::concat(alloc, digit, end)?;
+    /// assert!(rt; last.searches("in 7"));
+    /// assert!(rt; !last.searches("in 7 days"));
+    /// ```
+    pub fn assertion(kind: Assertion) -> Expression
+        ensures { Means result (assertion kind) }
+    {
+        Expression {
+            root: Node::Assert {
+                assertion: kind,
+                holds: kind.holds(None, None),
+            },
+            plain: false,
         }
     }
 
@@ -47,6 +73,7 @@ impl Expression {
     {
         Ok(Expression {
             root: self.root.copy(alloc)?,
+            plain: self.plain,
         })
     }
 
@@ -74,6 +101,7 @@ impl Expression {
         }
         let left_empty = left.root.skips();
         let right_empty = right.root.skips();
+        let plain = left.plain & right.plain;
         Ok(Expression {
             root: Node::Concat {
                 left: Box::new(alloc, left.root)?,
@@ -84,6 +112,7 @@ impl Expression {
                 left_marked: false,
                 right_marked: false,
             },
+            plain,
         })
     }
 
@@ -96,6 +125,7 @@ impl Expression {
         ensures { IfOk result (λ n. (f g : Form) → Means left f → Means right g
             → Means n (alternation f g)) }
     {
+        let plain = left.plain & right.plain;
         Ok(Expression {
             root: Node::Alternation {
                 left: Box::new(alloc, left.root)?,
@@ -103,6 +133,7 @@ impl Expression {
                 left_marked: false,
                 right_marked: false,
             },
+            plain,
         })
     }
 
@@ -121,6 +152,7 @@ impl Expression {
                 body: Box::new(alloc, body.root)?,
                 body_ends: false,
             },
+            plain: body.plain,
         })
     }
 
@@ -135,6 +167,7 @@ impl Expression {
                 most,
                 left: None,
             },
+            plain: true,
         }
     }
 

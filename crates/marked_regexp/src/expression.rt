@@ -1,8 +1,8 @@
 //! A regular expression, and the texts that it matches.
-ghost use Rattle.std.specs.Prelude.{◌≡◌, ◌↔◌, IsTrue, true, false};
+ghost use Rattle.std.specs.Prelude.{◌≡◌, ◌↔◌, IsTrue, true, false, None};
 ghost use Rattle.std.specs.Str.{chars};
 ghost use Rattle.marked_regexp.specs.Forms.{Matches, Searches};
-ghost use Rattle.marked_regexp.specs.Marked.{is_kept, is_marked};
+ghost use Rattle.marked_regexp.specs.Marked.{is_kept, is_marked, is_plain, is_standing};
 
 use crate::marked::Node;
 use crate::run::{matches_part, matches_whole};
@@ -19,8 +19,12 @@ use crate::run::{matches_part, matches_whole};
 #[derive(Drop)]
 pub struct Expression {
     pub(crate) root: Node,
+    /// Whether it has no assertion.
+    pub(crate) plain: bool,
     ghost kept: { is_kept root ≡ true },
     ghost unmarked: { is_marked root ≡ false },
+    ghost has: { plain ≡ is_plain root },
+    ghost stood: { is_standing None None root ≡ true },
 }
 
 impl Expression {
@@ -37,7 +41,7 @@ impl Expression {
         ensures matched { IsTrue result ↔ Matches (form_of self.old) (chars text.now) }
         ensures same { form_of self.new ≡ form_of self.old }
     {
-        matches_whole(&mut self.root, text)
+        matches_whole(&mut self.root, self.plain, text)
     }
 
     /// Whether it matches a part of the text: some consecutive characters, or none. Time and memory
@@ -51,8 +55,6 @@ impl Expression {
         ensures matched { IsTrue result ↔ Searches (form_of self.old) (chars text.now) }
         ensures same { form_of self.new ≡ form_of self.old }
     {
-        let found = matches_part(&mut self.root, text);
-        self.root.clear();
-        found
+        matches_part(&mut self.root, self.plain, text)
     }
 }

@@ -8,6 +8,7 @@
 //! ```
 #![tactic(auto)]
 
+mod assertion;
 mod automaton;
 mod build;
 mod class;
@@ -16,6 +17,7 @@ mod marked;
 mod run;
 mod state;
 
+pub use assertion::Assertion;
 pub use automaton::Automaton;
 pub use class::{Class, Item};
 pub use expression::Expression;

@@ -2,8 +2,9 @@
 ghost use Rattle.std.specs.Prelude.{◌≡◌, ◌++◌, false, IfOk, OnOk};
 ghost use Rattle.marked_regexp.specs.Marked.{IsKept, shifted, cleared, skips, is_marked, ends_here};
 ghost use Rattle.marked_regexp.specs.Marked.{is_empty, is_each, is_any, is_settled, fewer, IsCopy};
-ghost use Rattle.marked_regexp.specs.Marked.{marks_of, placed, behind, first, rest};
+ghost use Rattle.marked_regexp.specs.Marked.{marks_of, placed, behind, first, rest, standing};
 
+use crate::assertion::Assertion;
 use crate::class::Class;
 use std::alloc::{AllocError, Global};
 
@@ -15,6 +16,11 @@ pub(crate) enum Node {
     Class {
         class: Class,
         mark: bool,
+    },
+    Assert {
+        assertion: Assertion,
+        // whether it holds at this place of text
+        holds: bool,
     },
     Concat {
         left: Box<Node>,
@@ -66,6 +72,10 @@ impl Node {
                 class: class.copy(alloc)?,
                 mark: *mark,
             }),
+            Node::Assert { assertion, holds } => Ok(Node::Assert {
+                assertion: *assertion,
+                holds: *holds,
+            }),
             Node::Concat {
                 left,
                 right,
@@ -113,6 +123,7 @@ impl Node {
         match self {
             Node::Empty => true,
             Node::Class { .. } => false,
+            Node::Assert { holds, .. } => *holds,
             Node::Concat { left, right, .. } => left.skips() && right.skips(),
             Node::Alternation { left, right, .. } => left.skips() || right.skips(),
             Node::Star { .. } | Node::UpTo { .. } => true,
@@ -124,7 +135,7 @@ impl Node {
         ensures { result ≡ is_marked self.now }
     {
         match self {
-            Node::Empty => false,
+            Node::Empty | Node::Assert { .. } => false,
             Node::Class { mark, .. } => *mark,
             Node::Concat {
                 left_marked,
@@ -166,7 +177,7 @@ impl Node {
         ensures { result ≡ is_settled self.now }
     {
         match self {
-            Node::Empty | Node::Class { .. } | Node::UpTo { .. } => false,
+            Node::Empty | Node::Class { .. } | Node::Assert { .. } | Node::UpTo { .. } => false,
             Node::Concat {
                 right,
                 left_ends,
@@ -178,11 +189,15 @@ impl Node {
     }
 
     /// Appends the marks to a list: for each part whether it has any, and if so those of its parts.
-    pub(crate) fn list_marks(&self, list: &mut Vec<usize>) -> Result<(), AllocError>
+    ///
+    /// # Errors
+    ///
+    /// Memory is refused, or a count is 65,536 or more.
+    pub(crate) fn list_marks(&self, list: &mut Vec<u16>) -> Result<(), AllocError>
         ensures { OnOk result (list.new.items ≡ list.old.items ++ marks_of self.now) }
     {
         match self {
-            Node::Empty => {}
+            Node::Empty | Node::Assert { .. } => {}
             Node::Class { mark, .. } => list.push(if *mark { 1 } else { 0 })?,
             Node::Concat {
                 left,
@@ -212,7 +227,7 @@ impl Node {
                 ..
             } => {
                 list.push(1)?;
-                list.push(*count)?;
+                list.push(narrow(*count)?)?;
             }
         }
         Ok(())
@@ -220,7 +235,7 @@ impl Node {
 
     /// Sets the marks of a list in a tree that has none. Returns the rest of the list, whether the
     /// text can end here, and whether there is a mark.
-    pub(crate) fn set_marks<'a>(&mut self, list: &'a [usize]) -> (&'a [usize], bool, bool)
+    pub(crate) fn set_marks<'a>(&mut self, list: &'a [u16]) -> (&'a [u16], bool, bool)
         requires kept { IsKept self.old }
         requires unmarked { is_marked self.old ≡ false }
         ensures marks { self.new ≡ placed self.old list.now }
@@ -229,7 +244,7 @@ impl Node {
         ensures marked { result.2 ≡ is_marked self.new }
     {
         match self {
-            Node::Empty => (list, false, false),
+            Node::Empty | Node::Assert { .. } => (list, false, false),
             Node::Class { mark, .. } => {
                 let (first, rest) = split(list);
                 *mark = first > 0;
@@ -282,6 +297,7 @@ impl Node {
                     return (rest, false, false);
                 }
                 let (count, rest) = split(rest);
+                let count = count as usize;
                 *left = (count <= *most).then_some(count);
                 (rest, left.is_some(), left.is_some())
             }
@@ -308,7 +324,7 @@ impl Node {
         ensures { self.new ≡ cleared self.old }
     {
         match self {
-            Node::Empty => {}
+            Node::Empty | Node::Assert { .. } => {}
             Node::Class { mark, .. } => *mark = false,
             Node::Concat {
                 left,
@@ -343,6 +359,49 @@ impl Node {
         }
     }
 
+    /// Places the assertions, and what the tree keeps, between the two characters. Returns whether
+    /// the empty text is matched here, and whether the text can end here.
+    pub(crate) fn stand(&mut self, before: Option<char>, after: Option<char>) -> (bool, bool)
+        ensures stood { self.new ≡ standing before after self.old }
+        ensures skips { result.0 ≡ skips self.new }
+        ensures ends { result.1 ≡ ends_here self.new }
+    {
+        match self {
+            Node::Empty => (true, false),
+            Node::Class { mark, .. } => (false, *mark),
+            Node::Assert { assertion, holds } => {
+                *holds = assertion.holds(before, after);
+                (*holds, false)
+            }
+            Node::Concat {
+                left,
+                right,
+                left_empty,
+                right_empty,
+                left_ends,
+                ..
+            } => {
+                let (skips, ends) = left.stand(before, after);
+                *left_empty = skips;
+                *left_ends = ends;
+                let (ends_empty, found) = right.stand(before, after);
+                *right_empty = ends_empty;
+                (skips & ends_empty, found | (ends & ends_empty))
+            }
+            Node::Alternation { left, right, .. } => {
+                let (left_empty, left_ends) = left.stand(before, after);
+                let (right_empty, right_ends) = right.stand(before, after);
+                (left_empty | right_empty, left_ends | right_ends)
+            }
+            Node::Star { body, body_ends } => {
+                let (_skips, ends) = body.stand(before, after);
+                *body_ends = ends;
+                (true, ends)
+            }
+            Node::UpTo { left, .. } => (true, left.is_some()),
+        }
+    }
+
     /// Moves the marks over a character, as `shift` does. Where the text does not begin here and
     /// there is no mark, nothing is done.
     #[cycle(shift)]
@@ -370,7 +429,7 @@ impl Node {
         ensures marked { result.1 ≡ is_marked self.new }
     {
         match self {
-            Node::Empty => (false, false),
+            Node::Empty | Node::Assert { .. } => (false, false),
             Node::Class { class, mark } => {
                 *mark = start && class.contains(c);
                 (*mark, *mark)
@@ -417,8 +476,18 @@ impl Node {
     }
 }
 
+/// The count as a number of a list, if it fits.
+fn narrow(count: usize) -> Result<u16, AllocError>
+    ensures { IfOk result (λ n. n ≡ count) }
+{
+    match u16::try_from(count) {
+        Ok(count) => Ok(count),
+        Err(_) => Err(AllocError),
+    }
+}
+
 /// The first number, or 0 if there is none, and the numbers behind it.
-fn split(list: &[usize]) -> (usize, &[usize])
+fn split(list: &[u16]) -> (u16, &[u16])
     ensures first { result.0 ≡ first list.now }
     ensures rest { result.1.now ≡ rest list.now }
 {

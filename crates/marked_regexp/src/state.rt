@@ -10,7 +10,7 @@ use std::alloc::Global;
 #[derive(Drop)]
 pub(crate) struct State {
     /// The marks of a tree, as a list.
-    pub(crate) marks: Vec<usize>,
+    pub(crate) marks: Vec<u16>,
     /// Whether a text can end here.
     pub(crate) ends: bool,
     /// Whether each text is matched that goes on from here, or none is, where that is known.
@@ -22,7 +22,7 @@ impl State {
     pub(crate) fn after(
         alloc: Global,
         tree: &mut Node,
-        marks: &[usize],
+        marks: &[u16],
         start: bool,
         c: char,
     ) -> Option<State>

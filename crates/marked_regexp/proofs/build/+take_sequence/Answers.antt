@@ -1,6 +1,11 @@
-use Rattle.std.proofs.Common.{arith}
-use Rattle.marked_regexp.proofs.Building.{ok_as, takes_joined}
+use Rattle.std.proofs.Common.{◌++◌, ◌∙◌, ap, arith}
+use Rattle.std.specs.Option.{option_to_list}
+use Rattle.marked_regexp.proofs.Building.{ok_as, takes_joined, takes_one}
 use Rattle.marked_regexp.proofs.build.+take_sequence.Goals as goal
+
+pub returns-then-count-eq1 : goal.returns-then-count-eq1
+returns-then-count-eq1 t c = takes_one c.args.parts.now.items c.pop.new.self.items c.unwrap.result c.args.count c.if-count-eq1.true
+    (c.pop.ensures.items ∙ ap (λ o. c.pop.new.self.items ++ option_to_list o) c.unwrap.ensures)
 
 pub returns : goal.returns
 returns t c =

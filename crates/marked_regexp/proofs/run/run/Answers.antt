@@ -1,10 +1,10 @@
-use Rattle.std.proofs.Common.{◌∙◌, ap, sym, subst, true}
+use Rattle.std.proofs.Common.{◌∙◌, ap, sym, subst}
 use Rattle.std.proofs.lemmas.Str.{chars_past_char, IsUtf8-past_char}
 use Rattle.std.proofs.StrCases.{chars_of_empty}
 use Rattle.std.specs.Str.{chars, IsUtf8}
 use Rattle.std.specs.Str.Iter.{chars_rest}
-use Rattle.marked_regexp.specs.Marked.{cleared, tree_form, skips}
-use Rattle.marked_regexp.proofs.Running.{Whole, whole_init, whole_step, whole_end, whole_settled, whole_unmarked, cleared_unmarked}
+use Rattle.marked_regexp.specs.Marked.{cleared}
+use Rattle.marked_regexp.proofs.Running.{whole_init, whole_step, whole_end, whole_settled, whole_unmarked, cleared_unmarked}
 use Rattle.marked_regexp.proofs.Placing.{cleared_shifted}
 use Rattle.marked_regexp.proofs.run.run.Goals as goal
 
@@ -13,12 +13,11 @@ loop-c-init c =
     let rest = ap chars_rest c.into_iter-c-iterator.ensures.into_iter_gives ∙ c.chars-c-items.ensures.rest in
     let text = chars c.args.text.now in
     let front = chars (chars_rest c.into_iter-c-iterator.result) in
-    let still = cleared_unmarked c.args.root.now c.requires.kept c.requires.unmarked in
-    let start = whole_init c.args.root.now c.skips-ends.result front text c.requires.kept (c.skips-ends.ensures ∙ ap skips still)
-    (ap chars rest) in record {
+    let root = c.args.root.now in record {
       utf8 = subst IsUtf8 (sym rest) c.utf8.text;
-      whole = subst (λ n. Whole (tree_form c.args.root.now) n true c.skips-ends.result front text) (sym still) start;
-      same = sym still;
+      whole = whole_init root c.skips-ends.result front text c.requires.kept c.requires.unmarked c.requires.plain c.skips-ends.ensures
+          (ap chars rest);
+      same = sym (cleared_unmarked root c.requires.kept c.requires.unmarked);
     }
 
 pub loop-c-preserved : goal.loop-c-preserved

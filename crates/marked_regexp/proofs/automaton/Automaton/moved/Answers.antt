@@ -1,5 +1,5 @@
-use Rattle.std.proofs.Common.{[], ◌∷◌, ◌∙◌, ap, sym, true, false}
-use Rattle.marked_regexp.specs.Marked.{is_kept, is_marked, placed, reads}
+use Rattle.std.proofs.Common.{[], ◌∷◌, ◌∙◌, None, ap, sym, true, false}
+use Rattle.marked_regexp.specs.Marked.{is_kept, is_marked, is_plain, is_standing, placed, reads}
 use Rattle.marked_regexp.proofs.Automata.{at_state, first_reads, knows_root, moved_reads, right_root, state_had}
 use Rattle.marked_regexp.proofs.Kept.{kept_from}
 use Rattle.marked_regexp.proofs.automaton.Automaton.moved.Goals as goal
@@ -14,7 +14,13 @@ pub invariant_of-self : goal.invariant_of-self
 invariant_of-self c =
     let x = c.args.self.now in
     let same = c.after.ensures.same in (
-      (ap is_kept same ∙ x.expression.kept, (ap is_marked same ∙ x.expression.unmarked, tt)),
+      (
+        ap is_kept same ∙ x.expression.kept,
+        (
+          ap is_marked same ∙ x.expression.unmarked,
+          (x.expression.has ∙ ap is_plain (sym same), (ap (is_standing None None) same ∙ x.expression.stood, tt)),
+        ),
+      ),
       (
         x.few,
         (

@@ -8,5 +8,6 @@ returns c =
     let l = c.in_ok-known.ensures.lookup in (
       s,
       state_had c.args.self.now.states.items c.deref.result.now c.in_ok-place.place s c.deref.ensures.value l.3.0 l.1,
-      sym c.as_slice.ensures.value ∙ (same_list c.as_slice.result.now c.as_slice-2.result.now c.ne.result c.ne.ensures c.if-ne.false ∙ c.as_slice-2.ensures.value),
+      sym c.as_slice.ensures.value ∙ (same_list c.as_slice.result.now c.as_slice-2.result.now c.ne.result c.ne.ensures c.if-ne.false
+          ∙ c.as_slice-2.ensures.value),
     )

@@ -9,4 +9,5 @@ returns c =
     let place = c.in_ok-checked_sub.field-0 in
     let l = c.in_ok-get.ensures.lookup in
     verdict_had x.expression.root x.states.items c.args.row place s c.in_ok-checked_sub.ensures.0 c.in_ok-checked_sub.ensures.1
-    (state_had x.states.items c.deref.result.now place s c.deref.ensures.value l.3.0 l.1) x.expression.kept x.right s.verdict refl
+    (state_had x.states.items c.deref.result.now place s c.deref.ensures.value l.3.0 l.1) x.expression.kept x.right c.requires.plain
+    s.verdict refl

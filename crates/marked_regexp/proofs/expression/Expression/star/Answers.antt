@@ -1,15 +1,18 @@
-use Rattle.std.proofs.Common.{ap, ◌∙◌, None}
+use Rattle.std.proofs.Common.{ap, ◌∙◌, None, sym}
 use Rattle.marked_regexp.specs.Forms.{repetition}
-use Rattle.marked_regexp.specs.Marked.{tree_form, is_marked}
+use Rattle.marked_regexp.specs.Marked.{tree_form, is_marked, is_plain, is_standing}
 use Rattle.marked_regexp.proofs.Building.{means_star}
 use Rattle.marked_regexp.proofs.Kept.{kept_star}
 use Rattle.marked_regexp.proofs.expression.Expression.star.Goals as goal
 
 pub invariant_of-result : goal.invariant_of-result
 invariant_of-result c =
-    let b = c.args.body in record {
-      kept = kept_star b.root _ c.in_ok-new.ensures.ok b.kept b.unmarked;
-      unmarked = ap is_marked c.in_ok-new.ensures.ok ∙ b.unmarked;
+    let d = c.args.body in
+    let e = c.in_ok-new.ensures.ok in record {
+      kept = kept_star d.root _ e d.kept d.unmarked;
+      unmarked = ap is_marked e ∙ d.unmarked;
+      has = d.has ∙ ap is_plain (sym e);
+      stood = ap (is_standing None None) e ∙ d.stood;
     }
 
 pub returns : goal.returns

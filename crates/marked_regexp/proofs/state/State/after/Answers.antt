@@ -25,7 +25,8 @@ pub returns-clause-right : goal.returns-clause-right
 returns-clause-right c =
     after_right c.args.tree.now c.shift-ends.new.self c.args.marks.now c.args.start c.args.c c.requires.kept c.requires.unmarked
     c.list_marks-listed.new.list.items c.shift-ends.result.0 c.verdict_of-verdict.result
-    (c.shift-ends.ensures.marks ∙ ap (shifted c.args.start c.args.c) c.set_marks-rest.ensures.marks) (c.in-Ok.ensures ∙ ap (λ ms. ms ++ marks_of c.shift-ends.new.self) c.new-marks.ensures.items) c.shift-ends.ensures.ends
+    (c.shift-ends.ensures.marks ∙ ap (shifted c.args.start c.args.c) c.set_marks-rest.ensures.marks)
+    (c.in-Ok.ensures ∙ ap (λ ms. ms ++ marks_of c.shift-ends.new.self) c.new-marks.ensures.items) c.shift-ends.ensures.ends
     c.verdict_of-verdict.ensures
 
 pub returns-clause-reads : goal.returns-clause-reads
