@@ -1,5 +1,5 @@
 -- Lemmas for crates that call this one.
-use Rattle.std.proofs.Common.{◌≡◌, ◌↔◌, ℕ, Bool, true, false, IsTrue, List, refl, sym, ◌∙◌, subst, true≢false}
+use Rattle.std.proofs.Common.{◌≡◌, ◌↔◌, ℕ, Bool, true, false, IsTrue, List, None, refl, sym, ◌∙◌, subst, true≢false}
 use Rattle.i_regexp.specs.declared.error.IRegexpError.{IRegexpError}
 use Rattle.i_regexp.specs.declared.error.IRegexpErrorKind.TheVariants.{Invalid}
 use Rattle.i_regexp.specs.declared.pattern.SchemaPattern.{SchemaPattern}
@@ -7,7 +7,7 @@ use Rattle.i_regexp.specs.declared.pattern_error.SchemaPatternError.{SchemaPatte
 use Rattle.i_regexp.specs.declared.pattern_error.SchemaPatternErrorKind.TheVariants as reason
 use Rattle.i_regexp.specs.declared.regexp.IRegexp.{IRegexp}
 use Rattle.i_regexp.specs.Deciding.{matches, searches, pattern_matches, pattern_searches}
-use Rattle.marked_regexp.specs.Forms.{Form, Matches, Searches}
+use Rattle.marked_regexp.specs.Forms.{Form, MatchesIn, Matches, Searches, next_of, last_of}
 use Rattle.i_regexp.specs.Grammar.{Regexp, IsText, regexp_form}
 use Rattle.i_regexp.specs.PatternDeciding.{is_pattern, is_found}
 use Rattle.i_regexp.specs.PatternCases.{pattern_form}
@@ -42,8 +42,8 @@ reads_matches ps cs x r =
     let d = matches_decides (form_in x) in
     same_answer (pattern_matches ps cs) (matches (form_in x) cs)
     (λ t. let k = pattern_matches_sound ps cs t in
-    (r.same cs).1 (subst (λ q. Matches (regexp_form q) cs) (r.only k.regexp k.text) k.matched))
-    (λ m. pattern_matches_complete ps cs (record { regexp = r.regexp; text = r.text; matched = (r.same cs).0 m }))
+    r.same.from None cs None (subst (λ q. Matches (regexp_form q) cs) (r.only k.regexp k.text) k.matched))
+    (λ m. pattern_matches_complete ps cs (record { regexp = r.regexp; text = r.text; matched = r.same.to None cs None m }))
     (d.sound cs) (d.complete cs)
 
 pub reads_searches : (ps cs : List ℕ) (x : IRegexp) → IsReading ps x → pattern_searches ps cs ≡ searches (form_in x) cs
@@ -55,13 +55,19 @@ reads_searches ps cs x r =
       part = m.part;
       after = m.after;
       split = m.split;
-      matched = (r.same m.part).1 (subst (λ q. Matches (regexp_form q) m.part) (r.only k.regexp k.text) m.matched);
+      matched = r.same.from (last_of None m.before) m.part (next_of m.after None)
+          (subst (λ q. MatchesIn (regexp_form q) (last_of None m.before) m.part (next_of m.after None)) (r.only k.regexp k.text) m.matched);
     })
     (λ s. pattern_searches_complete ps cs (record {
       regexp = r.regexp;
       text = r.text;
-      matched =
-          record { before = s.before; part = s.part; after = s.after; split = s.split; matched = (r.same s.part).0 s.matched };
+      matched = record {
+        before = s.before;
+        part = s.part;
+        after = s.after;
+        split = s.split;
+        matched = r.same.to (last_of None s.before) s.part (next_of s.after None) s.matched;
+      };
     }))
     (d.sound cs) (d.complete cs)
 

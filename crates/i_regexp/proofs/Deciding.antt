@@ -5,10 +5,11 @@ use Rattle.std.proofs.lemmas.Bool.{and_parts, and_from, or_cases, or_left, or_ri
 use Rattle.std.proofs.lemmas.Bool.Decides.{nat_tests}
 use Rattle.std.specs.Prelude.{option_and_then}
 use Rattle.marked_regexp.specs.declared.class.Item.{Item}
-use Rattle.i_regexp.specs.Deciding.{splits, is_empty, is_one_in, are_parts, is_at_most, is_count, some_below, matches, searches}
+use Rattle.i_regexp.specs.Deciding.{splits, is_empty, is_one_in, PartTest, both_in, are_parts, is_at_most, is_count, some_below}
+use Rattle.i_regexp.specs.Deciding.{matches_in, matches, searches}
 use Rattle.i_regexp.specs.Deciding.{with_token, tokens_in, whole_of, regexp_in, is_regexp, pattern_matches, pattern_searches}
-use Rattle.marked_regexp.specs.Forms.{Form, empty, class, concat, alternation, repetition, both, no, is_in_class, Parts, AtMost}
-use Rattle.marked_regexp.specs.Forms.{Matches, Searches}
+use Rattle.marked_regexp.specs.Forms.{Form, empty, class, assertion, concat, alternation, repetition, both, no, is_in_class, holds, Parts}
+use Rattle.marked_regexp.specs.Forms.{AtMost, next_of, last_of, MatchesIn, Matches, Searches}
 use Rattle.i_regexp.specs.Fronts.{token_front}
 use Rattle.i_regexp.specs.Grammar.{Token, Spelled, Regexp, regexp_form, IsText}
 use Rattle.i_regexp.specs.Levels.{State, fresh, run}
@@ -40,19 +41,37 @@ pub record Decides (f : List ℕ → Bool) (P : List ℕ → Type 0) : Type 0 wh
   pub sound : (cs : List ℕ) → f cs ≡ true → P cs
   pub complete : (cs : List ℕ) → P cs → f cs ≡ true
 
-parts_sound : {f : List ℕ → Bool} {P : List ℕ → Type 0} → Decides f P → (n : ℕ) (cs : List ℕ) → are_parts f n cs ≡ true → Parts P n cs
-parts_sound d zero cs h = empty_sound cs h
-parts_sound {f = f} d (suc n) cs h =
-    let s = splits_sound (λ xs ys. f xs && are_parts f n ys) cs h in
-    let b = and_parts (f s.0) (are_parts f n s.1) s.3 in
-    (s.0, s.1, s.2, d.sound s.0 b.0, parts_sound d n s.1 b.1)
+-- so it is of a part between its neighbours
+abbrev PartFact : Type 1
+PartFact = Option ℕ → List ℕ → Option ℕ → Type 0
 
-parts_complete : {f : List ℕ → Bool} {P : List ℕ → Type 0} → Decides f P → (n : ℕ) (cs : List ℕ) → Parts P n cs → are_parts f n cs ≡ true
-parts_complete d zero cs h = ap is_empty h
-parts_complete {f = f} d (suc n) cs h =
-    ap (splits (λ xs ys. f xs && are_parts f n ys)) h.2
-    ∙ splits_complete (λ xs ys. f xs && are_parts f n ys) h.0 h.1
-    (and_from (f h.0) (are_parts f n h.1) (d.complete h.0 h.3) (parts_complete d n h.1 h.4))
+record DecidesIn (f : PartTest) (P : PartFact) : Type 0 where
+  sound : (before : Option ℕ) (cs : List ℕ) (after : Option ℕ) → f before cs after ≡ true → P before cs after
+  complete : (before : Option ℕ) (cs : List ℕ) (after : Option ℕ) → P before cs after → f before cs after ≡ true
+
+-- two parts, one after the other
+abbrev BothIn : PartFact → PartFact → PartFact
+BothIn P Q before cs after =
+    (xs : List ℕ) × (ys : List ℕ) × (cs ≡ xs ++ ys) × P before xs (next_of ys after) × Q (last_of before xs) ys after
+
+both_decides : {f g : PartTest} {P Q : PartFact} → DecidesIn f P → DecidesIn g Q → DecidesIn (both_in f g) (BothIn P Q)
+both_decides {f = f} {g = g} a b = record {
+  sound = λ before cs after h.
+      let s = splits_sound (λ xs ys. f before xs (next_of ys after) && g (last_of before xs) ys after) cs h in
+      let p = and_parts (f before s.0 (next_of s.1 after)) (g (last_of before s.0) s.1 after) s.3 in
+      (s.0, s.1, s.2, a.sound before s.0 (next_of s.1 after) p.0, b.sound (last_of before s.0) s.1 after p.1);
+  complete = λ before cs after h.
+      ap (splits (λ xs ys. f before xs (next_of ys after) && g (last_of before xs) ys after)) h.2
+      ∙ splits_complete (λ xs ys. f before xs (next_of ys after) && g (last_of before xs) ys after) h.0 h.1
+      (and_from (f before h.0 (next_of h.1 after)) (g (last_of before h.0) h.1 after) (a.complete before h.0 (next_of h.1 after) h.3)
+      (b.complete (last_of before h.0) h.1 after h.4));
+}
+
+parts_decide : {f : PartTest} {P : PartFact} → DecidesIn f P → (n : ℕ) → DecidesIn (are_parts f n) (Parts P n)
+parts_decide d zero = record { sound = λ before cs after h. empty_sound cs h; complete = λ before cs after h. ap is_empty h }
+parts_decide d (suc n) =
+    let b = both_decides d (parts_decide d n) in
+    record { sound = b.sound; complete = b.complete }
 
 -- ---- fewer parts, where there are more than characters
 
@@ -60,41 +79,43 @@ no_more : (cs : List ℕ) → length cs ≤ 0 → cs ≡ []
 no_more [] l = refl
 no_more (c ∷ cs) l = absurd (omega arith)
 
-one_fewer : (P : List ℕ → Type 0) (n : ℕ) (cs : List ℕ) → Parts P (suc n) cs → length cs ≤ n → Parts P n cs
-one_fewer P zero cs h l = no_more cs l
-one_fewer P (suc n) cs h l = by h.0 h.2 h.3 (one_fewer P n h.1 h.4)
+one_fewer : (P : PartFact) (n : ℕ) (before : Option ℕ) (cs : List ℕ) (after : Option ℕ) → Parts P (suc n) before cs after
+    → length cs ≤ n → Parts P n before cs after
+one_fewer P zero before cs after h l = no_more cs l
+one_fewer P (suc n) before cs after h l = by h.0 h.2 h.3 h.4 (λ b k g. one_fewer P n b h.1 after k g)
   where
-    by : (xs : List ℕ) → cs ≡ xs ++ h.1 → P xs → (length h.1 ≤ n → Parts P n h.1) → Parts P (suc n) cs
-    by [] e p rec = subst (Parts P (suc n)) (sym e) h.4
-    by (x ∷ xs) e p rec =
+    by : (xs : List ℕ) → cs ≡ xs ++ h.1 → P before xs (next_of h.1 after) → Parts P (suc n) (last_of before xs) h.1 after
+        → ((b : Option ℕ) → Parts P (suc n) b h.1 after → length h.1 ≤ n → Parts P n b h.1 after) → Parts P (suc n) before cs after
+    by [] e p k rec = subst (λ us. Parts P (suc n) before us after) (sym e) k
+    by (x ∷ xs) e p k rec =
         let len : length cs ≡ length (x ∷ (xs ++ h.1)) = ap length e in
         let sum = length-append xs h.1 in
-        (x ∷ xs, h.1, e, p, rec (omega arith))
+        (x ∷ xs, h.1, e, p, rec (last_of (Some x) xs) k (omega arith))
 
 at_most_less : (n : ℕ) (most : Option ℕ) → AtMost (suc n) most → AtMost n most
 at_most_less n None h = tt
 at_most_less n (Some m) h = omega arith
 
-record Settled (P : List ℕ → Type 0) (least : ℕ) (most : Option ℕ) (cs : List ℕ) : Type 0 where
+record Settled (P : PartFact) (least : ℕ) (most : Option ℕ) (before : Option ℕ) (cs : List ℕ) (after : Option ℕ) : Type 0 where
   count : ℕ
   small : count ≤ least + length cs
   enough : least ≤ count
   few : AtMost count most
-  parts : Parts P count cs
+  parts : Parts P count before cs after
 
-settled : (P : List ℕ → Type 0) (least : ℕ) (most : Option ℕ) (cs : List ℕ) (n : ℕ) → least ≤ n → AtMost n most → Parts P n cs
-    → Settled P least most cs
-settled P least most cs zero l m h = record { count = 0; small = omega arith; enough = l; few = m; parts = h }
-settled P least most cs (suc n) l m h =
-    by (nat_le (suc n) (least + length cs)) refl (λ k g. settled P least most cs n k (at_most_less n most m) g)
+settled : (P : PartFact) (least : ℕ) (most : Option ℕ) (before : Option ℕ) (cs : List ℕ) (after : Option ℕ) (n : ℕ) → least ≤ n
+    → AtMost n most → Parts P n before cs after → Settled P least most before cs after
+settled P least most before cs after zero l m h = record { count = 0; small = omega arith; enough = l; few = m; parts = h }
+settled P least most before cs after (suc n) l m h =
+    by (nat_le (suc n) (least + length cs)) refl (λ k g. settled P least most before cs after n k (at_most_less n most m) g)
   where
-    by : (b : Bool) → nat_le (suc n) (least + length cs) ≡ b → (least ≤ n → Parts P n cs → Settled P least most cs)
-        → Settled P least most cs
+    by : (b : Bool) → nat_le (suc n) (least + length cs) ≡ b
+        → (least ≤ n → Parts P n before cs after → Settled P least most before cs after) → Settled P least most before cs after
     by true e rec =
         record { count = suc n; small = leb-true (suc n) (least + length cs) e; enough = l; few = m; parts = h }
     by false e rec =
         let above : least + length cs < suc n = grind (arith, nat_tests) in
-        rec (omega arith) (one_fewer P n cs h (omega arith))
+        rec (omega arith) (one_fewer P n before cs after h (omega arith))
 
 -- ---- counts
 
@@ -126,32 +147,21 @@ one_sound negated items [] h = absurd (true≢false (sym h))
 one_sound negated items (c ∷ []) h = (c, refl, h)
 one_sound negated items (c ∷ d ∷ cs) h = absurd (true≢false (sym h))
 
-concat_decides : {f g : List ℕ → Bool} {P Q : List ℕ → Type 0} → Decides f P → Decides g Q
-    → Decides (splits (λ xs ys. f xs && g ys)) (λ cs. (xs : List ℕ) × (ys : List ℕ) × (cs ≡ xs ++ ys) × P xs × Q ys)
-concat_decides {f = f} {g = g} a b = record {
-  sound = λ cs h.
-      let s = splits_sound (λ xs ys. f xs && g ys) cs h in
-      let p = and_parts (f s.0) (g s.1) s.3 in
-      (s.0, s.1, s.2, a.sound s.0 p.0, b.sound s.1 p.1);
-  complete = λ cs h. ap (splits (λ xs ys. f xs && g ys)) h.2
-      ∙ splits_complete (λ xs ys. f xs && g ys) h.0 h.1 (and_from (f h.0) (g h.1) (a.complete h.0 h.3) (b.complete h.1 h.4));
-}
-
-repetition_decides : {f : List ℕ → Bool} {P : List ℕ → Type 0} (least : ℕ) (most : Option ℕ) → Decides f P
-    → Decides (λ cs. some_below (is_count f least most cs) (least + length cs))
-    (λ cs. (n : ℕ) × (least ≤ n) × AtMost n most × Parts P n cs)
+repetition_decides : {f : PartTest} {P : PartFact} (least : ℕ) (most : Option ℕ) → DecidesIn f P
+    → DecidesIn (λ before cs after. some_below (is_count (λ n. are_parts f n before cs after) least most) (least + length cs))
+    (λ before cs after. (n : ℕ) × (least ≤ n) × AtMost n most × Parts P n before cs after)
 repetition_decides {f = f} {P = P} least most d = record {
-  sound = λ cs h.
-      let m = below_sound (is_count f least most cs) (least + length cs) h in
-      let p = and_parts (nat_le least m.0) (is_at_most m.0 most && are_parts f m.0 cs) m.1 in
-      let q = and_parts (is_at_most m.0 most) (are_parts f m.0 cs) p.1 in
-      (m.0, leb-true least m.0 p.0, at_most_sound m.0 most q.0, parts_sound d m.0 cs q.1);
-  complete = λ cs h.
-      let m = settled P least most cs h.0 h.1 h.2 h.3 in
-      below_complete (is_count f least most cs) (least + length cs) m.count m.small
-      (and_from (nat_le least m.count) (is_at_most m.count most && are_parts f m.count cs) (le-leb least m.count m.enough)
-      (and_from (is_at_most m.count most) (are_parts f m.count cs) (at_most_complete m.count most m.few)
-      (parts_complete d m.count cs m.parts)));
+  sound = λ before cs after h.
+      let m = below_sound (is_count (λ n. are_parts f n before cs after) least most) (least + length cs) h in
+      let p = and_parts (nat_le least m.0) (is_at_most m.0 most && are_parts f m.0 before cs after) m.1 in
+      let q = and_parts (is_at_most m.0 most) (are_parts f m.0 before cs after) p.1 in
+      (m.0, leb-true least m.0 p.0, at_most_sound m.0 most q.0, (parts_decide d m.0).sound before cs after q.1);
+  complete = λ before cs after h.
+      let m = settled P least most before cs after h.0 h.1 h.2 h.3 in
+      below_complete (is_count (λ n. are_parts f n before cs after) least most) (least + length cs) m.count m.small
+      (and_from (nat_le least m.count) (is_at_most m.count most && are_parts f m.count before cs after) (le-leb least m.count m.enough)
+      (and_from (is_at_most m.count most) (are_parts f m.count before cs after) (at_most_complete m.count most m.few)
+      ((parts_decide d m.count).complete before cs after m.parts)));
 }
 
 both_true : (a b : Bool) → a ≡ true → b ≡ true → (a && b) ≡ true
@@ -165,53 +175,76 @@ no_is : (b : Bool) → (b ≡ true → ⊥) → not b ≡ true
 no_is true h = absurd (h refl)
 no_is false h = refl
 
-pub matches_decides : (f : Form) → Decides (matches f) (Matches f)
-matches_decides empty = record { sound = empty_sound; complete = λ cs h. ap is_empty h }
-matches_decides (class negated items) =
-    record { sound = one_sound negated items; complete = λ cs h. ap (is_one_in negated items) h.1 ∙ h.2 }
-matches_decides (concat r s) =
-    let d = concat_decides (matches_decides r) (matches_decides s) in
+matches_in_decides : (f : Form) → DecidesIn (matches_in f) (MatchesIn f)
+matches_in_decides empty =
+    record { sound = λ before cs after h. empty_sound cs h; complete = λ before cs after h. ap is_empty h }
+matches_in_decides (class negated items) = record {
+  sound = λ before cs after h. one_sound negated items cs h;
+  complete = λ before cs after h. ap (is_one_in negated items) h.1 ∙ h.2;
+}
+matches_in_decides (assertion kind) = record {
+  sound = λ before cs after h. let k = and_parts (is_empty cs) (holds kind before after) h in (empty_sound cs k.0, k.1);
+  complete = λ before cs after h. both_true (is_empty cs) (holds kind before after) (ap is_empty h.0) h.1;
+}
+matches_in_decides (concat r s) =
+    let d = both_decides (matches_in_decides r) (matches_in_decides s) in
     record { sound = d.sound; complete = d.complete }
-matches_decides (alternation r s) =
-    let a = matches_decides r in
-    let b = matches_decides s in record {
-      sound = λ cs h. elim (or_cases (matches r cs) (matches s cs) h) [ inl e ↦ inl (a.sound cs e) | inr e ↦ inr (b.sound cs e) ];
-      complete = λ cs h. elim h [
-        | inl e ↦ or_left (matches r cs) (matches s cs) (a.complete cs e)
-        | inr e ↦ or_right (matches r cs) (matches s cs) (b.complete cs e)
+matches_in_decides (alternation r s) =
+    let a = matches_in_decides r in
+    let b = matches_in_decides s in record {
+      sound = λ before cs after h. elim (or_cases (matches_in r before cs after) (matches_in s before cs after) h) [
+        | inl e ↦ inl (a.sound before cs after e)
+        | inr e ↦ inr (b.sound before cs after e)
+      ];
+      complete = λ before cs after h. elim h [
+        | inl e ↦ or_left (matches_in r before cs after) (matches_in s before cs after) (a.complete before cs after e)
+        | inr e ↦ or_right (matches_in r before cs after) (matches_in s before cs after) (b.complete before cs after e)
       ];
     }
-matches_decides (repetition r least most) =
-    let d = repetition_decides least most (matches_decides r) in
+matches_in_decides (repetition r least most) =
+    let d = repetition_decides least most (matches_in_decides r) in
     record { sound = d.sound; complete = d.complete }
-matches_decides (both r s) =
-    let a = matches_decides r in
-    let b = matches_decides s in record {
-      sound = λ cs h. let k = and_parts (matches r cs) (matches s cs) h in (a.sound cs k.0, b.sound cs k.1);
-      complete = λ cs h. both_true (matches r cs) (matches s cs) (a.complete cs h.0) (b.complete cs h.1);
+matches_in_decides (both r s) =
+    let a = matches_in_decides r in
+    let b = matches_in_decides s in record {
+      sound = λ before cs after h.
+          let k = and_parts (matches_in r before cs after) (matches_in s before cs after) h in
+          (a.sound before cs after k.0, b.sound before cs after k.1);
+      complete = λ before cs after h.
+          both_true (matches_in r before cs after) (matches_in s before cs after) (a.complete before cs after h.0)
+          (b.complete before cs after h.1);
     }
-matches_decides (no r) =
-    let a = matches_decides r in record {
-      sound = λ cs h m. true≢false (sym (a.complete cs m) ∙ is_no (matches r cs) h);
-      complete = λ cs h. no_is (matches r cs) (λ e. h (a.sound cs e));
+matches_in_decides (no r) =
+    let a = matches_in_decides r in record {
+      sound = λ before cs after h m. true≢false (sym (a.complete before cs after m) ∙ is_no (matches_in r before cs after) h);
+      complete = λ before cs after h. no_is (matches_in r before cs after) (λ e. h (a.sound before cs after e));
     }
+
+pub matches_decides : (f : Form) → Decides (matches f) (Matches f)
+matches_decides f =
+    let d = matches_in_decides f in
+    record { sound = λ cs h. d.sound None cs None h; complete = λ cs h. d.complete None cs None h }
+
+abbrev found_at : Form → List ℕ → List ℕ → List ℕ → Bool
+found_at f before part after = matches_in f (last_of None before) part (next_of after None)
 
 pub searches_decides : (f : Form) → Decides (searches f) (Searches f)
 searches_decides f =
-    let d = matches_decides f in record {
+    let d = matches_in_decides f in record {
       sound = λ cs h.
-          let s = splits_sound (λ before rest. splits (λ part after. matches f part) rest) cs h in
-          let t = splits_sound (λ part after. matches f part) s.1 s.3 in
+          let s = splits_sound (λ before rest. splits (found_at f before) rest) cs h in
+          let t = splits_sound (found_at f s.0) s.1 s.3 in
           record {
             before = s.0;
             part = t.0;
             after = t.1;
             split = s.2 ∙ ap (λ us. s.0 ++ us) t.2;
-            matched = d.sound t.0 t.3;
+            matched = d.sound (last_of None s.0) t.0 (next_of t.1 None) t.3;
           };
-      complete = λ cs h. ap (splits (λ before rest. splits (λ part after. matches f part) rest)) h.split
-          ∙ splits_complete (λ before rest. splits (λ part after. matches f part) rest) h.before (h.part ++ h.after)
-          (splits_complete (λ part after. matches f part) h.part h.after (d.complete h.part h.matched));
+      complete = λ cs h. ap (splits (λ before rest. splits (found_at f before) rest)) h.split
+          ∙ splits_complete (λ before rest. splits (found_at f before) rest) h.before (h.part ++ h.after)
+          (splits_complete (found_at f h.before) h.part h.after
+          (d.complete (last_of None h.before) h.part (next_of h.after None) h.matched));
     }
 
 -- ---- the grammar

@@ -1,8 +1,9 @@
 -- Instances of the definitions, computed.
-use Rattle.std.proofs.Common.{◌≡◌, ◌≤◌, true, false, [], ◌∷◌, Some, None, inr, refl, arith}
+use Rattle.std.proofs.Common.{◌≡◌, ◌≤◌, ℕ, true, false, [], ◌∷◌, Option, Some, None, inr, refl, arith}
 use Rattle.std.specs.Prelude.{codes}
 use Rattle.marked_regexp.specs.declared.class.Item.TheVariants.{Range, In, NotIn}
-use Rattle.marked_regexp.specs.Forms.{Form, empty, class, concat, alternation, repetition, is_within, is_in_class, Matches, Searches}
+use Rattle.marked_regexp.specs.Forms.{Form, empty, class, concat, alternation, repetition, is_within, is_in_class, MatchesIn, Matches}
+use Rattle.marked_regexp.specs.Forms.{Searches}
 use Rattle.i_regexp.specs.Fronts.{token_front}
 use Rattle.i_regexp.specs.Grammar.{characters, quantifier, one, IsText}
 use Rattle.i_regexp.specs.Grammar as is
@@ -28,26 +29,26 @@ b_is_in_no_negated_class = refl
 a : Form
 a = class false (Range 97 97 ∷ [])
 
-matches_a : Matches a (codes "a")
+matches_a : (before after : Option ℕ) → MatchesIn a before (codes "a") after
 unfolding a
-matches_a = (97, refl, refl)
+matches_a before after = (97, refl, refl)
 
 star_matches_nothing : Matches (repetition a 0 None) []
 star_matches_nothing = (0, omega arith, tt, refl)
 
 star_matches_two : Matches (repetition a 0 None) (codes "aa")
-star_matches_two = (2, omega arith, tt, (codes "a", codes "a", refl, matches_a, (codes "a", [], refl, matches_a, refl)))
+star_matches_two = (2, omega arith, tt, (codes "a", codes "a", refl, matches_a None (Some 97), (codes "a", [], refl, matches_a (Some 97) None, refl)))
 
 second_branch_matches : Matches (alternation empty a) (codes "a")
-second_branch_matches = inr matches_a
+second_branch_matches = inr (matches_a None None)
 
 one_after_another : Matches (concat a (repetition a 1 (Some 1))) (codes "aa")
 one_after_another =
     let once : 1 ≤ 1 = omega arith in
-    (codes "a", codes "a", refl, matches_a, (1, omega arith, once, (codes "a", [], refl, matches_a, refl)))
+    (codes "a", codes "a", refl, matches_a None (Some 97), (1, omega arith, once, (codes "a", [], refl, matches_a (Some 97) None, refl)))
 
 is_found : Searches a (codes "bab")
-is_found = record { before = codes "b"; part = codes "a"; after = codes "b"; split = refl; matched = matches_a }
+is_found = record { before = codes "b"; part = codes "a"; after = codes "b"; split = refl; matched = matches_a (Some 98) (Some 98) }
 
 -- ---- which text is which token (section 3)
 
@@ -146,7 +147,7 @@ open_group = refl
 look_ahead : is_pattern (codes "a(?=b)") ≡ false
 look_ahead = refl
 
--- ---- `\0` has no digit behind it, also in a class; two halves are one character, and one alone is none; `$` is in no branch
+-- ---- `\0` has no digit behind it, also in a class; two halves are one character, and one alone is none
 
 null_and_digit : is_pattern (codes "\\01") ≡ false
 null_and_digit = refl
@@ -172,8 +173,31 @@ in_braces = refl
 past_the_last : is_pattern (codes "\\u{110000}") ≡ false
 past_the_last = refl
 
-end_in_branch : is_pattern (codes "a$b") ≡ false
+-- ---- assertions are anywhere, and not repeated
+
+end_in_branch : is_found_in (codes "a$b") (codes "ab") ≡ false
 end_in_branch = refl
+
+end_in_group : is_found_in (codes "a(b|$)") (codes "a") ≡ true
+end_in_group = refl
+
+beginning_in_group : is_found_in (codes "(^|,)x") (codes ",x") ≡ true
+beginning_in_group = refl
+
+no_beginning_in_group : is_found_in (codes "(^|,)x") (codes "ax") ≡ false
+no_beginning_in_group = refl
+
+word_begins : is_found_in (codes "\\bb") (codes "-b") ≡ true
+word_begins = refl
+
+word_goes_on : is_found_in (codes "\\bb") (codes "ab") ≡ false
+word_goes_on = refl
+
+within_word : is_found_in (codes "\\Bb") (codes "ab") ≡ true
+within_word = refl
+
+repeated_assertion : is_pattern (codes "^*") ≡ false
+repeated_assertion = refl
 
 -- ---- a group with a name is a group; no two have the same name
 

@@ -4,15 +4,17 @@ use Rattle.std.proofs.Common.{refl, sym, ap, ◌∙◌, subst, arith, length-app
 use Rattle.std.proofs.lemmas.List.{map-append}
 use Rattle.i_regexp.specs.declared.error.IRegexpErrorKind.{IRegexpErrorKind}
 use Rattle.i_regexp.specs.declared.error.IRegexpErrorKind.TheVariants.{Invalid, TooDeep, TooLarge, OutOfMemory}
+use Rattle.marked_regexp.specs.declared.assertion.Assertion.{Assertion}
 use Rattle.marked_regexp.specs.declared.expression.Expression.{Expression}
 use Rattle.i_regexp.specs.declared.reader.Level.{Level as CodeLevel}
-use Rattle.marked_regexp.specs.Forms.{Form, concat, alternation, repetition}
+use Rattle.marked_regexp.specs.Forms.{Form, assertion, concat, alternation, repetition}
 use Rattle.marked_regexp.specs.Building.{Means, AllMean, sequence, choice, choice_from}
-use Rattle.i_regexp.specs.Grammar.{Token, closed, quantifier, Branch, Piece, once, times, Atom, group, regexp_form, branch_form, piece_form}
+use Rattle.i_regexp.specs.Grammar.{Token, closed, quantifier, Branch, Piece, once, times, asserts, Atom, group, regexp_form, branch_form}
+use Rattle.i_regexp.specs.Grammar.{piece_form}
 use Rattle.i_regexp.specs.Grammar.{atom_form}
 use Rattle.i_regexp.specs.Levels.{Level, level, State, settled, settle, with_atom, branch_of, regexp_from, barred, regexp_of, quantified}
 use Rattle.i_regexp.specs.Levels.{in_state, close, advance, MeansEnd, StandsAt, IsSized, Outer, Agrees, Quantifies, Takes, level_size}
-use Rattle.i_regexp.specs.Levels.{outer_size, state_size}
+use Rattle.i_regexp.specs.Levels.{outer_size, state_size, with_assertion}
 use Rattle.i_regexp.specs.Limits.{size_limit, repeated, regexp_size}
 use Rattle.marked_regexp.proofs.Callers.{all_mean_push}
 use Rattle.i_regexp.proofs.Sizes.{regexp_of_size, put_sized, quantified_sized, quantified_more}
@@ -78,6 +80,14 @@ put_stands f g n (level bs ps end) a s m b p o = record {
   done = subst (λ v. AllMean v.items (map branch_form bs)) (sym b) s.done;
   front = subst (λ v. AllMean v.items (map piece_form (settled ps end))) (sym p) s.front;
   ended = subst (λ x. MeansEnd x (Some a)) (sym o) m;
+}
+
+pub assertion_stands : (f g : CodeLevel) (n : Expression) (l : Level) (kind : Assertion) → StandsAt f (settle l) → Means n (assertion kind)
+    → g.branches ≡ f.branches → g.pieces.items ≡ f.pieces.items ++ n ∷ [] → g.last ≡ f.last → StandsAt g (with_assertion l kind)
+assertion_stands f g n (level bs ps end) kind s m b p o = record {
+  done = subst (λ v. AllMean v.items (map branch_form bs)) (sym b) s.done;
+  front = all_mean_map_push piece_form f.pieces.items g.pieces.items n (settled ps end) (asserts kind) p s.front m;
+  ended = subst (λ x. MeansEnd x None) (sym o) s.ended;
 }
 
 pub quantified_stands : (f g : CodeLevel) (n m : Expression) (least : ℕ) (most : Option ℕ) (l : Level) → f.last ≡ Some n

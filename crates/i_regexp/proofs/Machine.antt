@@ -1,10 +1,11 @@
 -- The machine takes the tokens of a regular expression, and no others, to their tree.
 use Rattle.std.proofs.Common.{◌≡◌, ℕ, List, [], ◌∷◌, ◌++◌, Option, Some, None, refl, sym, ap, ◌∙◌, append_assoc, append-nil}
 use Rattle.std.specs.Prelude.{option_and_then}
-use Rattle.i_regexp.specs.Grammar.{Token, characters, opened, closed, bar, quantifier, Regexp, last, branches, Branch, nothing, pieces}
-use Rattle.i_regexp.specs.Grammar.{Piece, once, times, Atom, character, group, regexp_tokens, branch_tokens, piece_tokens, atom_tokens}
+use Rattle.i_regexp.specs.Grammar.{Token, characters, opened, closed, bar, quantifier, asserted, Regexp, last, branches, Branch}
+use Rattle.i_regexp.specs.Grammar.{nothing, pieces, Piece, once, times, asserts, Atom, character, group, regexp_tokens, branch_tokens, piece_tokens, atom_tokens}
 use Rattle.i_regexp.specs.Levels.{Level, level, State, fresh, settled, with_atom, branch_of, regexp_from, barred, regexp_of, quantified}
-use Rattle.i_regexp.specs.Levels.{in_state, close, advance, run}
+use Rattle.i_regexp.specs.Levels.{in_state, close, advance, run, with_assertion}
+use Rattle.marked_regexp.specs.declared.assertion.Assertion.{Assertion}
 
 -- ---- the tokens that were taken
 
@@ -52,6 +53,10 @@ regexp_of_tokens (level bs ps end) = regexp_from_tokens bs (branch_of (settled p
 atom_put : (l : Level) (a : Atom) → level_tokens (with_atom l a) ≡ level_tokens l ++ atom_tokens a
 atom_put (level bs ps end) a = ap (λ ts. barred_tokens bs ++ ts) (pieces_push (settled ps end) (once a))
     ∙ sym (append_assoc (barred_tokens bs) (pieces_tokens (settled ps end)) (atom_tokens a))
+
+assertion_put : (l : Level) (kind : Assertion) → level_tokens (with_assertion l kind) ≡ level_tokens l ++ asserted kind ∷ []
+assertion_put (level bs ps end) kind = ap (λ ts. barred_tokens bs ++ ts) (pieces_push (settled ps end) (asserts kind))
+    ∙ sym (append_assoc (barred_tokens bs) (pieces_tokens (settled ps end)) (asserted kind ∷ []))
 
 bar_put : (l : Level) → level_tokens (barred l) ≡ level_tokens l ++ bar ∷ []
 bar_put (level bs ps end) =
@@ -119,6 +124,9 @@ taken l ls opened = some_state l ls opened (fresh, l ∷ ls) (opened_put l ls)
 taken l ls closed = close_taken l ls
 taken l ls bar = some_state l ls bar (barred l, ls) (in_outer ls l (barred l) (bar ∷ []) (bar_put l))
 taken l ls (quantifier least most) = quantifier_taken l ls least most
+taken l ls (asserted kind) =
+    some_state l ls (asserted kind) (with_assertion l kind, ls)
+    (in_outer ls l (with_assertion l kind) (asserted kind ∷ []) (assertion_put l kind))
 
 run_tokens : (ts : List Token) (s s' : State) → run s ts ≡ Some s' → state_tokens s'.0 s'.1 ≡ state_tokens s.0 s.1 ++ ts
 run_tokens [] s s' e = let same : s ≡ s' = cc in ap (λ x. state_tokens x.0 x.1) (sym same) ∙ sym (append-nil (state_tokens s.0 s.1))
@@ -213,6 +221,8 @@ mutual
         ∙ runs_atom a bs ps end ls (quantifier least most ∷ rest);
     whole = refl;
   }
+  runs_piece (asserts kind) bs ps end ls rest =
+      record { front = settled ps end ++ asserts kind ∷ []; ended = None; runs = refl; whole = refl }
 
   runs_atom : (a : Atom) (bs : List Branch) (ps : List Piece) (end : Option Atom) (ls : List Level) (rest : List Token)
       → RunsAtom a bs ps end ls rest

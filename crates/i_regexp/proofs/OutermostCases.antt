@@ -10,11 +10,10 @@ use Rattle.i_regexp.specs.declared.mark.Mark.{Mark as CodeMark}
 use Rattle.i_regexp.specs.declared.mark.Mark.TheVariants as code
 use Rattle.i_regexp.specs.declared.outermost.Outermost.{Outermost}
 use Rattle.marked_regexp.specs.Automaton.{expression_of}
-use Rattle.marked_regexp.specs.Building.{Means}
-use Rattle.i_regexp.specs.Patterns.{Mark, look, start, end, token, Look, Case, has_looks, AreSmall, AreSmallCases}
+use Rattle.i_regexp.specs.Patterns.{Mark, look, token, Look, Case, has_looks, AreSmall, AreSmallCases}
 use Rattle.i_regexp.specs.PatternFronts.{mark_of}
 use Rattle.i_regexp.specs.PatternMachine.{PartsState, initial, no_levels, is_before, part_in, advance_mark, form_at, disjunction_form}
-use Rattle.i_regexp.specs.PatternMachine.{disjunction_in, AgreesAt, Finishes, TakesMark}
+use Rattle.i_regexp.specs.PatternMachine.{disjunction_in, MeansWhole, AgreesAt, Finishes, TakesMark}
 use Rattle.i_regexp.specs.PatternCases.{CasesState, no_cases, is_closed, case_in, opened_look, look_in, closed_look, next_case, with_here}
 use Rattle.i_regexp.specs.PatternCases.{is_last, ended, may_look, advance_other, advance_case, is_other}
 use Rattle.i_regexp.specs.PatternCases.{LookMeans, LooksMean, CaseMeans, CasesMean, StandsFor, TakesOther, TakesCase}
@@ -117,7 +116,7 @@ look_closed old new n k done e c l i here s a some none =
       cases = subst (λ v. CasesMean v.items s.cases) (sym c) a.cases;
       looks = subst (λ v. LooksMean v (s.looks ++ look_in s n ∷ [])) (sym l) (looks_mean_push old.looks.items s.looks k (look_in s n)
           a.looks
-          (record { negated = e; root = subst (λ b. Means k.root (disjunction_form b (disjunction_in s.here))) fixed f.0 }));
+          (record { negated = e; root = subst (λ b. MeansWhole k.root (disjunction_form b (disjunction_in s.here))) fixed f.0 }));
       inside = i;
       here = here;
       small_cases = a.small_cases;
@@ -142,14 +141,14 @@ case_ended old new n done l c k i here s a out none =
     let f = done s.here a.here none in
     let alone = a.proper.alone out in
     let fixed : s.here.fixed ≡ has_looks s.looks = a.proper.behind (ap is_some out) in
-    let first : Means (expression_of n.root) (form_at s.here.fixed (part_in s.here)) =
-    subst (λ qs. Means (expression_of n.root) (disjunction_form s.here.fixed (record { before = qs; last = part_in s.here }))) alone f.0 in
+    let first : MeansWhole (expression_of n.root) (form_at s.here.fixed (part_in s.here)) =
+    subst (λ qs. MeansWhole (expression_of n.root) (disjunction_form s.here.fixed (record { before = qs; last = part_in s.here }))) alone f.0 in
     let small = subst (λ qs. AreSmall (qs ++ part_in s.here ∷ [])) alone f.1 in
     record {
       cases = subst (λ v. CasesMean v (s.cases ++ case_in s ∷ [])) (sym c) (cases_mean_push old.cases.items s.cases n (case_in s) a.cases
           (record {
             looks = subst (λ v. LooksMean v.items s.looks) (sym l) a.looks;
-            root = subst (λ b. Means (expression_of n.root) (form_at b (part_in s.here))) fixed first;
+            root = subst (λ b. MeansWhole (expression_of n.root) (form_at b (part_in s.here))) fixed first;
           }));
       looks = subst (λ v. LooksMean v []) (sym k) tt;
       inside = i ∙ (a.inside ∙ out);
@@ -235,14 +234,10 @@ other_taken old new m a b (Err OutOfMemory) h k e c l i takes = tt
 -- ---- all marks
 
 case_other : (s : CasesState) (m : Mark) → is_other m ≡ true → advance_other s m ≡ advance_case s m
-case_other s start h = refl
-case_other s end h = refl
 case_other s (look n) h = false_true h
 case_other s (token t) h = refl
 
 pub other_mark : (m : CodeMark) → ((n : Bool) → m ≡ code.Look n → ⊥) → is_other (mark_of m) ≡ true
-other_mark code.Start h = refl
-other_mark code.End h = refl
 other_mark (code.Look n) h = absurd (h n refl)
 other_mark (code.Token t) h = refl
 

@@ -4,22 +4,22 @@ use Rattle.std.proofs.Common.{Option, Some, None, option_map, is_some, refl, sym
 use Rattle.std.proofs.Common.{true≢false}
 use Rattle.std.proofs.lemmas.Bool.{cond-true, cond-false, and_parts}
 use Rattle.std.specs.Prelude.{option_and_then}
-use Rattle.i_regexp.specs.Grammar.{Token, characters, opened, closed, bar, quantifier, branch_tokens}
-use Rattle.i_regexp.specs.Levels.{Level, State, fresh, advance, state_size}
+use Rattle.marked_regexp.specs.declared.assertion.Assertion.TheVariants.{Start}
+use Rattle.i_regexp.specs.Grammar.{Token, characters, opened, closed, bar, quantifier, asserted, asserts, Branch, branch_tokens}
+use Rattle.i_regexp.specs.Levels.{Level, level, State, fresh, advance, state_size}
 use Rattle.i_regexp.specs.Limits.{size_limit, branch_size}
-use Rattle.i_regexp.specs.PatternMachine.{same_bool}
-use Rattle.i_regexp.specs.Patterns.{Mark, start, end, look, token, Part, Disjunction, Look, Case, Pattern, mark_if, part_marks}
-use Rattle.i_regexp.specs.Patterns.{barred_marks}
+use Rattle.i_regexp.specs.Patterns.{Mark, look, token, Disjunction, Look, Case, Pattern, branch_marks, barred_marks}
 use Rattle.i_regexp.specs.Patterns.{disjunction_marks, looks_marks, guard_marks, case_marks, cases_marks, pattern_marks, has_looks}
 use Rattle.i_regexp.specs.Patterns.{AreSmall, AreSmallLooks, AreSmallCases, IsSmall}
-use Rattle.i_regexp.specs.PatternMachine.{PartsState, initial, no_levels, is_blank, is_unread, is_before, is_bar, branch_in, part_in}
-use Rattle.i_regexp.specs.PatternMachine.{disjunction_in, next_part, with_state, advance_mark, run_marks, is_bare}
+use Rattle.i_regexp.specs.PatternMachine.{PartsState, initial, no_levels, is_blank, is_single, starts_at, is_before, is_bar, branch_in}
+use Rattle.i_regexp.specs.PatternMachine.{part_in, disjunction_in, next_part, with_state, advance_mark, run_marks, is_bare}
 use Rattle.i_regexp.specs.PatternCases.{CasesState, no_cases, is_closed, case_in, pattern_in, opened_look, look_in, closed_look, next_case}
 use Rattle.i_regexp.specs.PatternCases.{with_here, is_parting, is_close, is_closing, is_last, ended, may_look, advance_other}
 use Rattle.i_regexp.specs.PatternCases.{advance_case, run_cases}
 use Rattle.i_regexp.proofs.Lexing.{cond_cases, map_cases, none_some, some_same}
-use Rattle.i_regexp.proofs.PatternMachine.{is_the_bar, is_the_blank, no_level_left, disjunction_sound, disjunction_complete}
+use Rattle.i_regexp.proofs.PatternMachine.{is_the_bar, no_level_left, disjunction_sound, disjunction_complete}
 use Rattle.i_regexp.proofs.PatternMachine.{run_marks_append, Fine, fine_part, step_back}
+use Rattle.i_regexp.proofs.PatternEnds.{only_start, is_the_blank}
 
 -- ---- what a mark does
 
@@ -37,8 +37,6 @@ other_step s m u e =
     ]
 
 pub step_of : (s : CasesState) (m : Mark) (u : CasesState) → advance_case s m ≡ Some u → Step s m u
-step_of s start u e = other_step s start u e
-step_of s end u e = other_step s end u e
 step_of s (look n) u e =
     elim (cond_cases (may_look s) _ _ u e) [
       | inl a ↦ opening n refl a.0 (some_same a.1)
@@ -47,8 +45,6 @@ step_of s (look n) u e =
 step_of s (token t) u e = other_step s (token t) u e
 
 pub parting_bar : (m : Mark) → is_parting m ≡ true → m ≡ token bar
-parting_bar start h = absurd (true≢false (sym h))
-parting_bar end h = absurd (true≢false (sym h))
 parting_bar (look n) h = absurd (true≢false (sym h))
 parting_bar (token t) h = ap token (is_the_bar t h)
 
@@ -58,22 +54,11 @@ close_closed opened h = absurd (true≢false (sym h))
 close_closed closed h = refl
 close_closed bar h = absurd (true≢false (sym h))
 close_closed (quantifier least most) h = absurd (true≢false (sym h))
+close_closed (asserted kind) h = absurd (true≢false (sym h))
 
 pub closing_closed : (m : Mark) → is_closing m ≡ true → m ≡ token closed
-closing_closed start h = absurd (true≢false (sym h))
-closing_closed end h = absurd (true≢false (sym h))
 closing_closed (look n) h = absurd (true≢false (sym h))
 closing_closed (token t) h = ap token (close_closed t h)
-
-pub same_true : (a b : Bool) → same_bool a b ≡ true → a ≡ b
-same_true true true h = refl
-same_true true false h = absurd (true≢false (sym h))
-same_true false true h = absurd (true≢false (sym h))
-same_true false false h = refl
-
-pub not_true : (b : Bool) → not b ≡ true → b ≡ false
-not_true true h = absurd (true≢false (sym h))
-not_true false h = refl
 
 pub none_of : (o : Option Bool) → not (is_some o) ≡ true → o ≡ None
 none_of None h = refl
@@ -81,51 +66,25 @@ none_of (Some b) h = absurd (true≢false (sym h))
 
 -- ---- branches that have ended in a step
 
-pub no_part : (qs : List Part) (q : Part) → qs ++ q ∷ [] ≡ [] → ⊥
+pub no_part : (qs : List Branch) (q : Branch) → qs ++ q ∷ [] ≡ [] → ⊥
 no_part [] q e = cc
 no_part (r ∷ qs) q e = cc
 
 pub step_parts : (s : PartsState) (m : Mark) (u : PartsState) → advance_mark s m ≡ Some u
     → (no_levels s.state.1 && is_parting m) ≡ false → u.parts ≡ s.parts
-step_parts s start u e h =
-    elim (cond_cases (s.ends || (s.starts || not (is_unread s.state))) _ _ u e) [
-      | inl a ↦ none_some a.1
-      | inr n ↦ ap (λ v. v.parts) (sym (some_same n.1))
-    ]
-step_parts s end u e h =
-    elim (cond_cases (s.ends || not (no_levels s.state.1)) _ _ u e) [
-      | inl a ↦ none_some a.1
-      | inr n ↦ ap (λ v. v.parts) (sym (some_same n.1))
-    ]
 step_parts s (look n) u e h = none_some e
 step_parts s (token t) u e h =
-    elim (cond_cases (s.ends && not (is_bar t)) _ _ u e) [
-      | inl a ↦ none_some a.1
-      | inr c ↦ elim (cond_cases (no_levels s.state.1 && is_bar t) _ _ u c.1) [
-        | inl a ↦ absurd (true≢false (sym a.0 ∙ h))
-        | inr n ↦ ap (λ v. v.parts) (sym (map_cases (with_state s) (advance s.state t) u n.1).2)
-      ]
+    elim (cond_cases (no_levels s.state.1 && is_bar t) _ _ u e) [
+      | inl a ↦ absurd (true≢false (sym a.0 ∙ h))
+      | inr n ↦ ap (λ v. v.parts) (sym (map_cases (with_state s) (advance s.state t) u n.1).2)
     ]
 
 pub step_fixed : (s : PartsState) (m : Mark) (u : PartsState) → advance_mark s m ≡ Some u → u.fixed ≡ s.fixed
-step_fixed s start u e =
-    elim (cond_cases (s.ends || (s.starts || not (is_unread s.state))) _ _ u e) [
-      | inl a ↦ none_some a.1
-      | inr n ↦ ap (λ v. v.fixed) (sym (some_same n.1))
-    ]
-step_fixed s end u e =
-    elim (cond_cases (s.ends || not (no_levels s.state.1)) _ _ u e) [
-      | inl a ↦ none_some a.1
-      | inr n ↦ ap (λ v. v.fixed) (sym (some_same n.1))
-    ]
 step_fixed s (look n) u e = none_some e
 step_fixed s (token t) u e =
-    elim (cond_cases (s.ends && not (is_bar t)) _ _ u e) [
-      | inl a ↦ none_some a.1
-      | inr c ↦ elim (cond_cases (no_levels s.state.1 && is_bar t) _ _ u c.1) [
-        | inl a ↦ ap (λ v. v.fixed) (sym (some_same a.1))
-        | inr n ↦ ap (λ v. v.fixed) (sym (map_cases (with_state s) (advance s.state t) u n.1).2)
-      ]
+    elim (cond_cases (no_levels s.state.1 && is_bar t) _ _ u e) [
+      | inl a ↦ ap (λ v. v.fixed) (sym (some_same a.1))
+      | inr n ↦ ap (λ v. v.fixed) (sym (map_cases (with_state s) (advance s.state t) u n.1).2)
     ]
 
 and_false : (b : Bool) → (b && false) ≡ false
@@ -133,9 +92,7 @@ and_false true = refl
 and_false false = refl
 
 bar_step : (s : PartsState) (u : PartsState) → advance_mark s (token bar) ≡ Some u → no_levels s.state.1 ≡ true → next_part s ≡ u
-bar_step s u e n =
-    some_same (sym (cond-false (s.ends && false) _ _ (and_false s.ends)
-    ∙ cond-true (no_levels s.state.1 && true) _ _ (ap (λ b. b && true) n)) ∙ e)
+bar_step s u e n = some_same (sym (cond-true (no_levels s.state.1 && true) _ _ (ap (λ b. b && true) n)) ∙ e)
 
 -- where no branch has ended after a step, the step has ended none
 quiet : (s : PartsState) (m : Mark) (u : PartsState) → advance_mark s m ≡ Some u → u.parts ≡ []
@@ -160,9 +117,13 @@ no_parts_before (m ∷ ms) s u e p = by (advance_mark s m) refl e (λ v g. no_pa
 
 -- ---- what was read is the marks
 
+-- the mark `^`
+abbrev begin : Mark
+begin = token (asserted Start)
+
 abbrev opening_marks : Option Bool → List Look → List Mark
 opening_marks None ks = guard_marks ks
-opening_marks (Some n) ks = start ∷ (looks_marks ks ++ look n ∷ [])
+opening_marks (Some n) ks = begin ∷ (looks_marks ks ++ look n ∷ [])
 
 pub record Shape (s : CasesState) (ms : List Mark) : Type 0 where
   pub inner : List Mark
@@ -174,29 +135,40 @@ pub record Shape (s : CasesState) (ms : List Mark) : Type 0 where
 shape_none : Shape no_cases []
 shape_none = record { inner = []; fixed = false; ran = refl; marks = refl; alone = λ h. refl }
 
--- the marks of branches, by what they depend on
-abbrev marks_of : List Part → Bool → Bool → Level → List Mark
-marks_of qs starts ends l = barred_marks qs ++ (mark_if starts start ++ (map token (branch_tokens (branch_in l)) ++ mark_if ends end))
+-- the mark `^`, or none
+abbrev begin_if : Bool → List Mark
+begin_if true = begin ∷ []
+begin_if false = []
 
-pub unread_fresh : (v : State) → is_unread v ≡ true → v ≡ (fresh, [])
-unread_fresh (l, ls) h =
-    let both = and_parts (is_blank l) (no_levels ls) h in
-    ap (λ x. let v : State = (x, ls) in v) (is_the_blank l both.0) ∙ ap (λ x. let v : State = (fresh, x) in v) (no_level_left ls both.1)
+abbrev state_before : Bool → State
+state_before true = (level [] (asserts Start ∷ []) None, [])
+state_before false = (fresh, [])
 
-before_marks : (h : PartsState) (b : Bool) → is_before h b ≡ true → h.parts ≡ [] → disjunction_marks (disjunction_in h) ≡ mark_if b start
+pub before_state : (h : PartsState) (b : Bool) → is_before h b ≡ true → h.state ≡ state_before b
+before_state h b e =
+    let both = and_parts (no_levels h.state.1) (cond b (starts_at h.state.0 && is_single h.state.0) (is_blank h.state.0)) e in
+    by b h.state both.0 both.1
+  where
+    by : (b : Bool) (s : State) → no_levels s.1 ≡ true → cond b (starts_at s.0 && is_single s.0) (is_blank s.0) ≡ true → s ≡ state_before b
+    by true (l, ls) n k =
+        let two = and_parts (starts_at l) (is_single l) k in
+        ap (λ x. let v : State = (x, ls) in v) (only_start l two.0 two.1)
+        ∙ ap (λ x. let v : State = (level [] (asserts Start ∷ []) None, x) in v) (no_level_left ls n)
+    by false (l, ls) n k =
+        ap (λ x. let v : State = (x, ls) in v) (is_the_blank l k) ∙ ap (λ x. let v : State = (fresh, x) in v) (no_level_left ls n)
+
+before_marks : (h : PartsState) (b : Bool) → is_before h b ≡ true → h.parts ≡ [] → disjunction_marks (disjunction_in h) ≡ begin_if b
 before_marks h b e p =
-    let first = and_parts (not h.ends) (same_bool h.starts b && is_unread h.state) e in
-    let second = and_parts (same_bool h.starts b) (is_unread h.state) first.1 in
-    ap (λ qs. marks_of qs h.starts h.ends h.state.0) p
-    ∙ (ap (λ c. marks_of [] c h.ends h.state.0) (same_true h.starts b second.0)
-    ∙ (ap (λ c. marks_of [] b c h.state.0) (not_true h.ends first.0)
-    ∙ (ap (λ v. marks_of [] b false v.0) (unread_fresh h.state second.1) ∙ append-nil (mark_if b start))))
+    ap (λ qs. barred_marks qs ++ branch_marks (branch_in h.state.0)) p
+    ∙ (ap (λ v. branch_marks (branch_in v.0)) (before_state h b e) ∙ by b)
+  where
+    by : (b : Bool) → branch_marks (branch_in (state_before b).0) ≡ begin_if b
+    by true = refl
+    by false = refl
 
-before_closed : (h : PartsState) (b : Bool) → is_before h b ≡ true → no_levels h.state.1 ≡ true
+pub before_closed : (h : PartsState) (b : Bool) → is_before h b ≡ true → no_levels h.state.1 ≡ true
 before_closed h b e =
-    let first = and_parts (not h.ends) (same_bool h.starts b && is_unread h.state) e in
-    let second = and_parts (same_bool h.starts b) (is_unread h.state) first.1 in
-    (and_parts (is_blank h.state.0) (no_levels h.state.1) second.1).1
+    (and_parts (no_levels h.state.1) (cond b (starts_at h.state.0 && is_single h.state.0) (is_blank h.state.0)) e).0
 
 regroup_look : (a b : List Mark) (m : Mark) → (a ++ (b ++ [])) ++ m ∷ [] ≡ a ++ ((b ++ m ∷ []) ++ [])
 regroup_look a b m = simp append_assoc
@@ -207,7 +179,7 @@ shape_opens s ms n h e =
     let none = none_of s.inside both.0 in
     let read : disjunction_marks (disjunction_in s.here) ≡ h.inner =
     disjunction_sound h.fixed h.inner s.here h.ran (before_closed s.here _ both.1) in
-    let inner : h.inner ≡ mark_if (not (has_looks s.looks)) start = sym read ∙ before_marks s.here _ both.1 (h.alone none) in
+    let inner : h.inner ≡ begin_if (not (has_looks s.looks)) = sym read ∙ before_marks s.here _ both.1 (h.alone none) in
     record {
       inner = [];
       fixed = true;
@@ -219,10 +191,10 @@ shape_opens s ms n h e =
       alone = λ f. none_some (sym f);
     }
   where
-    by : (ks : List Look) → (cases_marks s.cases ++ (guard_marks ks ++ mark_if (not (has_looks ks)) start)) ++ look n ∷ []
-        ≡ cases_marks s.cases ++ ((start ∷ (looks_marks ks ++ look n ∷ [])) ++ [])
-    by [] = append_assoc (cases_marks s.cases) (start ∷ []) (look n ∷ [])
-    by (k ∷ ks) = regroup_look (cases_marks s.cases) (start ∷ looks_marks (k ∷ ks)) (look n)
+    by : (ks : List Look) → (cases_marks s.cases ++ (guard_marks ks ++ begin_if (not (has_looks ks)))) ++ look n ∷ []
+        ≡ cases_marks s.cases ++ ((begin ∷ (looks_marks ks ++ look n ∷ [])) ++ [])
+    by [] = append_assoc (cases_marks s.cases) (begin ∷ []) (look n ∷ [])
+    by (k ∷ ks) = regroup_look (cases_marks s.cases) (begin ∷ looks_marks (k ∷ ks)) (look n)
 
 cases_push : (cs : List Case) (c : Case) → cases_marks (cs ++ c ∷ []) ≡ cases_marks cs ++ (case_marks c ++ token bar ∷ [])
 cases_push [] c = refl
@@ -236,8 +208,8 @@ shape_next : (s : CasesState) (ms : List Mark) → Shape s ms → no_levels s.he
     → Shape (next_case s) (ms ++ token bar ∷ [])
 shape_next s ms h n none =
     let read : disjunction_marks (disjunction_in s.here) ≡ h.inner = disjunction_sound h.fixed h.inner s.here h.ran n in
-    let inner : h.inner ≡ part_marks (part_in s.here) = sym read
-    ∙ ap (λ qs. barred_marks qs ++ part_marks (part_in s.here)) (h.alone none) in
+    let inner : h.inner ≡ branch_marks (part_in s.here) = sym read
+    ∙ ap (λ qs. barred_marks qs ++ branch_marks (part_in s.here)) (h.alone none) in
     record {
       inner = [];
       fixed = false;
@@ -245,7 +217,7 @@ shape_next s ms h n none =
       marks = ap (λ us. us ++ token bar ∷ []) (h.marks
           ∙ (ap (λ o. cases_marks s.cases ++ (opening_marks o s.looks ++ h.inner)) none
           ∙ ap (λ us. cases_marks s.cases ++ (guard_marks s.looks ++ us)) inner))
-          ∙ (regroup_case (cases_marks s.cases) (guard_marks s.looks) (part_marks (part_in s.here)) (token bar)
+          ∙ (regroup_case (cases_marks s.cases) (guard_marks s.looks) (branch_marks (part_in s.here)) (token bar)
           ∙ ap (λ us. us ++ []) (sym (cases_push s.cases (case_in s))));
       alone = λ f. refl;
     }
@@ -259,9 +231,9 @@ looks_push (j ∷ ks) k =
     (look k.negated ∷ (disjunction_marks k.content ++ token closed ∷ []))))
 
 guard_push : (ks : List Look) (k : Look)
-    → guard_marks (ks ++ k ∷ []) ≡ start ∷ (looks_marks ks ++ look k.negated ∷ (disjunction_marks k.content ++ token closed ∷ []))
+    → guard_marks (ks ++ k ∷ []) ≡ begin ∷ (looks_marks ks ++ look k.negated ∷ (disjunction_marks k.content ++ token closed ∷ []))
 guard_push [] k = refl
-guard_push (j ∷ ks) k = ap (λ ms. start ∷ ms) (looks_push (j ∷ ks) k)
+guard_push (j ∷ ks) k = ap (λ ms. begin ∷ ms) (looks_push (j ∷ ks) k)
 
 regroup_closed : (a b d : List Mark) (m c : Mark) → (a ++ ((b ++ m ∷ []) ++ d)) ++ c ∷ [] ≡ a ++ ((b ++ m ∷ (d ++ c ∷ [])) ++ [])
 regroup_closed a b d m c = simp append_assoc
@@ -276,8 +248,8 @@ shape_closed s ms n h l some =
       ran = refl;
       marks = ap (λ us. us ++ token closed ∷ []) (h.marks
           ∙ (ap (λ o. cases_marks s.cases ++ (opening_marks o s.looks ++ h.inner)) some
-          ∙ ap (λ us. cases_marks s.cases ++ ((start ∷ (looks_marks s.looks ++ look n ∷ [])) ++ us)) inner))
-          ∙ (regroup_closed (cases_marks s.cases) (start ∷ looks_marks s.looks) (disjunction_marks (disjunction_in s.here)) (look n)
+          ∙ ap (λ us. cases_marks s.cases ++ ((begin ∷ (looks_marks s.looks ++ look n ∷ [])) ++ us)) inner))
+          ∙ (regroup_closed (cases_marks s.cases) (begin ∷ looks_marks s.looks) (disjunction_marks (disjunction_in s.here)) (look n)
           (token closed)
           ∙ ap (λ us. cases_marks s.cases ++ (us ++ [])) (sym (guard_push s.looks (look_in s n))));
       alone = λ f. refl;
@@ -337,8 +309,8 @@ pattern_sound ms s e c =
     let both = and_parts (not (is_some s.inside)) (no_levels s.here.state.1) c in
     let none = none_of s.inside both.0 in
     let read : disjunction_marks (disjunction_in s.here) ≡ h.inner = disjunction_sound h.fixed h.inner s.here h.ran both.1 in
-    let inner : h.inner ≡ part_marks (part_in s.here) = sym read
-    ∙ ap (λ qs. barred_marks qs ++ part_marks (part_in s.here)) (h.alone none) in
+    let inner : h.inner ≡ branch_marks (part_in s.here) = sym read
+    ∙ ap (λ qs. barred_marks qs ++ branch_marks (part_in s.here)) (h.alone none) in
     sym (h.marks
     ∙ (ap (λ o. cases_marks s.cases ++ (opening_marks o s.looks ++ h.inner)) none
     ∙ ap (λ us. cases_marks s.cases ++ (guard_marks s.looks ++ us)) inner))
@@ -357,20 +329,14 @@ run_cases_append (m ∷ ms) ns s = by (advance_case s m) (λ u. run_cases_append
     by None h = refl
     by (Some u) h = h u
 
-cond_none : {A : Type 0} (b : Bool) (o : Option A) → o ≡ None → cond b None o ≡ None
-cond_none true o h = refl
-cond_none false o h = h
-
 closed_none : (s : PartsState) → no_levels s.state.1 ≡ true → advance_mark s (token closed) ≡ None
 closed_none s n =
-    cond_none (s.ends && true) _ (cond-false (no_levels s.state.1 && false) _ _ (and_false (no_levels s.state.1))
-    ∙ ap (λ ls. option_map (with_state s) (advance (s.state.0, ls) closed)) (no_level_left s.state.1 n))
+    cond-false (no_levels s.state.1 && false) _ _ (and_false (no_levels s.state.1))
+    ∙ ap (λ ls. option_map (with_state s) (advance (s.state.0, ls) closed)) (no_level_left s.state.1 n)
 
 -- a mark that the branches take, and that does not end them, is taken
 goes_on : (s : CasesState) (m : Mark) (h : PartsState) → (no_levels s.here.state.1 && is_last s.inside m) ≡ false
     → advance_mark s.here m ≡ Some h → advance_case s m ≡ Some (with_here s h)
-goes_on s start h l e = cond-false _ _ _ l ∙ ap (option_map (with_here s)) e
-goes_on s end h l e = cond-false _ _ _ l ∙ ap (option_map (with_here s)) e
 goes_on s (look n) h l e = none_some e
 goes_on s (token t) h l e = cond-false _ _ _ l ∙ ap (option_map (with_here s)) e
 
@@ -439,7 +405,7 @@ runs_looks (k ∷ ks) done cs rest h =
     ∙ ap (λ js. run_cases (behind cs js true) rest) (append_assoc done (k ∷ []) ks)))
 
 abbrev begun : List Case → CasesState
-begun cs = with_here (behind cs [] false) (record { fixed = false; parts = []; starts = true; ends = false; state = (fresh, []) })
+begun cs = with_here (behind cs [] false) (record { fixed = false; parts = []; state = state_before true })
 
 runs_guard : (ks : List Look) (cs : List Case) (rest : List Mark)
     → run_cases (behind cs [] false) (guard_marks ks ++ rest) ≡ run_cases (behind cs ks (has_looks ks)) rest
@@ -448,7 +414,7 @@ runs_guard (k ∷ ks) cs rest =
     ap (λ ms. run_cases (begun cs) (look k.negated ∷ ms)) (append_assoc (disjunction_marks k.content) (token closed ∷ looks_marks ks) rest)
     ∙ (runs_look (begun cs) k (looks_marks ks ++ rest) refl ∙ runs_looks ks (k ∷ []) cs rest refl)
 
-abbrev alone_part : Part → Disjunction
+abbrev alone_part : Branch → Disjunction
 alone_part q = record { before = []; last = q }
 
 abbrev case_end : List Case → Case → CasesState
@@ -456,22 +422,22 @@ case_end cs c = record {
   cases = cs;
   looks = c.looks;
   inside = None;
-  here = (disjunction_complete (has_looks c.looks) (alone_part c.part)).last;
+  here = (disjunction_complete (has_looks c.looks) (alone_part c.branch)).last;
 }
 
 runs_case : (cs : List Case) (c : Case) (rest : List Mark)
     → run_cases (behind cs [] false) (case_marks c ++ rest) ≡ run_cases (case_end cs c) rest
 runs_case cs c rest =
-    let d = disjunction_complete (has_looks c.looks) (alone_part c.part) in
-    ap (run_cases (behind cs [] false)) (append_assoc (guard_marks c.looks) (part_marks c.part) rest)
-    ∙ (runs_guard c.looks cs (part_marks c.part ++ rest)
-    ∙ runs_inner (part_marks c.part) (behind cs c.looks (has_looks c.looks)) d.last rest d.runs (λ f. ap (λ p. p.before) d.whole))
+    let d = disjunction_complete (has_looks c.looks) (alone_part c.branch) in
+    ap (run_cases (behind cs [] false)) (append_assoc (guard_marks c.looks) (branch_marks c.branch) rest)
+    ∙ (runs_guard c.looks cs (branch_marks c.branch ++ rest)
+    ∙ runs_inner (branch_marks c.branch) (behind cs c.looks (has_looks c.looks)) d.last rest d.runs (λ f. ap (λ p. p.before) d.whole))
 
 parts_case : (cs : List Case) (c : Case) → advance_case (case_end cs c) (token bar) ≡ Some (behind (cs ++ c ∷ []) [] false)
 parts_case cs c =
-    let d = disjunction_complete (has_looks c.looks) (alone_part c.part) in
+    let d = disjunction_complete (has_looks c.looks) (alone_part c.branch) in
     cond-true (no_levels d.last.state.1 && true) _ _ (ap (λ b. b && true) d.closed)
-    ∙ ap (λ p. let o : Option CasesState = Some (behind (cs ++ record { looks = c.looks; part = p.last } ∷ []) [] false) in o) d.whole
+    ∙ ap (λ p. let o : Option CasesState = Some (behind (cs ++ record { looks = c.looks; branch = p.last } ∷ []) [] false) in o) d.whole
 
 runs_cases : (cs done : List Case) (rest : List Mark)
     → run_cases (behind done [] false) (cases_marks cs ++ rest) ≡ run_cases (behind (done ++ cs) [] false) rest
@@ -490,13 +456,13 @@ pub record FineCases (s : CasesState) : Type 0 where
   pub looks : AreSmallLooks s.looks
   pub here : Fine s.here
 
-pub cases_small : (cs : List Case) (c : Case) → AreSmallCases cs → AreSmallLooks c.looks → branch_size c.part.branch ≤ size_limit
+pub cases_small : (cs : List Case) (c : Case) → AreSmallCases cs → AreSmallLooks c.looks → branch_size c.branch ≤ size_limit
     → AreSmallCases (cs ++ c ∷ [])
 cases_small [] c a k b = (k, b, tt)
 cases_small (d ∷ cs) c a k b = (a.0, a.1, cases_small cs c a.2 k b)
 
 cases_split : (cs : List Case) (c : Case) → AreSmallCases (cs ++ c ∷ [])
-    → AreSmallCases cs × AreSmallLooks c.looks × (branch_size c.part.branch ≤ size_limit)
+    → AreSmallCases cs × AreSmallLooks c.looks × (branch_size c.branch ≤ size_limit)
 cases_split [] c a = (tt, a.0, a.1)
 cases_split (d ∷ cs) c a = let s = cases_split cs c a.2 in ((a.0, a.1, s.0), s.1, s.2)
 
@@ -520,13 +486,13 @@ pub record RunsPattern (p : Pattern) : Type 0 where
 -- the marks of a pattern lead to a state with no group and no look-ahead open
 pub pattern_complete : (p : Pattern) → RunsPattern p
 pattern_complete p =
-    let d = disjunction_complete (has_looks p.last.looks) (alone_part p.last.part) in
+    let d = disjunction_complete (has_looks p.last.looks) (alone_part p.last.branch) in
     let none = no_level_left d.last.state.1 d.closed in
     record {
       last = case_end p.before p.last;
       runs = runs_cases p.before [] (case_marks p.last)
           ∙ (ap (run_cases (behind p.before [] false)) (sym (append-nil (case_marks p.last))) ∙ runs_case p.before p.last []);
-      whole = ap (λ q. let w : Pattern = record { before = p.before; last = record { looks = p.last.looks; part = q.last } } in w) d.whole;
+      whole = ap (λ q. let w : Pattern = record { before = p.before; last = record { looks = p.last.looks; branch = q.last } } in w) d.whole;
       closed = d.closed;
       fine = λ small.
           let s = cases_split p.before p.last small in
@@ -544,13 +510,14 @@ pub record Back (s u : CasesState) : Type 0 where
   pub fine : FineCases u → FineCases s
 
 fine_before : (h : PartsState) (b : Bool) → is_before h b ≡ true → h.parts ≡ [] → Fine h
-fine_before h b e p =
-    let first = and_parts (not h.ends) (same_bool h.starts b && is_unread h.state) e in
-    let second = and_parts (same_bool h.starts b) (is_unread h.state) first.1 in
-    record {
-      parts = subst AreSmall (sym p) tt;
-      state = subst (λ v. state_size v ≤ size_limit) (sym (unread_fresh h.state second.1)) (omega arith);
-    }
+fine_before h b e p = record {
+  parts = subst AreSmall (sym p) tt;
+  state = subst (λ v. state_size v ≤ size_limit) (sym (before_state h b e)) (by b);
+}
+  where
+    by : (b : Bool) → state_size (state_before b) ≤ size_limit
+    by true = omega arith
+    by false = omega arith
 
 back_ends : (s : CasesState) → is_bare s.here.state.0 s.here.state.1 ≡ true → (s.inside ≡ None → s.here.parts ≡ [])
     → no_levels s.here.state.1 ≡ true → Back s (ended s s.inside)

@@ -1,28 +1,29 @@
 -- What a pattern's trees match is where the pattern is found.
-use Rattle.std.proofs.Common.{◌≡◌, inl, inr, ℕ, Bool, true, false, List, [], ◌∷◌, ◌++◌, length, map, refl, sym, ap, ◌∙◌, arith}
-use Rattle.std.proofs.Common.{true≢false}
+use Rattle.std.proofs.Common.{◌≡◌, inl, inr, ℕ, Bool, true, false, List, [], ◌∷◌, ◌++◌, length, map, Option, Some, None, refl, sym, ap, ◌∙◌}
+use Rattle.std.proofs.Common.{arith, true≢false}
 use Rattle.marked_regexp.specs.Building.{choice_from}
-use Rattle.marked_regexp.specs.Forms.{Form, class, Matches, Parts}
-use Rattle.i_regexp.specs.Patterns.{Part, Disjunction, Look, Case, Pattern, Finds, FindsOne, fixed_part, Unless, Holds, AllHold}
+use Rattle.marked_regexp.specs.Forms.{Form, class, MatchesIn, Matches, Parts}
+use Rattle.i_regexp.specs.Grammar.{Branch}
+use Rattle.i_regexp.specs.Patterns.{Disjunction, Look, Case, Pattern, Finds, FindsOne, Unless, Holds, AllHold}
 use Rattle.i_regexp.specs.Patterns.{has_looks, FindsCase, FindsOneCase, IsFound}
 use Rattle.i_regexp.specs.PatternCases.{look_form, case_form, pattern_form}
-use Rattle.i_regexp.specs.PatternMachine.{open_form, part_form, form_at, disjunction_form}
+use Rattle.i_regexp.specs.PatternMachine.{open_form, form_at, disjunction_form}
 use Rattle.i_regexp.specs.PatternTexts.{unless_form, guarded}
 
-any_parts : (xs : List ℕ) → Parts (Matches (class true [])) (length xs) xs
-any_parts [] = refl
-any_parts (x ∷ xs) = (x ∷ [], xs, refl, (x, refl, refl), any_parts xs)
+any_parts : (before : Option ℕ) (xs : List ℕ) (after : Option ℕ) → Parts (MatchesIn (class true [])) (length xs) before xs after
+any_parts before [] after = refl
+any_parts before (x ∷ xs) after = (x ∷ [], xs, refl, (x, refl, refl), any_parts (Some x) xs after)
 
-open_to : (b : Bool) (xs : List ℕ) → Matches (open_form b) xs → b ≡ true → xs ≡ []
-open_to true xs m e = m
-open_to false xs m e = absurd (true≢false (sym e))
+open_to : (b : Bool) (before : Option ℕ) (xs : List ℕ) (after : Option ℕ) → MatchesIn (open_form b) before xs after → b ≡ true → xs ≡ []
+open_to true before xs after m e = m
+open_to false before xs after m e = absurd (true≢false (sym e))
 
-open_from : (b : Bool) (xs : List ℕ) → (b ≡ true → xs ≡ []) → Matches (open_form b) xs
-open_from true xs h = h refl
-open_from false xs h = (length xs, omega arith, tt, any_parts xs)
+open_from : (b : Bool) (before : Option ℕ) (xs : List ℕ) (after : Option ℕ) → (b ≡ true → xs ≡ []) → MatchesIn (open_form b) before xs after
+open_from true before xs after h = h refl
+open_from false before xs after h = (length xs, omega arith, tt, any_parts before xs after)
 
-part_to : (q : Part) (cs : List ℕ) → Matches (part_form q) cs → Finds q cs
-part_to q cs m =
+part_to : (fixed : Bool) (q : Branch) (cs : List ℕ) → Matches (form_at fixed q) cs → Finds fixed q cs
+part_to fixed q cs m =
     let n = m.4 in
     record {
       before = m.0;
@@ -30,55 +31,54 @@ part_to q cs m =
       after = n.1;
       split = m.2 ∙ ap (λ ys. m.0 ++ ys) n.2;
       matched = n.3;
-      starts = open_to q.starts m.0 m.3;
-      ends = open_to q.ends n.1 n.4;
+      begins = open_to fixed None m.0 _ m.3;
     }
 
-part_from : (q : Part) (cs : List ℕ) → Finds q cs → Matches (part_form q) cs
-part_from q cs f = (
+part_from : (fixed : Bool) (q : Branch) (cs : List ℕ) → Finds fixed q cs → Matches (form_at fixed q) cs
+part_from fixed q cs f = (
   f.before,
   f.part ++ f.after,
   f.split,
-  open_from q.starts f.before f.starts,
-  (f.part, f.after, refl, f.matched, open_from q.ends f.after f.ends),
+  open_from fixed None f.before _ f.begins,
+  (f.part, f.after, refl, f.matched, open_from false _ f.after None (λ e. absurd (true≢false (sym e)))),
 )
 
-parts_to : (fixed : Bool) (q : Part) (qs : List Part) (cs : List ℕ)
-    → Matches (choice_from (form_at fixed q) (map (form_at fixed) qs)) cs → FindsOne (map (fixed_part fixed) (q ∷ qs)) cs
-parts_to fixed q [] cs m = inl (part_to (fixed_part fixed q) cs m)
+parts_to : (fixed : Bool) (q : Branch) (qs : List Branch) (cs : List ℕ)
+    → Matches (choice_from (form_at fixed q) (map (form_at fixed) qs)) cs → FindsOne fixed (q ∷ qs) cs
+parts_to fixed q [] cs m = inl (part_to fixed q cs m)
 parts_to fixed q (r ∷ qs) cs m =
     elim m [
-      | inl a ↦ inl (part_to (fixed_part fixed q) cs a)
+      | inl a ↦ inl (part_to fixed q cs a)
       | inr b ↦ inr (parts_to fixed r qs cs b)
     ]
 
-parts_from : (fixed : Bool) (q : Part) (qs : List Part) (cs : List ℕ) → FindsOne (map (fixed_part fixed) (q ∷ qs)) cs
+parts_from : (fixed : Bool) (q : Branch) (qs : List Branch) (cs : List ℕ) → FindsOne fixed (q ∷ qs) cs
     → Matches (choice_from (form_at fixed q) (map (form_at fixed) qs)) cs
 parts_from fixed q [] cs f =
     elim f [
-      | inl a ↦ part_from (fixed_part fixed q) cs a
+      | inl a ↦ part_from fixed q cs a
       | inr b ↦ absurd b
     ]
 parts_from fixed q (r ∷ qs) cs f =
     elim f [
-      | inl a ↦ inl (part_from (fixed_part fixed q) cs a)
+      | inl a ↦ inl (part_from fixed q cs a)
       | inr b ↦ inr (parts_from fixed r qs cs b)
     ]
 
 disjunction_to : (fixed : Bool) (p : Disjunction) (cs : List ℕ) → Matches (disjunction_form fixed p) cs
-    → FindsOne (map (fixed_part fixed) (p.before ++ p.last ∷ [])) cs
+    → FindsOne fixed (p.before ++ p.last ∷ []) cs
 disjunction_to fixed p cs m = by p.before m
   where
-    by : (qs : List Part) → Matches (disjunction_form fixed (record { before = qs; last = p.last })) cs
-        → FindsOne (map (fixed_part fixed) (qs ++ p.last ∷ [])) cs
+    by : (qs : List Branch) → Matches (disjunction_form fixed (record { before = qs; last = p.last })) cs
+        → FindsOne fixed (qs ++ p.last ∷ []) cs
     by [] m = parts_to fixed p.last [] cs m
     by (q ∷ qs) m = parts_to fixed q (qs ++ p.last ∷ []) cs m
 
-disjunction_from : (fixed : Bool) (p : Disjunction) (cs : List ℕ) → FindsOne (map (fixed_part fixed) (p.before ++ p.last ∷ [])) cs
+disjunction_from : (fixed : Bool) (p : Disjunction) (cs : List ℕ) → FindsOne fixed (p.before ++ p.last ∷ []) cs
     → Matches (disjunction_form fixed p) cs
 disjunction_from fixed p cs f = by p.before f
   where
-    by : (qs : List Part) → FindsOne (map (fixed_part fixed) (qs ++ p.last ∷ [])) cs
+    by : (qs : List Branch) → FindsOne fixed (qs ++ p.last ∷ []) cs
         → Matches (disjunction_form fixed (record { before = qs; last = p.last })) cs
     by [] f = parts_from fixed p.last [] cs f
     by (q ∷ qs) f = parts_from fixed q (qs ++ p.last ∷ []) cs f
@@ -115,12 +115,12 @@ guard_from (k ∷ ks) f cs h m = (look_from k cs h.0, guard_from ks f cs h.1 m)
 
 case_to : (c : Case) (cs : List ℕ) → Matches (case_form c) cs → FindsCase c cs
 case_to c cs m =
-    let g = guard_to c.looks (form_at (has_looks c.looks) c.part) cs m in
-    (g.0, part_to (fixed_part (has_looks c.looks) c.part) cs g.1)
+    let g = guard_to c.looks (form_at (has_looks c.looks) c.branch) cs m in
+    (g.0, part_to (has_looks c.looks) c.branch cs g.1)
 
 case_from : (c : Case) (cs : List ℕ) → FindsCase c cs → Matches (case_form c) cs
 case_from c cs f =
-    guard_from c.looks (form_at (has_looks c.looks) c.part) cs f.0 (part_from (fixed_part (has_looks c.looks) c.part) cs f.1)
+    guard_from c.looks (form_at (has_looks c.looks) c.branch) cs f.0 (part_from (has_looks c.looks) c.branch cs f.1)
 
 cases_to : (c : Case) (rest : List Case) (cs : List ℕ) → Matches (choice_from (case_form c) (map case_form rest)) cs
     → FindsOneCase (c ∷ rest) cs

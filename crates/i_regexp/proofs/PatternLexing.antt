@@ -5,25 +5,26 @@ use Rattle.std.proofs.Common.{Option, Some, None, option_map, refl, sym, ap, ◌
 use Rattle.std.proofs.Common.{length-append}
 use Rattle.std.proofs.lemmas.Bool.{cond-true, cond-false, eqb-true, and_parts, not-true, leb-true, le-leb}
 use Rattle.std.specs.Prelude.{option_and_then}
+use Rattle.marked_regexp.specs.declared.assertion.Assertion.TheVariants.{Start, End, WordBoundary, NotWordBoundary}
 use Rattle.marked_regexp.specs.declared.class.Item.{Item}
 use Rattle.i_regexp.specs.declared.letter.Letter.{Letter}
 use Rattle.i_regexp.specs.declared.letter.Letter.TheVariants.{Literal, Named}
 use Rattle.i_regexp.specs.declared.letter.Set.{Set}
 use Rattle.i_regexp.specs.Fronts.{token_front}
 use Rattle.i_regexp.specs.Grammar as regexp
-use Rattle.i_regexp.specs.Grammar.{Token, characters, opened, closed, bar, quantifier, one, CaretText, begins_with_caret}
+use Rattle.i_regexp.specs.Grammar.{Token, characters, opened, closed, bar, quantifier, asserted, one, CaretText, begins_with_caret}
 use Rattle.i_regexp.specs.Levels.{IsFit}
 use Rattle.i_regexp.specs.PatternMachine.{IsFitMark}
 use Rattle.i_regexp.specs.Patterns as is
 use Rattle.i_regexp.specs.Patterns.{named_letter, hex_digit, byte_of, code_of, value_of, is_high, is_low, is_surrogate, scalar}
 use Rattle.i_regexp.specs.Patterns.{others, PropertyText}
 use Rattle.i_regexp.specs.Patterns.{pair_of, control_of, LetterText, begins_with_digit, follows, ends_class, LettersText}
-use Rattle.i_regexp.specs.Patterns.{class_items, Mark, start, end, look, token, dot, is_normal, Spells, begins_with_question, fits}
+use Rattle.i_regexp.specs.Patterns.{class_items, Mark, look, token, dot, is_normal, Spells, begins_with_question, fits}
 use Rattle.i_regexp.specs.PatternFronts.{literal_front, byte_front, four_front, low_front, half_front, value_front, braced_front}
 use Rattle.i_regexp.specs.PatternFronts.{unit_front}
 use Rattle.i_regexp.specs.PatternFronts.{control_front, null_front, property_front, escape_front, letter_front, letters_step, letters_front}
 use Rattle.i_regexp.specs.PatternFronts.{caret_front, class_of, class_from, class_front, special, opening, eager, repeat_front, letter_mark}
-use Rattle.i_regexp.specs.PatternFronts.{token_mark}
+use Rattle.i_regexp.specs.PatternFronts.{token_mark, escape_mark}
 use Rattle.i_regexp.specs.PatternFronts.{sign_front, fitting, mark_front}
 use Rattle.i_regexp.proofs.Lexing.{cond_cases, then_cases, map_cases, none_some, some_same, not_equal, no_caret, front_sound}
 use Rattle.i_regexp.proofs.Lexing.{front_complete}
@@ -725,6 +726,7 @@ repeat_sound xs m ys e =
     by opened zs cs split s f e = none_some e
     by closed zs cs split s f e = none_some e
     by bar zs cs split s f e = none_some e
+    by (asserted kind) zs cs split s f e = none_some e
     by (quantifier least most) zs cs split s f e = quantifier_sound xs least most cs zs m ys split s f e
 
 escaped_sound : (cs : List ℕ) (m : Mark) (ys : List ℕ) → option_map letter_mark (escape_front cs) ≡ Some (m, ys) → MarkFront (92 ∷ cs) m ys
@@ -738,6 +740,31 @@ escaped_sound cs m ys e =
       fit = subst IsFitMark (ap (λ p. p.0) k.2) tt;
       after = subst (λ us. follows (92 ∷ s.cs) us ≡ true) (ap (λ p. p.1) k.2) s.after;
     }
+
+-- a sign behind a backslash that makes an assertion
+asserted_sound : (l k : ℕ) (u m : Mark) (cs ys : List ℕ) → (l == k) ≡ true
+    → ◌≡◌ {A = Option (Mark × List ℕ)} (Some (u, cs)) (Some (m, ys)) → Spells (92 ∷ k ∷ []) u → IsFitMark u
+    → follows (92 ∷ k ∷ []) ys ≡ true → MarkFront (92 ∷ l ∷ cs) m ys
+asserted_sound l k u m cs ys h e s f after =
+    let same = some_same e in
+    record {
+      cs = 92 ∷ k ∷ [];
+      split = ap (λ y. 92 ∷ y ∷ cs) (eqb-true l k h) ∙ ap (λ p. 92 ∷ k ∷ p.1) same;
+      spelled = subst (Spells (92 ∷ k ∷ [])) (ap (λ p. p.0) same) s;
+      fit = subst IsFitMark (ap (λ p. p.0) same) f;
+      after = after;
+    }
+
+escape_mark_sound : (cs : List ℕ) (m : Mark) (ys : List ℕ) → escape_mark cs ≡ Some (m, ys) → MarkFront (92 ∷ cs) m ys
+escape_mark_sound [] m ys e = none_some e
+escape_mark_sound (l ∷ cs) m ys e =
+    elim (cond_cases (l == 98) _ _ (m, ys) e) [
+      | inl a ↦ asserted_sound l 98 (token (asserted WordBoundary)) m cs ys a.0 a.1 is.boundary tt refl
+      | inr b ↦ elim (cond_cases (l == 66) _ _ (m, ys) b.1) [
+        | inl a ↦ asserted_sound l 66 (token (asserted NotWordBoundary)) m cs ys a.0 a.1 is.no_boundary tt refl
+        | inr n ↦ escaped_sound (l ∷ cs) m ys n.1
+      ]
+    ]
 
 normal_sound : (c : ℕ) (cs : List ℕ) (m : Mark) (ys : List ℕ) → is_normal c ≡ true
     → ◌≡◌ {A = Option (Mark × List ℕ)} (Some (token (one c), cs)) (Some (m, ys)) → MarkFront (c ∷ cs) m ys
@@ -758,9 +785,9 @@ sign_sound : (xs : List ℕ) (m : Mark) (ys : List ℕ) → sign_front xs ≡ So
 sign_sound [] m ys e = none_some e
 sign_sound (c ∷ cs) m ys e =
     elim (cond_cases (c == 94) _ _ (m, ys) e) [
-      | inl a ↦ sign c 94 start m cs ys a.0 a.1 is.begins tt
+      | inl a ↦ sign c 94 (token (asserted Start)) m cs ys a.0 a.1 is.begins tt
       | inr e1 ↦ elim (cond_cases (c == 36) _ _ (m, ys) e1.1) [
-        | inl a ↦ sign c 36 end m cs ys a.0 a.1 is.finishes tt
+        | inl a ↦ sign c 36 (token (asserted End)) m cs ys a.0 a.1 is.finishes tt
         | inr e2 ↦ elim (cond_cases (c == 40) _ _ (m, ys) e2.1) [
           | inl a ↦ at c 40 cs m ys a.0 (opened_sound cs m ys a.1)
           | inr e3 ↦ elim (cond_cases (c == 41) _ _ (m, ys) e3.1) [
@@ -770,7 +797,7 @@ sign_sound (c ∷ cs) m ys e =
               | inr e5 ↦ elim (cond_cases (c == 46) _ _ (m, ys) e5.1) [
                 | inl a ↦ sign c 46 (token dot) m cs ys a.0 a.1 is.any tt
                 | inr e6 ↦ elim (cond_cases (c == 92) _ _ (m, ys) e6.1) [
-                  | inl a ↦ at c 92 cs m ys a.0 (escaped_sound cs m ys a.1)
+                  | inl a ↦ at c 92 cs m ys a.0 (escape_mark_sound cs m ys a.1)
                   | inr e7 ↦ elim (cond_cases (c == 91) _ _ (m, ys) e7.1) [
                     | inl a ↦ at c 91 cs m ys a.0 (class_sound cs m ys a.1)
                     | inr e8 ↦ elim (cond_cases (is_normal c) _ _ (m, ys) e8.1) [
@@ -835,6 +862,32 @@ repeat_complete cs least most s ys =
 regroup_bracket : (hs cs ys : List ℕ) → (hs ++ (cs ++ 93 ∷ [])) ++ ys ≡ hs ++ (cs ++ 93 ∷ ys)
 regroup_bracket hs cs ys = simp append_assoc
 
+-- a letter is no assertion
+no_assertion : (l : ℕ) (cs : List ℕ) → (l == 98) ≡ false → (l == 66) ≡ false
+    → escape_mark (l ∷ cs) ≡ option_map letter_mark (escape_front (l ∷ cs))
+no_assertion l cs a b = cond-false (l == 98) _ _ a ∙ cond-false (l == 66) _ _ b
+
+abbrev behind_first : List ℕ → List ℕ
+behind_first [] = []
+behind_first (c ∷ cs) = cs
+
+abbrev escapes : List ℕ → Bool
+escapes [] = false
+escapes (c ∷ cs) = c == 92
+
+letter_escape : (cs : List ℕ) (x : Letter) → LetterText cs x → (ys : List ℕ) → escapes cs ≡ true
+    → escape_mark (behind_first cs ++ ys) ≡ option_map letter_mark (escape_front (behind_first cs ++ ys))
+letter_escape cs x (is.plain c h) ys e = absurd (true≢false (sym e ∙ h))
+letter_escape cs x (is.named c y h) ys e = no_assertion c ys (named_not c 98 y refl h) (named_not c 66 y refl h)
+letter_escape cs x is.null ys e = refl
+letter_escape cs x (is.control c n h) ys e = refl
+letter_escape cs x (is.byte a b n h) ys e = refl
+letter_escape cs x (is.unit a b c d m n h k) ys e = refl
+letter_escape cs x (is.pair a b c d f g h i k m n o p q) ys e = refl
+letter_escape cs x (is.braced d us m n h k) ys e = refl
+letter_escape cs x (is.property us s h) ys e = refl
+letter_escape cs x (is.no_property us s h) ys e = refl
+
 with_rest : (m : Mark) (xs ys : List ℕ) → xs ≡ ys → ◌≡◌ {A = Option (Mark × List ℕ)} (Some (m, xs)) (Some (m, ys))
 with_rest m xs ys e = ap (λ zs. let o : Option (Mark × List ℕ) = Some (m, zs) in o) e
 
@@ -842,6 +895,8 @@ sign_complete : (cs : List ℕ) (m : Mark) → Spells cs m → (ys : List ℕ) �
     → sign_front (cs ++ ys) ≡ Some (m, ys)
 sign_complete cs m is.begins ys f after = refl
 sign_complete cs m is.finishes ys f after = refl
+sign_complete cs m is.boundary ys f after = refl
+sign_complete cs m is.no_boundary ys f after = refl
 sign_complete cs m is.opens ys f after = opening_other ys (not-true (begins_with_question ys) f)
 sign_complete cs m is.opens_silently ys f after = refl
 sign_complete cs m is.looks ys f after = refl
@@ -859,7 +914,8 @@ sign_complete cs m (is.normal c h) ys f after =
     ∙ (cond-false (c == 92) _ _ (not_equal c 92 (94 ∷ 36 ∷ 40 ∷ 41 ∷ 124 ∷ 46 ∷ []) (91 ∷ 42 ∷ 43 ∷ 63 ∷ 123 ∷ 93 ∷ 125 ∷ []) h)
     ∙ (cond-false (c == 91) _ _ (not_equal c 91 (94 ∷ 36 ∷ 40 ∷ 41 ∷ 124 ∷ 46 ∷ 92 ∷ []) (42 ∷ 43 ∷ 63 ∷ 123 ∷ 93 ∷ 125 ∷ []) h)
     ∙ cond-true (is_normal c) _ _ h)))))))
-sign_complete cs m (is.escape {cs = ds} {x = x} t) ys f after = ap (option_map letter_mark) (letter_complete (92 ∷ ds) x t ys after)
+sign_complete cs m (is.escape {cs = ds} {x = x} t) ys f after =
+    letter_escape (92 ∷ ds) x t ys refl ∙ ap (option_map letter_mark) (letter_complete (92 ∷ ds) x t ys after)
 sign_complete cs m (is.bracket {hs = hs} {cs = ds} {negated = negated} {xs = xs} {is = js} h t first e) ys f after =
     ap (λ zs. option_map token_mark (class_front zs)) (regroup_bracket hs ds ys)
     ∙ ap (option_map token_mark) (class_complete hs negated ds xs js ys h t first e)
@@ -876,6 +932,8 @@ mark_complete cs m s ys f after = ap (option_and_then fitting) (sign_complete cs
 pub mark_some : (cs : List ℕ) (m : Mark) → Spells cs m → 0 < length cs
 mark_some cs m is.begins = omega arith
 mark_some cs m is.finishes = omega arith
+mark_some cs m is.boundary = omega arith
+mark_some cs m is.no_boundary = omega arith
 mark_some cs m is.opens = omega arith
 mark_some cs m is.opens_silently = omega arith
 mark_some cs m is.looks = omega arith

@@ -93,10 +93,7 @@ nothing_behind true = refl
 nothing_behind false = refl
 
 fits_front : (m : Mark) (xs ys : List ℕ) → fits m (xs ++ ys) ≡ true → fits m xs ≡ true
-fits_front is.start xs ys h = refl
 fits_front (is.look negated) xs ys h = refl
-fits_front is.end [] ys h = refl
-fits_front is.end (x ∷ xs) ys h = h
 fits_front (token t) [] ys h = nothing_behind (is.takes_question (token t))
 fits_front (token t) (x ∷ xs) ys h = h
 
@@ -107,6 +104,8 @@ follows_front cs (x ∷ xs) ys h = h
 begins_with : (cs : List ℕ) (m : Mark) → Spells cs m → m ≡ token opened → (ds : List ℕ) × (cs ≡ 40 ∷ ds)
 begins_with cs m is.begins e = cc
 begins_with cs m is.finishes e = cc
+begins_with cs m is.boundary e = cc
+begins_with cs m is.no_boundary e = cc
 begins_with cs m is.opens e = ([], refl)
 begins_with cs m is.opens_silently e = (63 ∷ 58 ∷ [], refl)
 begins_with cs m is.looks e = cc

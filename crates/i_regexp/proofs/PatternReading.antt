@@ -12,12 +12,11 @@ use Rattle.i_regexp.specs.declared.error.IRegexpErrorKind.TheVariants.{Invalid, 
 use Rattle.i_regexp.specs.Grammar.{opened}
 use Rattle.i_regexp.specs.Levels.{advance, state_size}
 use Rattle.i_regexp.specs.Limits.{depth_limit, size_limit, begins_group, ends_group}
-use Rattle.i_regexp.specs.PatternMachine.{same_bool}
 use Rattle.i_regexp.specs.Patterns as is
-use Rattle.i_regexp.specs.Patterns.{Mark, start, end, look, token, Spelled, are_distinct, Pattern, pattern_marks, IsText, IsSmall}
+use Rattle.i_regexp.specs.Patterns.{Mark, look, token, Spelled, are_distinct, Pattern, pattern_marks, IsText, IsSmall}
 use Rattle.i_regexp.specs.Patterns.{has_looks, AreSmallCases}
 use Rattle.i_regexp.specs.PatternFronts.{next_front, Takes, TakesName}
-use Rattle.i_regexp.specs.PatternMachine.{PartsState, no_levels, is_before, is_unread, is_bar, with_state, advance_mark}
+use Rattle.i_regexp.specs.PatternMachine.{PartsState, no_levels, is_before, is_bar, with_state, advance_mark}
 use Rattle.i_regexp.specs.PatternCases.{CasesState, no_cases, is_closed, case_in, pattern_in, ended, is_last, advance_case, run_cases}
 use Rattle.i_regexp.specs.PatternCases.{CasesMean, StandsFor, TakesCase, FinishesCases}
 use Rattle.i_regexp.specs.PatternReading.{begins_one, ends_one, begun_groups, ended_groups, OpensTooMany, IsNone, Says, Refused}
@@ -28,7 +27,7 @@ use Rattle.i_regexp.specs.PatternReading.{is_outside, kind_at, SaysOf, IsRefused
 use Rattle.i_regexp.proofs.Lexing.{cond_cases, map_cases, none_some, some_same}
 use Rattle.i_regexp.proofs.PatternNames.{next_sound, mark_complete_next, name_complete_next, distinct_front}
 use Rattle.i_regexp.proofs.PatternMachine.{no_level_left, is_the_bar}
-use Rattle.i_regexp.proofs.PatternCases.{Step, opening, ending, going, step_of, parting_bar, closing_closed, none_of, unread_fresh}
+use Rattle.i_regexp.proofs.PatternCases.{Step, opening, ending, going, step_of, parting_bar, closing_closed, none_of, before_closed}
 use Rattle.i_regexp.proofs.PatternCases.{pattern_sound, run_cases_append, pattern_complete, case_back, run_fine}
 use Rattle.i_regexp.proofs.Refusing.{step_depth, outer_length}
 
@@ -229,32 +228,19 @@ all_large text rest after b m names ns r e takes p t small =
 
 step_groups : (s : PartsState) (m : Mark) (u : PartsState) → advance_mark s m ≡ Some u
     → length s.state.1 + begins_one m ≡ length u.state.1 + ends_one m
-step_groups s start u e =
-    elim (cond_cases (s.ends || (s.starts || not (is_unread s.state))) _ _ u e) [
-      | inl a ↦ none_some a.1
-      | inr n ↦ ap (λ v. length v.state.1 + 0) (some_same n.1)
-    ]
 step_groups s (look negated) u e = none_some e
-step_groups s end u e =
-    elim (cond_cases (s.ends || not (no_levels s.state.1)) _ _ u e) [
-      | inl a ↦ none_some a.1
-      | inr n ↦ ap (λ v. length v.state.1 + 0) (some_same n.1)
-    ]
 step_groups s (token t) u e =
-    elim (cond_cases (s.ends && not (is_bar t)) _ _ u e) [
-      | inl a ↦ none_some a.1
-      | inr c ↦ elim (cond_cases (no_levels s.state.1 && is_bar t) _ _ u c.1) [
-        | inl a ↦
-            let both = and_parts (no_levels s.state.1) (is_bar t) a.0 in
-            let none : length s.state.1 ≡ 0 = ap length (no_level_left s.state.1 both.0) in
-            let same : 0 ≡ length u.state.1 = ap (λ v. length v.state.1) (some_same a.1) in
-            let first : begins_group t ≡ 0 = ap begins_group (is_the_bar t both.1) in
-            let last : ends_group t ≡ 0 = ap ends_group (is_the_bar t both.1) in
-            omega arith
-        | inr n ↦
-            let m = map_cases (with_state s) (advance s.state t) u n.1 in
-            subst (λ v. length s.state.1 + begins_group t ≡ length v.state.1 + ends_group t) m.2 (step_depth s.state t m.0 m.1)
-      ]
+    elim (cond_cases (no_levels s.state.1 && is_bar t) _ _ u e) [
+      | inl a ↦
+          let both = and_parts (no_levels s.state.1) (is_bar t) a.0 in
+          let none : length s.state.1 ≡ 0 = ap length (no_level_left s.state.1 both.0) in
+          let same : 0 ≡ length u.state.1 = ap (λ v. length v.state.1) (some_same a.1) in
+          let first : begins_group t ≡ 0 = ap begins_group (is_the_bar t both.1) in
+          let last : ends_group t ≡ 0 = ap ends_group (is_the_bar t both.1) in
+          omega arith
+      | inr n ↦
+          let m = map_cases (with_state s) (advance s.state t) u n.1 in
+          subst (λ v. length s.state.1 + begins_group t ≡ length v.state.1 + ends_group t) m.2 (step_depth s.state t m.0 m.1)
     ]
 
 -- a look-ahead counts as a group
@@ -296,9 +282,8 @@ case_groups s m u e = by (step_of s m u e)
     by : Step s m u → open_groups s + begins_one m ≡ open_groups u + ends_one m
     by (opening x i k f) =
         let both = and_parts (not (is_some s.inside)) (is_before s.here (not (has_looks s.looks))) k in
-        let first = and_parts (not s.here.ends) (same_bool s.here.starts (not (has_looks s.looks)) && is_unread s.here.state) both.1 in
-        let second = and_parts (same_bool s.here.starts (not (has_looks s.looks))) (is_unread s.here.state) first.1 in
-        let zero : length s.here.state.1 ≡ 0 = ap (λ v. length v.1) (unread_fresh s.here.state second.1) in
+        let out = before_closed s.here (not (has_looks s.looks)) both.1 in
+        let zero : length s.here.state.1 ≡ 0 = ap length (no_level_left s.here.state.1 out) in
         let none : one_open s.inside ≡ 0 = ap one_open (none_of s.inside both.0) in
         let begun : begins_one m ≡ 1 = ap begins_one i in
         let over : ends_one m ≡ 0 = ap ends_one i in

@@ -8,7 +8,7 @@ use Rattle.i_regexp.specs.declared.error.IRegexpErrorKind.TheVariants.{Invalid, 
 use Rattle.i_regexp.specs.declared.reader.Level.{Level as CodeLevel}
 use Rattle.i_regexp.specs.Fronts.{Fronts, token_front, token_of}
 use Rattle.i_regexp.specs.Grammar as is
-use Rattle.i_regexp.specs.Grammar.{Token, characters, opened, closed, bar, quantifier, Spells, Spelled, IsText}
+use Rattle.i_regexp.specs.Grammar.{Token, characters, opened, closed, bar, quantifier, asserted, Spells, Spelled, IsText}
 use Rattle.i_regexp.specs.Levels.{Level, State, fresh, with_atom, regexp_of, quantified, in_state, advance, Outer, Agrees, Takes}
 use Rattle.i_regexp.specs.Levels.{run, state_size}
 use Rattle.i_regexp.specs.Limits.{depth_limit, size_limit, LargeCount, begins_group, ends_group, begun_groups, ended_groups}
@@ -91,6 +91,7 @@ step_depth s (quantifier least most) u e = by (quantified s.0 least most) e
     by : (o : Option Level) → in_state s.1 o ≡ Some u → length s.1 + 0 ≡ length u.1 + 0
     by None f = absurd (none_some f)
     by (Some l) f = let same = ap (λ x. length x.1) (some_state f) in omega arith
+step_depth s (asserted kind) u e = let same = ap (λ x. length x.1) (some_state e) in omega arith
 
 run_depth : (ts : List Token) (s u : State) → run s ts ≡ Some u → length s.1 + begun_groups ts ≡ length u.1 + ended_groups ts
 run_depth [] s u e = let same = ap (λ x. length x.1) (some_state e) in omega arith

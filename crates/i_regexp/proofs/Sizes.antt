@@ -3,10 +3,12 @@ use Rattle.std.proofs.Common.{◌≡◌, ℕ, suc, ◌+◌, ◌-◌, ◌*◌, �
 use Rattle.std.proofs.Common.{refl, ap, arith}
 use Rattle.std.specs.Prelude.{option_and_then, min, ◌^◌}
 use Rattle.i_regexp.specs.declared.reader.Level.{Level as CodeLevel}
-use Rattle.i_regexp.specs.Grammar.{Token, characters, opened, closed, bar, quantifier, Branch, Piece, once, times, Atom, character, group}
+use Rattle.marked_regexp.specs.declared.assertion.Assertion.{Assertion}
+use Rattle.i_regexp.specs.Grammar.{Token, characters, opened, closed, bar, quantifier, asserted, Branch, Piece, once, times, asserts}
+use Rattle.i_regexp.specs.Grammar.{Atom, character, group}
 use Rattle.i_regexp.specs.Levels.{Level, level, State, fresh, settled, with_atom, branch_of, regexp_from, barred, regexp_of, quantified}
 use Rattle.i_regexp.specs.Levels.{in_state, advance, pieces_size, end_size, branches_size, level_size, outer_size, state_size}
-use Rattle.i_regexp.specs.Levels.{LastSized, IsSized, run}
+use Rattle.i_regexp.specs.Levels.{LastSized, IsSized, run, with_assertion}
 use Rattle.i_regexp.specs.Limits.{size_limit, repeated, regexp_size, branch_size, piece_size, atom_size}
 
 pieces_push : (ps : List Piece) (p : Piece) → pieces_size (ps ++ p ∷ []) ≡ pieces_size ps + piece_size p
@@ -38,6 +40,12 @@ regexp_of_size (level bs ps end) =
 
 pub with_atom_size : (l : Level) (a : Atom) → level_size (with_atom l a) ≡ level_size l + atom_size a
 with_atom_size (level bs ps end) a = let h = settled_size ps end in omega arith
+
+pub with_assertion_size : (l : Level) (kind : Assertion) → level_size (with_assertion l kind) ≡ suc (level_size l)
+with_assertion_size (level bs ps end) kind =
+    let a = pieces_push (settled ps end) (asserts kind) in
+    let b = settled_size ps end in
+    omega arith
 
 pub barred_size : (l : Level) → level_size (barred l) ≡ suc (level_size l)
 barred_size (level bs ps end) =
@@ -77,6 +85,8 @@ advance_grows s (quantifier least most) u e = by s.0 e
         let same = ap state_size (some_state f) in
         let h = quantified_size bs ps a least most in
         omega arith
+advance_grows s (asserted kind) u e =
+    let same = ap state_size (some_state e) in let h = with_assertion_size s.0 kind in omega arith
 
 pub run_grows : (ts : List Token) (s u : State) → run s ts ≡ Some u → state_size s ≤ state_size u
 run_grows [] s u e = let same = ap state_size (some_state e) in omega arith
@@ -114,6 +124,9 @@ barred_sized f g l ls s e m =
     let h = barred_size l in
     let k = s.size in
     record { size = omega arith; few = omega arith; ended = barred_last g l }
+
+assertion_last : (f : CodeLevel) (l : Level) (kind : Assertion) → LastSized f (with_assertion l kind)
+assertion_last f (level bs ps end) kind = tt
 
 pub quantified_sized : (f g : CodeLevel) (bs : List Branch) (ps : List Piece) (a : Atom) (least : ℕ) (most : Option ℕ) (ls : List Level)
     → IsSized f (level bs ps (Some a), ls) → g.size ≡ f.size + repeated least most * f.last_size → g.size ≤ size_limit
@@ -172,6 +185,19 @@ barred_grown f g l ls size s w e =
     let sum = w.0 in
     let few = w.1 in
     barred_sized f g l ls s (omega arith) (omega arith)
+
+pub assertion_grown : (f g : CodeLevel) (l : Level) (ls : List Level) (kind : Assertion) (size : ℕ) → IsSized f (l, ls)
+    → (size ≡ f.size + 1) × (size ≤ size_limit) → g.size ≡ size → IsSized g (with_assertion l kind, ls)
+assertion_grown f g l ls kind size s w e =
+    let h = with_assertion_size l kind in
+    let k = s.size in
+    let sum = w.0 in
+    let few = w.1 in
+    record { size = omega arith; few = omega arith; ended = assertion_last g l kind }
+
+pub assertion_large : (f : CodeLevel) (l : Level) (ls : List Level) (kind : Assertion) → IsSized f (l, ls) → size_limit < f.size + 1
+    → size_limit < state_size (with_assertion l kind, ls)
+assertion_large f l ls kind s m = let h = with_assertion_size l kind in let k = s.size in omega arith
 
 pub barred_large : (f : CodeLevel) (l : Level) (ls : List Level) → IsSized f (l, ls) → size_limit < f.size + 1
     → size_limit < state_size (barred l, ls)

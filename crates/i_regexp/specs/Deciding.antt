@@ -2,7 +2,8 @@
 use Rattle.std.specs.Prelude.{ℕ, zero, suc, ◌+◌, Bool, true, false, not, ◌&&◌, ◌||◌, nat_le, List, [], ◌∷◌, length, Option, Some, None}
 use Rattle.std.specs.Prelude.{option_map, option_and_then}
 use Rattle.marked_regexp.specs.declared.class.Item.{Item}
-use Rattle.marked_regexp.specs.Forms.{Form, empty, class, concat, alternation, repetition, both, no, is_in_class}
+use Rattle.marked_regexp.specs.Forms.{Form, empty, class, assertion, concat, alternation, repetition, both, no, is_in_class, holds}
+use Rattle.marked_regexp.specs.Forms.{next_of, last_of}
 use Rattle.i_regexp.specs.Fronts.{token_front}
 use Rattle.i_regexp.specs.Grammar.{Token, Regexp, regexp_form}
 use Rattle.i_regexp.specs.Levels.{State, fresh, regexp_of, run}
@@ -22,36 +23,52 @@ is_one_in negated items [] = false
 is_one_in negated items (c ∷ []) = is_in_class negated items c
 is_one_in negated items (c ∷ d ∷ cs) = false
 
--- the text has that many parts, one after the other, and the test is true for each
-abbrev pub are_parts : (List ℕ → Bool) → ℕ → List ℕ → Bool
-are_parts f zero cs = is_empty cs
-are_parts f (suc n) cs = splits (λ xs ys. f xs && are_parts f n ys) cs
+-- a test of a part of a text, between the characters before and after it
+abbrev pub PartTest : Type 0
+PartTest = Option ℕ → List ℕ → Option ℕ → Bool
+
+-- the part has two parts, one after the other, for which these tests are true
+abbrev pub both_in : PartTest → PartTest → Option ℕ → List ℕ → Option ℕ → Bool
+both_in f g before cs after = splits (λ xs ys. f before xs (next_of ys after) && g (last_of before xs) ys after) cs
+
+-- the part has that many parts, one after the other, and the test is true for each
+abbrev pub are_parts : PartTest → ℕ → Option ℕ → List ℕ → Option ℕ → Bool
+are_parts f zero before cs after = is_empty cs
+are_parts f (suc n) before cs after = both_in f (are_parts f n) before cs after
 
 abbrev pub is_at_most : ℕ → Option ℕ → Bool
 is_at_most n None = true
 is_at_most n (Some most) = nat_le n most
 
-abbrev pub is_count : (List ℕ → Bool) → ℕ → Option ℕ → List ℕ → ℕ → Bool
-is_count f least most cs n = nat_le least n && (is_at_most n most && are_parts f n cs)
+abbrev pub is_count : (ℕ → Bool) → ℕ → Option ℕ → ℕ → Bool
+is_count parts least most n = nat_le least n && (is_at_most n most && parts n)
 
 -- the test is true for a number up to n
 abbrev pub some_below : (ℕ → Bool) → ℕ → Bool
 some_below f zero = f zero
 some_below f (suc n) = f (suc n) || some_below f n
 
--- whether the regular expression matches the whole text; more parts than the least and the characters are never needed
+-- whether the regular expression matches the whole part, between the characters before and after it; more parts than the least and the
+-- characters are never needed
+abbrev pub matches_in : Form → Option ℕ → List ℕ → Option ℕ → Bool
+matches_in empty before cs after = is_empty cs
+matches_in (class negated items) before cs after = is_one_in negated items cs
+matches_in (assertion kind) before cs after = is_empty cs && holds kind before after
+matches_in (concat r s) before cs after = both_in (matches_in r) (matches_in s) before cs after
+matches_in (alternation r s) before cs after = matches_in r before cs after || matches_in s before cs after
+matches_in (repetition r least most) before cs after =
+    some_below (is_count (λ n. are_parts (matches_in r) n before cs after) least most) (least + length cs)
+matches_in (both r s) before cs after = matches_in r before cs after && matches_in s before cs after
+matches_in (no r) before cs after = not (matches_in r before cs after)
+
+-- whether the regular expression matches the whole text
 abbrev pub matches : Form → List ℕ → Bool
-matches empty cs = is_empty cs
-matches (class negated items) cs = is_one_in negated items cs
-matches (concat r s) cs = splits (λ xs ys. matches r xs && matches s ys) cs
-matches (alternation r s) cs = matches r cs || matches s cs
-matches (repetition r least most) cs = some_below (is_count (matches r) least most cs) (least + length cs)
-matches (both r s) cs = matches r cs && matches s cs
-matches (no r) cs = not (matches r cs)
+matches r cs = matches_in r None cs None
 
 -- whether the regular expression matches a part of the text
 abbrev pub searches : Form → List ℕ → Bool
-searches r cs = splits (λ before rest. splits (λ part after. matches r part) rest) cs
+searches r cs =
+    splits (λ before rest. splits (λ part after. matches_in r (last_of None before) part (next_of after None)) rest) cs
 
 abbrev pub with_token : Token → List Token → List Token
 with_token t ts = t ∷ ts

@@ -13,8 +13,8 @@ use Rattle.i_regexp.specs.declared.error.IRegexpErrorKind.{IRegexpErrorKind}
 use Rattle.i_regexp.specs.declared.error.IRegexpErrorKind.TheVariants as kind
 use Rattle.i_regexp.specs.declared.token.Token.TheVariants as is
 use Rattle.i_regexp.specs.declared.token.Token.{Token as CodeToken}
-use Rattle.i_regexp.specs.Grammar.{Token, characters, opened, closed, bar, quantifier, one, any, is_normal, is_plain, is_digit}
-use Rattle.i_regexp.specs.Grammar.{escape_of}
+use Rattle.i_regexp.specs.Grammar.{Token, characters, opened, closed, bar, quantifier, asserted, one, any, is_normal, is_plain}
+use Rattle.i_regexp.specs.Grammar.{is_digit, escape_of}
 
 -- the result of parsing the front of the text: o, unless another error occurs; too large only with
 -- `Large`
@@ -32,6 +32,7 @@ token_of is.Open = opened
 token_of is.Close = closed
 token_of is.Bar = bar
 token_of (is.Quantifier least most) = quantifier least most
+token_of (is.Assertion kind) = asserted kind
 
 -- the character of an escape, after its backslash
 abbrev pub escape_front : List ℕ → Option (ℕ × List ℕ)

@@ -7,19 +7,22 @@ use Rattle.i_regexp.specs.Characters.{right_bracket, reverse_solidus, letter_n, 
 use Rattle.i_regexp.specs.Characters.{carriage_return, horizontal_tab}
 use Rattle.general_category.specs.Categories.{named}
 use Rattle.general_category.specs.declared.Category.{Category}
+use Rattle.marked_regexp.specs.declared.assertion.Assertion.{Assertion}
 use Rattle.marked_regexp.specs.declared.class.Item.{Item}
 use Rattle.marked_regexp.specs.declared.class.Item.TheVariants.{Range, In, NotIn}
-use Rattle.marked_regexp.specs.Forms.{Form, empty, class, concat, alternation, repetition}
+use Rattle.marked_regexp.specs.Forms.{Form, empty, class, assertion, concat, alternation, repetition}
 
 -- ---- tokens
 
--- a token: one character of a class, a parenthesis, a bar, or a quantifier with its counts
+-- a token: one character of a class, a parenthesis, a bar, a quantifier with its counts, or an
+-- assertion, which only the patterns of JSON Schema have
 pub data Token : Type 0 where
   characters : (negated : Bool) (items : List Item) → Token
   opened : Token
   closed : Token
   bar : Token
   quantifier : (least : ℕ) (most : Option ℕ) → Token
+  asserted : (kind : Assertion) → Token
 
 -- this character only
 abbrev pub one : ℕ → Token
@@ -148,7 +151,7 @@ pub data Spelled : List ℕ → List Token → Type 0 where
 -- ---- expressions
 
 -- i-regexp: branches with bars between them; branch: pieces; piece: an atom, which may have a
--- quantifier
+-- quantifier, or in a pattern of JSON Schema an assertion (ECMA-262, Term)
 mutual
   pub data Regexp : Type 0 where
     last : Branch → Regexp
@@ -161,6 +164,7 @@ mutual
   pub data Piece : Type 0 where
     once : Atom → Piece
     times : Atom → (least : ℕ) (most : Option ℕ) → Piece
+    asserts : (kind : Assertion) → Piece
 
   pub data Atom : Type 0 where
     character : (negated : Bool) (items : List Item) → Atom
@@ -179,6 +183,7 @@ abbrev mutual
   pub piece_tokens : Piece → List Token
   piece_tokens (once a) = atom_tokens a
   piece_tokens (times a least most) = atom_tokens a ++ quantifier least most ∷ []
+  piece_tokens (asserts kind) = asserted kind ∷ []
 
   pub atom_tokens : Atom → List Token
   atom_tokens (character negated items) = characters negated items ∷ []
@@ -197,6 +202,7 @@ abbrev mutual
   pub piece_form : Piece → Form
   piece_form (once a) = atom_form a
   piece_form (times a least most) = repetition (atom_form a) least most
+  piece_form (asserts kind) = assertion kind
 
   pub atom_form : Atom → Form
   atom_form (character negated items) = class negated items

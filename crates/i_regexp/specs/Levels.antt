@@ -3,13 +3,14 @@ use Rattle.std.specs.Prelude.{◌≡◌, ℕ, suc, ◌+◌, ◌≤◌, ◌<◌, 
 use Rattle.std.specs.Prelude.{option_and_then, Result, Ok, Err}
 use Rattle.i_regexp.specs.declared.error.IRegexpErrorKind.{IRegexpErrorKind}
 use Rattle.i_regexp.specs.declared.error.IRegexpErrorKind.TheVariants as kind
+use Rattle.marked_regexp.specs.declared.assertion.Assertion.{Assertion}
 use Rattle.marked_regexp.specs.declared.expression.Expression.{Expression}
 use Rattle.i_regexp.specs.declared.reader.Level.{Level as CodeLevel}
 use Rattle.marked_regexp.specs.Forms.{AtMost}
 use Rattle.marked_regexp.specs.Building.{Means, AllMean}
 use Rattle.i_regexp.specs.Limits.{depth_limit, size_limit, branch_size, piece_size, atom_size}
-use Rattle.i_regexp.specs.Grammar.{Token, characters, opened, closed, bar, quantifier, Regexp, last, branches, Branch, nothing, pieces}
-use Rattle.i_regexp.specs.Grammar.{Piece, once, times, Atom, character, group, branch_form, piece_form, atom_form}
+use Rattle.i_regexp.specs.Grammar.{Token, characters, opened, closed, bar, quantifier, asserted, Regexp, last, branches, Branch}
+use Rattle.i_regexp.specs.Grammar.{nothing, pieces, Piece, once, times, asserts, Atom, character, group, branch_form, piece_form, atom_form}
 
 -- what was parsed of a group: the branches that have ended, the pieces of the last one, and the
 -- atom after these
@@ -36,6 +37,10 @@ settle (level bs ps end) = level bs (settled ps end) None
 -- one more atom
 abbrev pub with_atom : Level → Atom → Level
 with_atom (level bs ps end) a = level bs (settled ps end) (Some a)
+
+-- one more assertion, which is not repeated
+abbrev pub with_assertion : Level → Assertion → Level
+with_assertion (level bs ps end) kind = level bs (settled ps end ++ asserts kind ∷ []) None
 
 -- the pieces as a branch
 abbrev pub branch_of : List Piece → Branch
@@ -77,6 +82,7 @@ advance s opened = Some (fresh, s.0 ∷ s.1)
 advance s closed = close s.0 s.1
 advance s bar = Some (barred s.0, s.1)
 advance s (quantifier least most) = in_state s.1 (quantified s.0 least most)
+advance s (asserted kind) = Some (with_assertion s.0 kind, s.1)
 
 -- the tokens are read, one after the other
 abbrev pub run : State → List Token → Option State

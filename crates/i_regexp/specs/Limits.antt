@@ -4,7 +4,7 @@ use Rattle.std.specs.Prelude.{Option, Some, None}
 use Rattle.marked_regexp.specs.declared.class.Item.{Item}
 use Rattle.i_regexp.specs.Characters.{left_brace, comma}
 use Rattle.i_regexp.specs.Grammar.{Token, opened, closed, is_digit, are_digits, count, Regexp, last, branches, Branch, nothing, pieces}
-use Rattle.i_regexp.specs.Grammar.{Piece, once, times, Atom, character, group}
+use Rattle.i_regexp.specs.Grammar.{Piece, once, times, asserts, Atom, character, group}
 
 -- how many groups may be nested
 abbrev pub depth_limit : ℕ
@@ -43,8 +43,8 @@ repeated least (Some most) = most - 1
 abbrev pub class_size : List Item → ℕ
 class_size items = suc (length items / 16)
 
--- The size: each group and bar counts as 1, a class by its items, and a repeated part as often as it
--- is written out. That is n times for {m,n}, though at least once, and m + 1 times for {m,}.
+-- The size: each group, bar and assertion counts as 1, a class by its items, and a repeated part as
+-- often as it is written out. That is n times for {m,n}, though at least once, and m + 1 times for {m,}.
 abbrev mutual
   pub regexp_size : Regexp → ℕ
   regexp_size (last b) = branch_size b
@@ -57,6 +57,7 @@ abbrev mutual
   pub piece_size : Piece → ℕ
   piece_size (once a) = atom_size a
   piece_size (times a least most) = atom_size a + repeated least most * atom_size a
+  piece_size (asserts kind) = 1
 
   pub atom_size : Atom → ℕ
   atom_size (character negated items) = class_size items

@@ -9,15 +9,14 @@ use Rattle.i_regexp.specs.declared.error.IRegexpErrorKind.{IRegexpErrorKind}
 use Rattle.i_regexp.specs.declared.error.IRegexpErrorKind.TheVariants as kind
 use Rattle.i_regexp.specs.declared.outermost.Outermost.{Outermost}
 use Rattle.marked_regexp.specs.Automaton.{expression_of}
-use Rattle.marked_regexp.specs.Building.{Means, choice}
+use Rattle.marked_regexp.specs.Building.{choice}
 use Rattle.marked_regexp.specs.Forms.{Form}
 use Rattle.i_regexp.specs.Grammar.{Token, opened, closed}
 use Rattle.i_regexp.specs.Levels.{state_size}
 use Rattle.i_regexp.specs.Limits.{depth_limit, size_limit}
-use Rattle.i_regexp.specs.Patterns as pattern
 use Rattle.i_regexp.specs.Patterns.{Mark, token, look, Look, Case, Pattern, has_looks, AreSmallLooks, AreSmallCases}
 use Rattle.i_regexp.specs.PatternMachine.{PartsState, initial, no_levels, is_before, is_bar, part_in, disjunction_in, advance_mark}
-use Rattle.i_regexp.specs.PatternMachine.{form_at, disjunction_form, AgreesAt}
+use Rattle.i_regexp.specs.PatternMachine.{form_at, disjunction_form, MeansWhole, AgreesAt}
 use Rattle.i_regexp.specs.PatternTexts.{unless_form, guarded}
 
 -- The outermost branches that have ended, the look-aheads of the last one, whether the open
@@ -38,7 +37,7 @@ is_closed s = not (is_some s.inside) && no_levels s.here.state.1
 
 -- the last branch, as if it ended here
 abbrev pub case_in : CasesState → Case
-case_in s = record { looks = s.looks; part = part_in s.here }
+case_in s = record { looks = s.looks; branch = part_in s.here }
 
 -- the pattern, as if it ended here
 abbrev pub pattern_in : CasesState → Pattern
@@ -62,8 +61,6 @@ abbrev pub with_here : CasesState → PartsState → CasesState
 with_here s h = record { cases = s.cases; looks = s.looks; inside = s.inside; here = h }
 
 abbrev pub is_parting : Mark → Bool
-is_parting pattern.start = false
-is_parting pattern.end = false
 is_parting (look negated) = false
 is_parting (token t) = is_bar t
 
@@ -72,8 +69,6 @@ is_close closed = true
 is_close t = false
 
 abbrev pub is_closing : Mark → Bool
-is_closing pattern.start = false
-is_closing pattern.end = false
 is_closing (look negated) = false
 is_closing (token t) = is_close t
 
@@ -97,8 +92,6 @@ advance_other s m =
 
 -- a mark is read
 abbrev pub advance_case : CasesState → Mark → Option CasesState
-advance_case s pattern.start = advance_other s pattern.start
-advance_case s pattern.end = advance_other s pattern.end
 advance_case s (look negated) = cond (may_look s) (Some (opened_look s negated)) None
 advance_case s (token t) = advance_other s (token t)
 
@@ -113,7 +106,7 @@ abbrev pub look_form : Look → Form
 look_form k = unless_form k.negated (disjunction_form true k.content)
 
 abbrev pub case_form : Case → Form
-case_form c = guarded (map look_form c.looks) (form_at (has_looks c.looks) c.part)
+case_form c = guarded (map look_form c.looks) (form_at (has_looks c.looks) c.branch)
 
 abbrev pub pattern_form : Pattern → Form
 pattern_form p = choice (map case_form (p.before ++ p.last ∷ []))
@@ -123,7 +116,7 @@ pattern_form p = choice (map case_form (p.before ++ p.last ∷ []))
 -- the trees match what the look-aheads and the branches match, one by one
 pub record LookMeans (n : LookTree) (k : Look) : Type 0 where
   pub negated : n.negated ≡ k.negated
-  pub root : Means n.root (disjunction_form true k.content)
+  pub root : MeansWhole n.root (disjunction_form true k.content)
 
 abbrev pub LooksMean : List LookTree → List Look → Type 0
 LooksMean [] [] = Unit {0}
@@ -133,7 +126,7 @@ LooksMean (n ∷ ns) (k ∷ ks) = LookMeans n k × LooksMean ns ks
 
 pub record CaseMeans (n : CaseTree) (c : Case) : Type 0 where
   pub looks : LooksMean n.looks.items c.looks
-  pub root : Means (expression_of n.root) (form_at (has_looks c.looks) c.part)
+  pub root : MeansWhole (expression_of n.root) (form_at (has_looks c.looks) c.branch)
 
 abbrev pub CasesMean : List CaseTree → List Case → Type 0
 CasesMean [] [] = Unit {0}
@@ -193,7 +186,5 @@ FinishesCases old (Err kind.OutOfMemory) = Unit {0}
 
 -- the mark begins no look-ahead
 abbrev pub is_other : Mark → Bool
-is_other pattern.start = true
-is_other pattern.end = true
 is_other (look negated) = false
 is_other (token t) = true

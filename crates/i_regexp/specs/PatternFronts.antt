@@ -11,6 +11,7 @@ use Rattle.i_regexp.specs.declared.error.IRegexpErrorKind.TheVariants as kind
 use Rattle.i_regexp.specs.Characters.{left_parenthesis, right_parenthesis, vertical_bar, question_mark, full_stop, left_bracket, circumflex}
 use Rattle.i_regexp.specs.Characters.{reverse_solidus, left_brace, right_brace, digit_zero, letter_p, capital_p}
 use Rattle.general_category.specs.Names.{value_named}
+use Rattle.marked_regexp.specs.declared.assertion.Assertion.TheVariants.{Start, End, WordBoundary, NotWordBoundary}
 use Rattle.marked_regexp.specs.declared.class.Item.{Item}
 use Rattle.i_regexp.specs.declared.letter.Letter.{Letter}
 use Rattle.i_regexp.specs.declared.letter.Letter.TheVariants.{Plain, Literal, Named}
@@ -19,18 +20,16 @@ use Rattle.i_regexp.specs.declared.letter.Set.TheVariants as set
 use Rattle.i_regexp.specs.declared.mark.Mark.TheVariants as code
 use Rattle.i_regexp.specs.declared.mark.Mark.{Mark as CodeMark}
 use Rattle.i_regexp.specs.Fronts.{token_of, token_front}
-use Rattle.i_regexp.specs.Grammar.{Token, characters, opened, closed, bar, quantifier, one}
+use Rattle.i_regexp.specs.Grammar.{Token, characters, opened, closed, bar, quantifier, asserted, one}
 use Rattle.i_regexp.specs.Patterns.{dollar_sign, colon, equals_sign, exclamation_mark, letter_c, letter_x, letter_u, letter_items}
 use Rattle.i_regexp.specs.Patterns.{named_letter, hex_digit, byte_of}
 use Rattle.i_regexp.specs.Patterns.{code_of, is_high, scalar, pair_of, control_of, begins_with_digit, others}
 use Rattle.i_regexp.specs.Limits.{LargeCount}
-use Rattle.i_regexp.specs.Patterns.{ends_class, is_dash, class_items, Mark, start, end, look, token, dot, is_normal, fits}
+use Rattle.i_regexp.specs.Patterns.{ends_class, is_dash, class_items, letter_b, capital_b, Mark, look, token, dot, is_normal, fits}
 use Rattle.i_regexp.specs.Patterns.{less_than, greater_than, is_group_name, are_distinct}
 
 -- the view of the code's mark
 abbrev pub mark_of : CodeMark → Mark
-mark_of code.Start = start
-mark_of code.End = end
 mark_of (code.Look negated) = look negated
 mark_of (code.Token t) = token (token_of t)
 
@@ -204,6 +203,7 @@ repeat_front (characters negated is, cs) = None
 repeat_front (opened, cs) = None
 repeat_front (closed, cs) = None
 repeat_front (bar, cs) = None
+repeat_front (asserted kind, cs) = None
 
 abbrev pub letter_mark : Letter × List ℕ → Mark × List ℕ
 letter_mark p = (token (characters false (letter_items p.0)), p.1)
@@ -211,17 +211,24 @@ letter_mark p = (token (characters false (letter_items p.0)), p.1)
 abbrev pub token_mark : Token × List ℕ → Mark × List ℕ
 token_mark p = (token p.0, p.1)
 
+-- the mark after a backslash: an assertion, or a letter
+abbrev pub escape_mark : List ℕ → Option (Mark × List ℕ)
+escape_mark [] = None
+escape_mark (l ∷ cs) =
+    cond (l == letter_b) (Some (token (asserted WordBoundary), cs)) (cond (l == capital_b) (Some (token (asserted NotWordBoundary), cs))
+    (option_map letter_mark (escape_front (l ∷ cs))))
+
 -- the first mark of a text, whatever follows
 abbrev pub sign_front : List ℕ → Option (Mark × List ℕ)
 sign_front [] = None
 sign_front (c ∷ cs) =
-    cond (c == circumflex) (Some (start, cs))
-    (cond (c == dollar_sign) (Some (end, cs))
+    cond (c == circumflex) (Some (token (asserted Start), cs))
+    (cond (c == dollar_sign) (Some (token (asserted End), cs))
     (cond (c == left_parenthesis) (opening cs)
     (cond (c == right_parenthesis) (Some (token closed, cs))
     (cond (c == vertical_bar) (Some (token bar, cs))
     (cond (c == full_stop) (Some (token dot, cs))
-    (cond (c == reverse_solidus) (option_map letter_mark (escape_front cs))
+    (cond (c == reverse_solidus) (escape_mark cs)
     (cond (c == left_bracket) (option_map token_mark (class_front cs))
     (cond (is_normal c) (Some (token (one c), cs))
     (option_and_then repeat_front (token_front (c ∷ cs)))))))))))

@@ -2,7 +2,7 @@
 use Rattle.std.specs.Prelude.{◌≡◌, ℕ, ◌≤◌, ◌+◌, ◌↔◌, Bool, true, false, ◌&&◌, ◌||◌, ◌==◌, cond, List, [], ◌∷◌, ◌++◌, length, ◌⊎◌}
 use Rattle.std.specs.Prelude.{map, nat_le, Result, Ok, Err}
 use Rattle.std.specs.Option.{option_map_or}
-use Rattle.i_regexp.specs.Characters.{left_parenthesis, question_mark, circumflex, reverse_solidus, letter_p, capital_p}
+use Rattle.i_regexp.specs.Characters.{left_parenthesis, question_mark, reverse_solidus, letter_p, capital_p}
 use Rattle.i_regexp.specs.declared.error.IRegexpError.{IRegexpError}
 use Rattle.i_regexp.specs.declared.error.IRegexpErrorKind.{IRegexpErrorKind}
 use Rattle.i_regexp.specs.declared.error.IRegexpErrorKind.TheVariants as kind
@@ -18,7 +18,7 @@ use Rattle.marked_regexp.specs.Forms.{Form, Matches}
 use Rattle.i_regexp.specs.Grammar.{is_one_of}
 use Rattle.i_regexp.specs.Limits.{depth_limit, begins_group, ends_group, LargeCount}
 use Rattle.i_regexp.specs.PatternFronts.{code_front}
-use Rattle.i_regexp.specs.Patterns.{dollar_sign, equals_sign, exclamation_mark, less_than, letter_u, is_surrogate, Mark, token, look}
+use Rattle.i_regexp.specs.Patterns.{equals_sign, exclamation_mark, less_than, letter_u, is_surrogate, Mark, token, look}
 use Rattle.i_regexp.specs.Patterns.{begins_name, is_name_part, Spelled, Pattern, IsText, IsSmall, IsFound}
 use Rattle.i_regexp.specs.PatternCases.{CasesMean}
 use Rattle.i_regexp.specs.PatternTexts.{case_text}
@@ -27,12 +27,11 @@ use Rattle.i_regexp.specs.PatternTexts.{case_text}
 abbrev pub begins_one : Mark → ℕ
 begins_one (token t) = begins_group t
 begins_one (look negated) = 1
-begins_one m = 0
 
 -- 1 for the mark that ends a group, and 0 for others
 abbrev pub ends_one : Mark → ℕ
 ends_one (token t) = ends_group t
-ends_one m = 0
+ends_one (look negated) = 0
 
 -- how many groups begin in these marks
 abbrev pub begun_groups : List Mark → ℕ
@@ -85,9 +84,9 @@ ReadsCases cs (Err e) = Refused cs e
 
 -- ---- patterns that were parsed
 
--- the letters after a backslash that only ECMA-262 has: \b \B \k \p \P, and digits except `0`
+-- the letters after a backslash that only ECMA-262 has: \k \p \P, and digits except `0`
 abbrev pub is_other_escape : ℕ → Bool
-is_other_escape c = (nat_le 49 c && nat_le c 57) || is_one_of (98 ∷ 66 ∷ 107 ∷ letter_p ∷ capital_p ∷ []) c
+is_other_escape c = (nat_le 49 c && nat_le c 57) || is_one_of (107 ∷ letter_p ∷ capital_p ∷ []) c
 
 -- the code of a surrogate follows `\u`
 abbrev pub is_half : List ℕ → Bool
@@ -115,15 +114,14 @@ is_other_group [] = true
 is_other_group (c ∷ cs) = cond (c == less_than) (is_other_name cs) true
 
 -- the text begins with something that ECMA-262 has, and that these patterns do not have, or not
--- everywhere: `^`, `$`, a group that begins with `(?`, as a look-around, or an escape, as a
+-- everywhere: a group that begins with `(?`, as a look-around, or an escape, as a
 -- back-reference or a surrogate
 abbrev pub is_outside : List ℕ → Bool
 is_outside [] = false
-is_outside (c ∷ []) = (c == circumflex) || (c == dollar_sign)
+is_outside (c ∷ []) = false
 is_outside (c ∷ d ∷ cs) =
-    ((c == circumflex) || (c == dollar_sign))
-    || (((c == left_parenthesis) && ((d == question_mark) && is_other_group cs))
-    || ((c == reverse_solidus) && (is_other_escape d || ((d == letter_u) && is_half cs))))
+    ((c == left_parenthesis) && ((d == question_mark) && is_other_group cs))
+    || ((c == reverse_solidus) && (is_other_escape d || ((d == letter_u) && is_half cs)))
 
 -- the kind of an error, which depends on the text at its place
 abbrev pub kind_at : List ℕ → IRegexpErrorKind → SchemaPatternErrorKind

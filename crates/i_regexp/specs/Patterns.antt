@@ -7,14 +7,15 @@ use Rattle.general_category.specs.declared.Category.{Category}
 use Rattle.i_regexp.specs.Characters.{left_parenthesis, right_parenthesis, vertical_bar, asterisk, plus_sign, question_mark, left_brace}
 use Rattle.i_regexp.specs.Characters.{right_brace, full_stop, left_bracket, circumflex, hyphen, right_bracket, reverse_solidus, line_feed}
 use Rattle.i_regexp.specs.Characters.{carriage_return, letter_n, letter_r, letter_t, letter_p, capital_p, horizontal_tab, digit_zero}
+use Rattle.marked_regexp.specs.declared.assertion.Assertion.TheVariants.{Start, End, WordBoundary, NotWordBoundary}
 use Rattle.marked_regexp.specs.declared.class.Item.{Item}
 use Rattle.marked_regexp.specs.declared.class.Item.TheVariants.{Range, In, NotIn}
 use Rattle.i_regexp.specs.declared.letter.Letter.{Letter}
 use Rattle.i_regexp.specs.declared.letter.Letter.TheVariants.{Plain, Literal, Named}
 use Rattle.i_regexp.specs.declared.letter.Set.{Set}
 use Rattle.i_regexp.specs.declared.letter.Set.TheVariants as set
-use Rattle.marked_regexp.specs.Forms.{Matches}
-use Rattle.i_regexp.specs.Grammar.{Token, characters, opened, closed, bar, quantifier, one, is_one_of, is_digit}
+use Rattle.marked_regexp.specs.Forms.{MatchesIn, next_of, last_of}
+use Rattle.i_regexp.specs.Grammar.{Token, characters, opened, closed, bar, quantifier, asserted, one, is_one_of, is_digit}
 use Rattle.i_regexp.specs.Grammar.{CaretText, begins_with_caret}
 use Rattle.i_regexp.specs.Grammar as regexp
 use Rattle.i_regexp.specs.Grammar.{Branch, branch_tokens, branch_form}
@@ -42,6 +43,13 @@ less_than = 60
 
 abbrev pub greater_than : ℕ
 greater_than = 62
+
+-- the letters of `\b` and `\B`
+abbrev pub letter_b : ℕ
+letter_b = 98
+
+abbrev pub capital_b : ℕ
+capital_b = 66
 
 -- the letters of escapes that have the code of a character
 abbrev pub letter_c : ℕ
@@ -245,10 +253,8 @@ class_items (x ∷ y ∷ z ∷ xs) =
 
 -- ---- marks
 
--- a mark: `^`, `$`, what begins a look-ahead, or a token
+-- a mark: what begins a look-ahead, or a token
 pub data Mark : Type 0 where
-  start : Mark
-  end : Mark
   look : (negated : Bool) → Mark
   token : Token → Mark
 
@@ -263,8 +269,10 @@ is_normal c = not (is_one_of (circumflex ∷ dollar_sign ∷ left_parenthesis �
 
 -- The text is this mark. The lazy form of a quantifier is the same token as the greedy one.
 pub data Spells : List ℕ → Mark → Type 0 where
-  begins : Spells (circumflex ∷ []) start
-  finishes : Spells (dollar_sign ∷ []) end
+  begins : Spells (circumflex ∷ []) (token (asserted Start))
+  finishes : Spells (dollar_sign ∷ []) (token (asserted End))
+  boundary : Spells (reverse_solidus ∷ letter_b ∷ []) (token (asserted WordBoundary))
+  no_boundary : Spells (reverse_solidus ∷ capital_b ∷ []) (token (asserted NotWordBoundary))
   opens : Spells (left_parenthesis ∷ []) (token opened)
   opens_silently : Spells (left_parenthesis ∷ question_mark ∷ colon ∷ []) (token opened)
   looks : Spells (left_parenthesis ∷ question_mark ∷ equals_sign ∷ []) (look false)
@@ -293,16 +301,8 @@ abbrev pub begins_with_question : List ℕ → Bool
 begins_with_question [] = false
 begins_with_question (c ∷ cs) = c == question_mark
 
--- a branch may end before the text
-abbrev pub ends_branch : List ℕ → Bool
-ends_branch [] = true
-ends_branch (c ∷ cs) = (c == vertical_bar) || (c == right_parenthesis)
-
--- the text may follow the mark: after `(` and after a quantifier no further `?`, and after `$` the
--- end of a branch
+-- the text may follow the mark: after `(` and after a quantifier no further `?`
 abbrev pub fits : Mark → List ℕ → Bool
-fits start cs = true
-fits end cs = ends_branch cs
 fits (look negated) cs = true
 fits (token t) cs = not (takes_question (token t) && begins_with_question cs)
 
@@ -351,16 +351,10 @@ are_distinct (n ∷ names) = not (is_among names n) && are_distinct names
 
 -- ---- patterns
 
--- A branch outside of all groups, and whether it begins with `^` and ends with `$`.
-pub record Part : Type 0 where
-  pub starts : Bool
-  pub branch : Branch
-  pub ends : Bool
-
 -- the branches of a look-ahead
 pub record Disjunction : Type 0 where
-  pub before : List Part
-  pub last : Part
+  pub before : List Branch
+  pub last : Branch
 
 -- a look-ahead, `(?=..)` or, if it is negated, `(?!..)`
 pub record Look : Type 0 where
@@ -370,27 +364,23 @@ pub record Look : Type 0 where
 -- An outermost branch. If it has look-aheads, a `^` is before them.
 pub record Case : Type 0 where
   pub looks : List Look
-  pub part : Part
+  pub branch : Branch
 
 -- the outermost branches
 pub record Pattern : Type 0 where
   pub before : List Case
   pub last : Case
 
-abbrev pub mark_if : Bool → Mark → List Mark
-mark_if true m = m ∷ []
-mark_if false m = []
-
-abbrev pub part_marks : Part → List Mark
-part_marks q = mark_if q.starts start ++ (map token (branch_tokens q.branch) ++ mark_if q.ends end)
+abbrev pub branch_marks : Branch → List Mark
+branch_marks b = map token (branch_tokens b)
 
 -- branches, each with the bar after it
-abbrev pub barred_marks : List Part → List Mark
+abbrev pub barred_marks : List Branch → List Mark
 barred_marks [] = []
-barred_marks (q ∷ qs) = part_marks q ++ token bar ∷ barred_marks qs
+barred_marks (b ∷ bs) = branch_marks b ++ token bar ∷ barred_marks bs
 
 abbrev pub disjunction_marks : Disjunction → List Mark
-disjunction_marks p = barred_marks p.before ++ part_marks p.last
+disjunction_marks p = barred_marks p.before ++ branch_marks p.last
 
 abbrev pub looks_marks : List Look → List Mark
 looks_marks [] = []
@@ -399,10 +389,10 @@ looks_marks (k ∷ ks) = look k.negated ∷ (disjunction_marks k.content ++ toke
 -- look-aheads, with the `^` before them
 abbrev pub guard_marks : List Look → List Mark
 guard_marks [] = []
-guard_marks (k ∷ ks) = start ∷ looks_marks (k ∷ ks)
+guard_marks (k ∷ ks) = token (asserted Start) ∷ looks_marks (k ∷ ks)
 
 abbrev pub case_marks : Case → List Mark
-case_marks c = guard_marks c.looks ++ part_marks c.part
+case_marks c = guard_marks c.looks ++ branch_marks c.branch
 
 -- outermost branches, each with the bar after it
 abbrev pub cases_marks : List Case → List Mark
@@ -419,16 +409,14 @@ pub record IsText (cs : List ℕ) (p : Pattern) : Type 0 where
   pub spelled : Spelled cs (pattern_marks p) names
   pub distinct : are_distinct names ≡ true
 
--- the branch matches a part of the text; with `^` only at the beginning, and with `$` only at the
--- end
-pub record Finds (q : Part) (cs : List ℕ) : Type 0 where
+-- the branch matches a part of the text, with `first` only one at the beginning
+pub record Finds (first : Bool) (b : Branch) (cs : List ℕ) : Type 0 where
   pub before : List ℕ
   pub part : List ℕ
   pub after : List ℕ
   pub split : cs ≡ before ++ (part ++ after)
-  pub matched : Matches (branch_form q.branch) part
-  pub starts : q.starts ≡ true → before ≡ []
-  pub ends : q.ends ≡ true → after ≡ []
+  pub matched : MatchesIn (branch_form b) (last_of None before) part (next_of after None)
+  pub begins : first ≡ true → before ≡ []
 
 -- it is so unless it is to be otherwise
 abbrev pub Unless : Bool → Type 0 → Type 0
@@ -436,18 +424,14 @@ Unless false P = P
 Unless true P = P → ⊥
 
 -- one of the branches does so
-abbrev pub FindsOne : List Part → List ℕ → Type 0
-FindsOne [] cs = ⊥
-FindsOne (q ∷ qs) cs = Finds q cs ⊎ FindsOne qs cs
-
--- the branch, as if it began with `^` where it has to match at the beginning
-abbrev pub fixed_part : Bool → Part → Part
-fixed_part fixed q = record { starts = fixed || q.starts; branch = q.branch; ends = q.ends }
+abbrev pub FindsOne : Bool → List Branch → List ℕ → Type 0
+FindsOne first [] cs = ⊥
+FindsOne first (b ∷ bs) cs = Finds first b cs ⊎ FindsOne first bs cs
 
 -- the look-ahead holds at the beginning of the text (ECMA-262, 22.2.2.4): one of its branches
 -- matches there or, if it is negated, none does
 abbrev pub Holds : Look → List ℕ → Type 0
-Holds k cs = Unless k.negated (FindsOne (map (fixed_part true) (k.content.before ++ k.content.last ∷ [])) cs)
+Holds k cs = Unless k.negated (FindsOne true (k.content.before ++ k.content.last ∷ []) cs)
 
 abbrev pub AllHold : List Look → List ℕ → Type 0
 AllHold [] cs = Unit {0}
@@ -460,7 +444,7 @@ has_looks (k ∷ ks) = true
 -- the look-aheads hold, and the branch matches a part of the text, after look-aheads at the
 -- beginning
 abbrev pub FindsCase : Case → List ℕ → Type 0
-FindsCase c cs = AllHold c.looks cs × Finds (fixed_part (has_looks c.looks) c.part) cs
+FindsCase c cs = AllHold c.looks cs × Finds (has_looks c.looks) c.branch cs
 
 -- one of the branches does so
 abbrev pub FindsOneCase : List Case → List ℕ → Type 0
@@ -472,9 +456,9 @@ abbrev pub IsFound : Pattern → List ℕ → Type 0
 IsFound p cs = FindsOneCase (p.before ++ p.last ∷ []) cs
 
 -- no branch is too large, those of look-aheads neither
-abbrev pub AreSmall : List Part → Type 0
+abbrev pub AreSmall : List Branch → Type 0
 AreSmall [] = Unit {0}
-AreSmall (q ∷ qs) = (branch_size q.branch ≤ size_limit) × AreSmall qs
+AreSmall (b ∷ bs) = (branch_size b ≤ size_limit) × AreSmall bs
 
 abbrev pub AreSmallLooks : List Look → Type 0
 AreSmallLooks [] = Unit {0}
@@ -482,7 +466,7 @@ AreSmallLooks (k ∷ ks) = AreSmall (k.content.before ++ k.content.last ∷ []) 
 
 abbrev pub AreSmallCases : List Case → Type 0
 AreSmallCases [] = Unit {0}
-AreSmallCases (c ∷ cs) = AreSmallLooks c.looks × (branch_size c.part.branch ≤ size_limit) × AreSmallCases cs
+AreSmallCases (c ∷ cs) = AreSmallLooks c.looks × (branch_size c.branch ≤ size_limit) × AreSmallCases cs
 
 abbrev pub IsSmall : Pattern → Type 0
 IsSmall p = AreSmallCases (p.before ++ p.last ∷ [])

@@ -3,22 +3,23 @@ ghost use Rattle.std.specs.Prelude.{◌≡◌, ◌<◌, OnOk, IfOk, true, vec_le
 ghost use Rattle.marked_regexp.specs.Building.{Means};
 ghost use Rattle.i_regexp.specs.Fronts.{token_of};
 ghost use Rattle.i_regexp.specs.Levels.{IsFit};
-ghost use Rattle.i_regexp.specs.Patterns.{start, end, token};
+ghost use Rattle.i_regexp.specs.Patterns.{token};
 ghost use Rattle.i_regexp.specs.PatternFronts.{mark_of};
 ghost use Rattle.i_regexp.specs.PatternMachine.{TakesMark, Finishes, EndsPart, AgreesAt, initial};
 ghost use Rattle.i_regexp.specs.PatternMachine.{open_form, is_bar, no_levels, next_part};
 ghost use Rattle.i_regexp.specs.PatternMachine.{PartsState, IsFitMark, is_before};
+ghost use Rattle.i_regexp.specs.PatternMachine.{is_start_token, is_end_token};
 
 use crate::error::IRegexpErrorKind;
 use crate::mark::Mark;
 use crate::reader::{Level, take};
 use crate::token::Token;
-use marked_regexp::{Class, Expression};
+use marked_regexp::{Assertion, Class, Expression};
 use std::alloc::{AllocError, Global};
 use std::mem;
 
-/// What was parsed of branches outside of groups: those that have ended, whether the last one
-/// begins with `^` and ends with `$`, and the rest of it.
+/// What was parsed of branches outside of groups: those that have ended, and the rest. Whether the
+/// last one begins with `^`, and ends with `$` so far, is kept for its tree.
 #[derive(Drop)]
 pub(crate) struct Branches {
     // whether they have to match at the beginning of the text
@@ -45,12 +46,15 @@ impl Branches {
         }
     }
 
-    /// Ends a branch: a node, with any text before and after it where the branch is not anchored.
+    /// Ends a branch: a node, with any text before and after it. Instead of an assertion at either
+    /// end the node has no such text there.
     fn end_part(&mut self, alloc: Global) -> Result<(), AllocError>
         ensures part { OnOk result (EndsPart self.old self.new.parts.items) }
         ensures some { OnOk result (0 < vec_len self.new.parts) }
         ensures fixed { self.new.fixed ≡ self.old.fixed }
     {
+        self.here.cut_first(self.starts);
+        self.here.cut_last(self.ends);
         let node = self.here.finish(alloc)?;
         let behind = Expression::concat(alloc, node, open_end(alloc, self.ends)?)?;
         let part = Expression::concat(alloc, open_end(alloc, self.fixed | self.starts)?, behind)?;
@@ -71,53 +75,20 @@ impl Branches {
         Ok(())
     }
 
-    /// Accepts a `^`.
-    fn take_start(&mut self) -> Result<(), IRegexpErrorKind>
-        ensures { TakesMark self.old start result self.new }
-    {
-        if self.ends {
-            return Err(IRegexpErrorKind::Invalid);
-        }
-        if self.starts {
-            return Err(IRegexpErrorKind::Invalid);
-        }
-        if !self.outer.is_empty() {
-            return Err(IRegexpErrorKind::Invalid);
-        }
-        if !self.here.is_blank() {
-            return Err(IRegexpErrorKind::Invalid);
-        }
-        self.starts = true;
-        Ok(())
-    }
-
-    /// Accepts a `$`.
-    fn take_end(&mut self) -> Result<(), IRegexpErrorKind>
-        ensures { TakesMark self.old end result self.new }
-    {
-        if self.ends {
-            return Err(IRegexpErrorKind::Invalid);
-        }
-        if !self.outer.is_empty() {
-            return Err(IRegexpErrorKind::Invalid);
-        }
-        self.ends = true;
-        Ok(())
-    }
-
     /// Accepts a token.
     fn take_token(&mut self, alloc: Global, taken: Token) -> Result<(), IRegexpErrorKind>
         requires { IsFit (token_of taken) }
         ensures { TakesMark self.old (token (token_of taken)) result self.new }
     {
-        let next = self.outer.is_empty() & is_bar(&taken);
+        let out = self.outer.is_empty();
+        let next = out & is_bar(&taken);
         if next {
             self.take_bar(alloc)?;
             return Ok(());
         }
-        if self.ends {
-            return Err(IRegexpErrorKind::Invalid);
-        }
+        let first = self.here.is_blank() & out;
+        self.starts = self.starts | (first & is_start(&taken));
+        self.ends = out & is_end(&taken);
         take(alloc, &mut self.outer, &mut self.here, taken)
     }
 
@@ -127,8 +98,6 @@ impl Branches {
         ensures { TakesMark self.old (mark_of mark) result self.new }
     {
         match mark {
-            Mark::Start => self.take_start(),
-            Mark::End => self.take_end(),
             Mark::Look(_) => Err(IRegexpErrorKind::Invalid),
             Mark::Token(taken) => self.take_token(alloc, taken),
         }
@@ -154,14 +123,11 @@ impl Branches {
     pub(crate) fn is_before(&self, starts: bool) -> bool
         ensures { (s : PartsState) → AgreesAt self.now s → result ≡ is_before s starts }
     {
-        if self.ends {
-            return false;
-        }
-        if self.starts != starts {
-            return false;
-        }
         if !self.outer.is_empty() {
             return false;
+        }
+        if starts {
+            return self.starts & self.here.is_single();
         }
         self.here.is_blank()
     }
@@ -172,6 +138,20 @@ fn is_bar(token: &Token) -> bool
     ensures { result ≡ is_bar (token_of token.now) }
 {
     matches!(token, Token::Bar)
+}
+
+/// Whether it is `^`.
+fn is_start(token: &Token) -> bool
+    ensures { result ≡ is_start_token (token_of token.now) }
+{
+    matches!(token, Token::Assertion(Assertion::Start))
+}
+
+/// Whether it is `$`.
+fn is_end(token: &Token) -> bool
+    ensures { result ≡ is_end_token (token_of token.now) }
+{
+    matches!(token, Token::Assertion(Assertion::End))
 }
 
 /// Any text, unless this end of a branch is anchored.

@@ -1,4 +1,4 @@
-//! The marks of a schema's pattern: `^`, `$`, `(?=`, `(?!` and tokens.
+//! The marks of a schema's pattern: `(?=`, `(?!` and tokens, of which some are assertions.
 ghost use Rattle.std.specs.Prelude.{◌≡◌, ℕ, ◌<◌, [], IfOk, length, option_map, option_and_then};
 ghost use Rattle.i_regexp.specs.Limits.{LargeCount};
 ghost use Rattle.i_regexp.specs.Fronts.{Fronts, token_of, token_front};
@@ -8,21 +8,19 @@ ghost use Rattle.i_regexp.specs.Patterns.{takes_question, fits, range_of};
 ghost use Rattle.i_regexp.specs.Patterns.{token as with_token};
 ghost use Rattle.i_regexp.specs.PatternFronts.{mark_of, mark_front, sign_front, class_front};
 ghost use Rattle.i_regexp.specs.PatternFronts.{letters_front, caret_front, range_behind, opening};
-ghost use Rattle.i_regexp.specs.PatternFronts.{eager, letter_mark, escape_front, repeat_front};
+ghost use Rattle.i_regexp.specs.PatternFronts.{eager, letter_mark, escape_front, escape_mark};
+ghost use Rattle.i_regexp.specs.PatternFronts.{repeat_front};
 ghost use Rattle.i_regexp.specs.PatternFronts.{ReadsItems, RangeBehind, Appends};
 
 use crate::error::IRegexpErrorKind;
 use crate::letter::{Letter, escape, next_letter};
 use crate::token::{Token, next_token};
-use marked_regexp::{Class, Item};
+use marked_regexp::{Assertion, Class, Item};
 use std::alloc::{AllocError, Global};
 
-/// The smallest part of a pattern's text with a meaning: `^`, `$`, what begins a look-ahead, or a
-/// token.
+/// The smallest part of a pattern's text with a meaning: what begins a look-ahead, or a token.
 #[derive(Drop)]
 pub(crate) enum Mark {
-    Start,
-    End,
     // a look-ahead begins, and whether it is negated
     Look(bool),
     Token(Token),
@@ -34,8 +32,6 @@ impl Mark {
         ensures { result ≡ fits (mark_of self.now) text.now }
     {
         match self {
-            Mark::Start => true,
-            Mark::End => matches!(text, ['|' | ')', ..] | []),
             Mark::Look(_) => true,
             Mark::Token(token) => !(takes_question(token) && matches!(text, ['?', ..])),
         }
@@ -71,13 +67,13 @@ fn sign<'t>(alloc: Global, text: &'t [char]) -> Result<(Mark, &'t [char]), IRege
         return Err(IRegexpErrorKind::Invalid);
     };
     match *first {
-        '^' => Ok((Mark::Start, rest)),
-        '$' => Ok((Mark::End, rest)),
+        '^' => Ok((Mark::Token(Token::Assertion(Assertion::Start)), rest)),
+        '$' => Ok((Mark::Token(Token::Assertion(Assertion::End)), rest)),
         '(' => opening(rest),
         ')' => Ok((Mark::Token(Token::Close), rest)),
         '|' => Ok((Mark::Token(Token::Bar), rest)),
         '.' => Ok((Mark::Token(Token::Characters(dot(alloc)?)), rest)),
-        '\\' => escaped(alloc, rest),
+        '\\' => behind_backslash(alloc, rest),
         '[' => {
             let (token, after) = class(alloc, rest)?;
             Ok((Mark::Token(token), after))
@@ -137,6 +133,23 @@ fn dot(alloc: Global) -> Result<Class, AllocError>
         negated: true,
         items,
     })
+}
+
+/// The mark after a backslash: an assertion, or the characters of an escape.
+fn behind_backslash<'t>(
+    alloc: Global,
+    text: &'t [char],
+) -> Result<(Mark, &'t [char]), IRegexpErrorKind>
+    ensures { Fronts ⊥ mark_of (escape_mark text.now) result }
+{
+    match text {
+        ['b', rest @ ..] => Ok((Mark::Token(Token::Assertion(Assertion::WordBoundary)), rest)),
+        ['B', rest @ ..] => Ok((
+            Mark::Token(Token::Assertion(Assertion::NotWordBoundary)),
+            rest,
+        )),
+        _ => escaped(alloc, text),
+    }
 }
 
 /// The characters of the escape after a backslash.

@@ -12,7 +12,7 @@ use crate::search::any_found;
 use std::alloc::Global;
 
 /// A pattern of JSON Schema, in the dialect that the standard recommends (Core 2020-12, 6.4), with
-/// the escapes of ECMA-262. Matching borrows it mutably: it remembers, within a bound, what the
+/// the escapes and the assertions `^`, `$`, `\b` and `\B` of ECMA-262. Matching borrows it mutably: it remembers, within a bound, what the
 /// characters of ASCII lead to, so that further texts take less time.
 ///
 /// ```
@@ -50,14 +50,17 @@ impl SchemaPattern {
         }
     }
 
-    /// Whether the pattern matches a part of the text. A branch that begins with `^` matches only
-    /// at the beginning, and if its look-aheads hold there; one that ends with `$` only at the end.
-    /// The time is at most proportional to the product of the two sizes. Where memory for what it
+    /// Whether the pattern matches a part of the text, and its look-aheads hold. `^` matches only at
+    /// the beginning, and `$` only at the end; `\b` where a word of ASCII begins or ends, and `\B`
+    /// elsewhere. The time is at most proportional to the product of the two sizes. Where memory for what it
     /// remembers is refused, it remembers less.
     ///
     /// ```
     /// let mut digits = SchemaPattern::parse(alloc, "\\d{3}")?;
     /// assert!(rt; digits.is_found_in("no 404 here"));
+    /// let mut word = SchemaPattern::parse(alloc, "\\bno(\\b|$)")?;
+    /// assert!(rt; word.is_found_in("no 404 here"));
+    /// assert!(rt; !word.is_found_in("none here"));
     /// ```
     pub fn is_found_in(&mut self, text: &str) -> bool
         ensures found { IsTrue result ↔ Matches (texts_of self.old) (chars text.now) }

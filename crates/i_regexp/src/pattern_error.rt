@@ -17,15 +17,13 @@ pub enum SchemaPatternErrorKind {
     Invalid,
     /// The text is not in the grammar, and at the place is something that ECMA-262 has and these
     /// patterns do not, or not there. That is a look-behind, a group's name with a character
-    /// outside of ASCII or an escape, an escape such as `\b` or `\1`, or a surrogate without its
-    /// pair. It is also a look-ahead elsewhere than behind the `^` of an outermost branch, and a
-    /// `^` or `$` elsewhere than at the beginning or the end of an outermost branch or of one of a
-    /// look-ahead.
+    /// outside of ASCII or an escape, an escape such as `\1`, or a surrogate without its pair. It
+    /// is also a look-ahead elsewhere than behind the `^` of an outermost branch.
     Outside,
     /// More than 200 groups are nested.
     TooDeep,
-    /// With each repetition written out, a branch has more than 10,000 characters, classes, groups
-    /// and bars. Or a count is greater than 10,000.
+    /// With each repetition written out, a branch has more than 10,000 characters, classes,
+    /// assertions, groups and bars. Or a count is greater than 10,000.
     TooLarge,
     /// An allocation failed.
     OutOfMemory,
@@ -57,8 +55,8 @@ impl fmt::Display for SchemaPatternErrorKind {
 pub struct SchemaPatternError {
     pub kind: SchemaPatternErrorKind,
     /// The number of characters before what is rejected: a character, an escape, a class, a
-    /// parenthesis, a bar, a quantifier, `^` or `$`. It is the length of the text if the text ends
-    /// within a group.
+    /// parenthesis, a bar, a quantifier or an assertion. It is the length of the text if the text
+    /// ends within a group.
     pub place: usize,
 }
 

@@ -1,19 +1,20 @@
 //! Parses the tokens of a text into a tree.
-ghost use Rattle.std.specs.Prelude.{◌≡◌, ◌-◌, List, [], ◌∷◌, ◌<◌, IfOk, OnOk, vec_len};
+ghost use Rattle.std.specs.Prelude.{◌≡◌, ◌-◌, List, [], ◌∷◌, ◌<◌, IfOk, OnOk, vec_len, cond};
 ghost use Rattle.marked_regexp.specs.Forms.{AtMost};
 ghost use Rattle.marked_regexp.specs.Building.{Means};
 ghost use Rattle.i_regexp.specs.Fronts.{token_of};
 ghost use Rattle.i_regexp.specs.Grammar.{Branch, Piece, Atom, atom_form, regexp_form};
 ghost use Rattle.i_regexp.specs.Reading.{Reads};
 ghost use Rattle.i_regexp.specs.Levels.{Level as Read, Stands, StandsAt, fresh, settle, with_atom};
+ghost use Rattle.i_regexp.specs.Levels.{with_assertion};
 ghost use Rattle.i_regexp.specs.Levels.{barred, regexp_of, Quantifies, Takes, IsFit, Grows};
 ghost use Rattle.i_regexp.specs.Limits.{class_size, repeated};
-ghost use Rattle.i_regexp.specs.PatternMachine.{is_blank};
+ghost use Rattle.i_regexp.specs.PatternMachine.{is_blank, is_single, without_first, without_last};
 
 use crate::error::{IRegexpError, IRegexpErrorKind};
 use crate::limits::{DEPTH, SIZE};
 use crate::token::{Token, next_token};
-use marked_regexp::{Class, Expression};
+use marked_regexp::{Assertion, Class, Expression};
 use std::alloc::{AllocError, Global};
 use std::mem;
 
@@ -69,6 +70,43 @@ impl Level {
         Ok(())
     }
 
+    /// Appends an assertion; all that was parsed has the given size then.
+    fn put_assertion(&mut self, kind: Assertion, size: usize) -> Result<(), AllocError>
+        ensures read { OnOk result ((l : Read) → StandsAt self.old l
+            → StandsAt self.new (with_assertion l kind)) }
+        ensures size { OnOk result (self.new.size ≡ size) }
+    {
+        self.settle()?;
+        self.pieces.push(Expression::assertion(kind))?;
+        self.size = size;
+        Ok(())
+    }
+
+    /// Removes the first piece, if that is asked and there is one.
+    pub(crate) fn cut_first(&mut self, first: bool)
+        ensures { (l : Read) → StandsAt self.old l
+            → StandsAt self.new (cond first (without_first l) l) }
+    {
+        if !first {
+            return;
+        }
+        if self.pieces.is_empty() {
+            return;
+        }
+        self.pieces.remove(0);
+    }
+
+    /// Removes the last piece, if that is asked and there is one.
+    pub(crate) fn cut_last(&mut self, last: bool)
+        ensures { (l : Read) → StandsAt self.old l
+            → StandsAt self.new (cond last (without_last l) l) }
+    {
+        if !last {
+            return;
+        }
+        self.pieces.pop();
+    }
+
     /// Moves the last atom to the pieces, as it is not repeated.
     fn settle(&mut self) -> Result<(), AllocError>
         ensures read { OnOk result ((l : Read) → StandsAt self.old l
@@ -112,6 +150,19 @@ impl Level {
             return false;
         }
         if !self.pieces.is_empty() {
+            return false;
+        }
+        self.last.is_none()
+    }
+
+    /// Whether it has one piece, and nothing else.
+    pub(crate) fn is_single(&self) -> bool
+        ensures { (l : Read) → StandsAt self.now l → result ≡ is_single l }
+    {
+        if !self.branches.is_empty() {
+            return false;
+        }
+        if self.pieces.len() != 1 {
             return false;
         }
         self.last.is_none()
@@ -205,6 +256,13 @@ pub(crate) fn take(
             Ok(())
         }
         Token::Quantifier { least, most } => here.repeat_last(alloc, least, most),
+        Token::Assertion(kind) => {
+            let Some(size) = here.grown(1) else {
+                return Err(IRegexpErrorKind::TooLarge);
+            };
+            here.put_assertion(kind, size)?;
+            Ok(())
+        }
     }
 }
 

@@ -47,11 +47,9 @@ fn is_outside(text: &[char]) -> bool
         return false;
     };
     let Some((second, after)) = rest.split_first() else {
-        return *first == '^' || *first == '$';
+        return false;
     };
-    *first == '^'
-        || *first == '$'
-        || *first == '(' && *second == '?' && is_other_group(after)
+    *first == '(' && *second == '?' && is_other_group(after)
         || *first == '\\' && (is_other_escape(*second) || *second == 'u' && is_half(after))
 }
 
@@ -104,7 +102,7 @@ fn is_other_part(c: char) -> bool
 fn is_other_escape(c: char) -> bool
     ensures { result ≡ is_other_escape c }
 {
-    '1' <= c && c <= '9' || matches!(c, 'b' | 'B' | 'k' | 'p' | 'P')
+    '1' <= c && c <= '9' || matches!(c, 'k' | 'p' | 'P')
 }
 
 /// Whether the text begins with the code of a surrogate.

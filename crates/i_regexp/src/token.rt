@@ -13,7 +13,7 @@ ghost use Rattle.i_regexp.specs.Fronts.{begins_category, characters_front};
 use crate::error::IRegexpErrorKind;
 use crate::limits::SIZE;
 use general_category::Category;
-use marked_regexp::{Class, Item};
+use marked_regexp::{Assertion, Class, Item};
 use std::alloc::{AllocError, Global};
 
 /// The smallest part of a text with a meaning.
@@ -25,6 +25,8 @@ pub(crate) enum Token {
     Close,
     Bar,
     Quantifier { least: usize, most: Option<usize> },
+    /// Only the patterns of JSON Schema have it.
+    Assertion(Assertion),
 }
 
 /// The first token of a text, and the text after it.

@@ -85,8 +85,8 @@ impl Walk<'_> {
     ) -> io::Result<()>
         ensures sent { Goes (W.contents output.old) (W.contents output.new)
             (encode_utf8_all (compact
-            (without (has_path self.now.places.now) (path_view place.entry.value) (tree value.entry)))
-            ++ stack_bytes (has_path self.now.places.now) stack.old.items)
+            (without (has_path self.now.places.now) (path_view place.entry.value)
+            (tree value.entry))) ++ stack_bytes (has_path self.now.places.now) stack.old.items)
             (stack_bytes (has_path self.now.places.now) stack.new.items) result }
         ensures less { OnOk result (stack_weight stack.new.items
             < weight (tree value.entry) + stack_weight stack.old.items) }

@@ -355,7 +355,8 @@ fn write_left<W: Write>(
 ) -> io::Result<Option<Unanswered>>
     requires { IsBounded places.now }
     ensures { (ps : List Part) → ((path : List Step) → has_path places.now path ≡ is_at ps path)
-        → Answers (GivesRest (tree root.entry) ps) (W.contents output.old) (W.contents output.new) result }
+        → Answers (GivesRest (tree root.entry) ps)
+        (W.contents output.old) (W.contents output.new) result }
 {
     if places.contains("$") {
         return Ok(Some(Unanswered::NothingLeft));

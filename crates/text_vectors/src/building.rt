@@ -1,6 +1,7 @@
 //! The examples of `marked_regexp`, to the letter.
 
-use marked_regexp::{Automaton, Class, Expression, Item};
+use marked_regexp::{Assertion, Automaton, Class, Expression, Item};
+use std::alloc::{AllocError, Global};
 use std::test::Fail;
 
 #[test]
@@ -184,5 +185,85 @@ fn automaton_with_many_marks(rt: HostRuntime) -> Result<(), Fail> {
     text.push('c')?;
     assert!(rt; !ends.matches(text.as_str()));
     assert!(rt; !ends.matches("ab"));
+    Ok(())
+}
+
+/// Of `Assertion`.
+#[test]
+fn the_beginning_of_a_text(rt: HostRuntime) -> Result<(), Fail> {
+    let mut first = Expression::assertion(Assertion::Start);
+    assert!(rt; first.matches(""));
+    assert!(rt; !first.matches("a"));
+    Ok(())
+}
+
+/// Of `Expression::assertion`.
+#[test]
+fn the_end_of_a_text(rt: HostRuntime) -> Result<(), Fail> {
+    let alloc = rt.alloc();
+    let end = Expression::assertion(Assertion::End);
+    let digit = Expression::one_of(Class::single(alloc, Item::Range('0', '9'))?);
+    let mut last = Expression::concat(alloc, digit, end)?;
+    assert!(rt; last.searches("in 7"));
+    assert!(rt; !last.searches("in 7 days"));
+    assert!(rt; last.searches("7, or 8"));
+    Ok(())
+}
+
+/// The texts between two assertions, in a text: as many as there are rows.
+const WORDS: [(&str, bool, bool); 8] = [
+    ("foo", true, false),
+    ("a foo!", true, false),
+    ("afoo", false, false),
+    ("foo_", false, false),
+    ("éfoo", true, false),
+    ("7foo7", false, true),
+    ("-foo-", true, false),
+    ("foofoofoo", false, true),
+];
+
+/// ECMA-262, 22.2.2.4: a word is of ASCII letters, digits and `_`.
+#[test]
+fn words_in_a_text(rt: HostRuntime) -> Result<(), Fail> {
+    let alloc = rt.alloc();
+    for (text, word, part) in WORDS {
+        let mut parts = Vec::new(alloc);
+        parts.push(Expression::assertion(Assertion::WordBoundary))?;
+        parts.push(foo(alloc)?)?;
+        parts.push(Expression::assertion(Assertion::WordBoundary))?;
+        assert_eq!(rt; Expression::sequence_of(alloc, parts)?.searches(text), word);
+        let mut parts = Vec::new(alloc);
+        parts.push(Expression::assertion(Assertion::NotWordBoundary))?;
+        parts.push(foo(alloc)?)?;
+        parts.push(Expression::assertion(Assertion::NotWordBoundary))?;
+        assert_eq!(rt; Expression::sequence_of(alloc, parts)?.searches(text), part);
+    }
+    Ok(())
+}
+
+fn foo(alloc: Global) -> Result<Expression, AllocError> {
+    let f = Expression::one_of(Class::single(alloc, Item::Range('f', 'f'))?);
+    let o = Expression::one_of(Class::single(alloc, Item::Range('o', 'o'))?);
+    Expression::concat(alloc, f, o.repeat(alloc, 2, Some(2))?)
+}
+
+/// Assertions in a part that is repeated, and in an automaton.
+#[test]
+fn assertions_in_parts(rt: HostRuntime) -> Result<(), Fail> {
+    let alloc = rt.alloc();
+    let letter = Expression::one_of(Class::single(alloc, Item::Range('a', 'z'))?);
+    let word = Expression::concat(
+        alloc,
+        Expression::assertion(Assertion::WordBoundary),
+        letter.repeat(alloc, 1, None)?,
+    )?;
+    let blank = Expression::one_of(Class::single(alloc, Item::Range(' ', ' '))?);
+    let spaced = Expression::concat(alloc, word, Expression::star(alloc, blank)?)?;
+    let mut words = Automaton::new(alloc, spaced.repeat(alloc, 2, Some(3))?);
+    assert!(rt; words.matches("a b"));
+    assert!(rt; words.matches("ab cd ef"));
+    assert!(rt; !words.matches("ab"));
+    assert!(rt; !words.matches("a b c d"));
+    assert!(rt; words.matches("a b "));
     Ok(())
 }

@@ -96,7 +96,8 @@ are_members p (member k t ms) s g = (
   are_members p ms s.1 (found_next p k t ms s g),
 )
 
-pub are_children : (path : List Step) (t : Tree) → IsSorted (members_in t) → AreChildren (record { path = path; tree = t }) (children path t)
+pub are_children : (path : List Step) (t : Tree) → IsSorted (members_in t)
+    → AreChildren (record { path = path; tree = t }) (children path t)
 are_children path (array ts) s = are_items (record { path = path; tree = array ts }) 0 ts (from_first path ts)
 are_children path (object ms) s = are_members (record { path = path; tree = object ms }) ms s (λ k t h. h)
 are_children path _ s = tt
@@ -179,8 +180,8 @@ ends_alike_at_index l r up over i j e f same =
     path_item : (up : Rc Location Global) (i : ℕ) → path_view (location.Item up i) ≡ path_view up.value ++ at_index i ∷ []
     path_item up i = search (rules, the_lemmas)
 
-pub ends_alike_at_key : (l r : Location) (up over : Rc Location Global) (j k : Bor (List ℕ)) → l ≡ location.Member up j → r ≡ location.Member over k
-    → chars j.now ≡ chars k.now → EndAlike (path_view l) (path_view r)
+pub ends_alike_at_key : (l r : Location) (up over : Rc Location Global) (j k : Bor (List ℕ))
+    → l ≡ location.Member up j → r ≡ location.Member over k → chars j.now ≡ chars k.now → EndAlike (path_view l) (path_view r)
 ends_alike_at_key l r up over j k e f same = (
   at_key (chars j.now),
   path_view up.value,
@@ -189,5 +190,6 @@ ends_alike_at_key l r up over j k e f same = (
   ap path_view f ∙ (path_member over k ∙ ap (λ c. path_view over.value ++ at_key c ∷ []) (sym same)),
 )
   where
-    path_member : (up : Rc Location Global) (k : Bor (List ℕ)) → path_view (location.Member up k) ≡ path_view up.value ++ at_key (chars k.now) ∷ []
+    path_member : (up : Rc Location Global) (k : Bor (List ℕ))
+        → path_view (location.Member up k) ≡ path_view up.value ++ at_key (chars k.now) ∷ []
     path_member up k = search (rules, the_lemmas)

@@ -54,7 +54,8 @@ module _ (path : List Step) where
     one_at i = one_below path (at_index i) (tree_at t i)
 
     pub step_items : (acc more goal : List Part) (i : ℕ) → more ≡ acc ++ one_at i
-        → acc ++ items_from path i (dropped i (listed_items t)) ≡ goal → more ++ items_from path (i + 1) (dropped (i + 1) (listed_items t)) ≡ goal
+        → acc ++ items_from path i (dropped i (listed_items t)) ≡ goal
+        → more ++ items_from path (i + 1) (dropped (i + 1) (listed_items t)) ≡ goal
     step_items acc more goal i m h =
         let next : i + 1 ≡ suc i = omega arith in
         ap (λ z. z ++ items_from path (i + 1) (dropped (i + 1) (listed_items t))) m
@@ -75,25 +76,29 @@ module _ (path : List Step) where
     none_taken false ps = refl
 
     taken_step : (k i : ℕ) (ts : Items)
-        → taken f path k (dropped i ts) ≡ cond (f k) (one_below path (at_index k) (nth ts i)) [] ++ taken f path (k + 1) (dropped (suc i) ts)
+        → taken f path k (dropped i ts)
+        ≡ cond (f k) (one_below path (at_index k) (nth ts i)) [] ++ taken f path (k + 1) (dropped (suc i) ts)
     taken_step k zero no_items = none_taken (f k) [] ∙ sym (append-nil (cond (f k) [] []))
     taken_step k zero (item t ts) = refl
     taken_step k (suc i) no_items = none_taken (f k) [] ∙ sym (append-nil (cond (f k) [] []))
     taken_step k (suc i) (item t ts) = taken_step k i ts
 
     front_step : (k i : ℕ) (ts : Items)
-        → taken f path k (front (suc i) ts) ≡ taken f path k (front i ts) ++ cond (f (k + i)) (one_below path (at_index (k + i)) (nth ts i)) []
+        → taken f path k (front (suc i) ts)
+        ≡ taken f path k (front i ts) ++ cond (f (k + i)) (one_below path (at_index (k + i)) (nth ts i)) []
     front_step k zero no_items = none_taken (f (k + 0)) []
     front_step k (suc i) no_items = none_taken (f (k + suc i)) []
     front_step k zero (item t ts) =
         let same : k ≡ k + 0 = omega arith in
-        append-nil (cond (f k) (one_below path (at_index k) (Some t)) []) ∙ ap (λ j. cond (f j) (one_below path (at_index j) (Some t)) []) same
+        append-nil (cond (f k) (one_below path (at_index k) (Some t)) [])
+        ∙ ap (λ j. cond (f j) (one_below path (at_index j) (Some t)) []) same
     front_step k (suc i) (item t ts) =
         let same : k + 1 + i ≡ k + suc i = omega arith in
         let this : List Part = cond (f k) (one_below path (at_index k) (Some t)) [] in
         ap (λ z. this ++ z) (front_step (k + 1) i ts)
         ∙ (ap (λ j. this ++ (taken f path (k + 1) (front i ts) ++ cond (f j) (one_below path (at_index j) (nth ts i)) [])) same
-        ∙ sym (append_assoc this (taken f path (k + 1) (front i ts)) (cond (f (k + suc i)) (one_below path (at_index (k + suc i)) (nth ts i)) [])))
+        ∙ sym (append_assoc this (taken f path (k + 1) (front i ts))
+        (cond (f (k + suc i)) (one_below path (at_index (k + suc i)) (nth ts i)) [])))
 
     one_reversed : (b : Bool) (i : ℕ) (o : Option Tree)
         → reverse (cond b (one_below path (at_index i) o) []) ≡ cond b (one_below path (at_index i) o) []
@@ -115,7 +120,8 @@ module _ (path : List Step) where
           ap (λ z. z ++ taken_left (i + 1)) m
           ∙ (append_assoc acc (taken_at (f i) i) (taken_left (i + 1))
           ∙ (ap (λ j. acc ++ (taken_at (f i) i ++ taken f path (i + 1) (dropped j (listed_items t)))) next
-          ∙ (ap (λ o. acc ++ (cond (f i) (one_below path (at_index i) o) [] ++ taken f path (i + 1) (dropped (suc i) (listed_items t)))) (at_item t i)
+          ∙ (ap (λ o. acc ++ (cond (f i) (one_below path (at_index i) o) []
+          ++ taken f path (i + 1) (dropped (suc i) (listed_items t)))) (at_item t i)
           ∙ (ap (λ z. acc ++ z) (sym (taken_step i i (listed_items t))) ∙ h))))
 
       pub up_taken : (acc more goal : List Part) (i : ℕ) → f i ≡ true → more ≡ acc ++ one_below path (at_index i) (tree_at t i)

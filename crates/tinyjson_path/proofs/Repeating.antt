@@ -1,6 +1,7 @@
 -- Nodes that repeat others on the stack: what one selects the other selects.
 use Rattle.std.proofs.Common.{◌≡◌, ℕ, ◌+◌, ◌<◌, ◌≤◌, Bool, true, false, List, [], ◌∷◌, ◌++◌, reverse, take, drop}
-use Rattle.std.proofs.Common.{Result, Ok, Err, OnOk, length, get_or, min, nat_lt, refl, sym, ap, ◌∙◌, subst, arith, append_assoc, append-nil}
+use Rattle.std.proofs.Common.{Result, Ok, Err, OnOk, length, get_or, min, nat_lt}
+use Rattle.std.proofs.Common.{refl, sym, ap, ◌∙◌, subst, arith, append_assoc, append-nil}
 use Rattle.std.proofs.Math.Nat.{min-eq_left, min-eq_right}
 use Rattle.std.proofs.lemmas.Bool.{ltb-false}
 use Rattle.std.proofs.lemmas.Bool.Decides.{nat_tests}
@@ -39,7 +40,8 @@ among_nodes : (ns : List Node) (j : ℕ) (m : Node) → j < length ns → m ≡ 
 among_nodes ns j m l at =
     sym (take-append-drop j ns) ∙ ap (λ z. take j ns ++ z) (drop_more ns j m l ∙ ap (λ z. z ∷ drop (j + 1) ns) (sym at))
 
-among_reversed : (i : ℕ) (front rest : List Node) (m : Node) → IsAmong (i, part_view m) (reverse (waits_at i (parts_view (front ++ m ∷ rest))))
+among_reversed : (i : ℕ) (front rest : List Node) (m : Node)
+    → IsAmong (i, part_view m) (reverse (waits_at i (parts_view (front ++ m ∷ rest))))
 among_reversed i front rest m =
     let fs : List Wait = waits_at i (parts_view front) in
     let rs : List Wait = waits_at i (parts_view rest) in

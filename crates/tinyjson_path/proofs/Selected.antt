@@ -9,8 +9,8 @@ use Rattle.tinyjson.specs.View.{text}
 use Rattle.tinyjson_path.specs.Comparing.{one_child, one_at, origin_tree, one_tree, whole, size_of, length_of, value_of}
 use Rattle.tinyjson_path.specs.Nodes.{Step, at_key, at_index, Part, below, items_from, members_at, children, visited, visited_items}
 use Rattle.tinyjson_path.specs.Nodes.{visited_members}
-use Rattle.tinyjson_path.specs.Selecting.{from_each, one_below, by_name, by_index, by_slice, by_steps, item_below, items_in, taken, up, down}
-use Rattle.tinyjson_path.specs.Selecting.{tree_at_place}
+use Rattle.tinyjson_path.specs.Selecting.{from_each, one_below, by_name, by_index, by_slice, by_steps, item_below, items_in, taken, up}
+use Rattle.tinyjson_path.specs.Selecting.{down, tree_at_place}
 use Rattle.tinyjson_path.specs.Slices.{place_of, clamped, clamped_after, bound_or, is_up, is_down}
 use Rattle.tinyjson_path.specs.Strings.{Texts, strings_in, strings_in_items, strings_in_members, strings_at, strings_of}
 use Rattle.tinyjson_path_query.specs.declared.query.Origin.{Origin}

@@ -7,17 +7,19 @@ use Rattle.tinyjson.specs.View.{text}
 use Rattle.tinyjson_path.specs.Comparing.{literal_tree, origin_tree}
 use Rattle.tinyjson_path.specs.Nodes.{Part, root_part, children, visited}
 use Rattle.tinyjson_path.specs.Patterns.{judged}
-use Rattle.tinyjson_path.specs.Queries.{Selects, Finds, Yields, Holds, union, one_by_one, kept, segment_step, selector_step, expression_step}
-use Rattle.tinyjson_path.specs.Queries.{comparable_step, function_step, filter_query_step, segment_parts, selector_parts, holds_of}
-use Rattle.tinyjson_path.specs.Queries.{comparable_value, filter_parts}
+use Rattle.tinyjson_path.specs.Queries.{Selects, Finds, Yields, Holds, union, one_by_one, kept, segment_step, selector_step}
+use Rattle.tinyjson_path.specs.Queries.{expression_step, comparable_step, function_step, filter_query_step, segment_parts, selector_parts}
+use Rattle.tinyjson_path.specs.Queries.{holds_of, comparable_value, filter_parts}
 use Rattle.tinyjson_path.specs.Selecting.{from_each}
 use Rattle.tinyjson_path.specs.Strings.{Texts, joined, literal_strings, segment_strings, selector_strings, expression_strings}
 use Rattle.tinyjson_path.specs.Strings.{comparable_strings, filter_strings, segments_strings, selectors_strings, strings_in, strings_at}
-use Rattle.tinyjson_path.specs.Strings.{segment_texts, selector_texts, expression_texts, comparable_texts, function_texts, filter_query_texts}
+use Rattle.tinyjson_path.specs.Strings.{segment_texts, selector_texts, expression_texts, comparable_texts}
+use Rattle.tinyjson_path.specs.Strings.{function_texts, filter_query_texts}
 use Rattle.tinyjson_path.proofs.Selected.{AreWithin, are_both, are_each, are_chosen, are_children, are_visited, are_by_name, are_by_index}
 use Rattle.tinyjson_path.proofs.Selected.{are_by_slice, is_origin, is_one_tree, is_length, is_value}
 use Rattle.tinyjson_path.proofs.Within.{Within, within_self, within_none, within_left, within_right, within_trans}
-use Rattle.tinyjson_path_query.specs.declared.query.Comparable.{Comparable, Comparable-F, fold_out-Comparable, map-Comparable, out-Comparable}
+use Rattle.tinyjson_path_query.specs.declared.query.Comparable.{Comparable, Comparable-F, fold_out-Comparable}
+use Rattle.tinyjson_path_query.specs.declared.query.Comparable.{map-Comparable, out-Comparable}
 use Rattle.tinyjson_path_query.specs.declared.query.Comparable.TheVariants as comparable
 use Rattle.tinyjson_path_query.specs.declared.query.ComparisonOperator.{ComparisonOperator}
 use Rattle.tinyjson_path_query.specs.declared.query.Expression.{Expression}

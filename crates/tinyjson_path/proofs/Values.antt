@@ -1,5 +1,6 @@
 -- Slices of a tree, and texts that are written.
-use Rattle.std.proofs.Common.{◌≡◌, ℕ, ℤ, pos, negsuc, List, [], Option, Some, None, Global, String, string_bytes, OnOk, Result, Ok, Err, is_ok}
+use Rattle.std.proofs.Common.{◌≡◌, ℕ, ℤ, pos, negsuc, List, [], Option, Some, None, Global, String, string_bytes}
+use Rattle.std.proofs.Common.{OnOk, Result, Ok, Err, is_ok}
 use Rattle.std.proofs.Common.{if◌then◌else◌, true, reverse, ◌++◌, sym, ap, ◌∙◌, subst, append_assoc, refl}
 use Rattle.std.proofs.lemmas.Str.{chars-append, chars-IsAscii}
 use Rattle.tinyjson.proofs.Callers.{are_ascii, IsAscii_literal, IsUtf8-string_bytes}
@@ -57,7 +58,8 @@ module _ (t : Tree) (path : List Step) (start end step : Option ℤ) where
       → reverse (taken (is_down low high n) path 0 (listed_items t)) ≡ by_slice path start end step t
   down_is n len low high z k a b =
       (λ i. reverse (taken (is_down (a i) (b i) n) path 0 (listed_items t)))
-      ∙ (ap (λ j. down path start end n (listed_items t) j) k ∙ (steps_down path start end step n (items_in t) (listed_items t) z ∙ slice_is))
+      ∙ (ap (λ j. down path start end n (listed_items t) j) k
+      ∙ (steps_down path start end step n (items_in t) (listed_items t) z ∙ slice_is))
 
 -- ---- texts
 

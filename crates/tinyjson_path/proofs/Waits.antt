@@ -1,5 +1,6 @@
 -- What waits on a stack, the first one last: what it selects, how long that takes, and whose strings it has.
-use Rattle.std.proofs.Common.{◌≡◌, ℕ, suc, ◌+◌, ◌<◌, ◌≤◌, Bool, List, [], ◌∷◌, ◌++◌, reverse, map, drop, length, get_or, refl, sym, ap, ◌∙◌, subst}
+use Rattle.std.proofs.Common.{◌≡◌, ℕ, suc, ◌+◌, ◌<◌, ◌≤◌, Bool, List, [], ◌∷◌, ◌++◌, reverse, map, drop, length, get_or}
+use Rattle.std.proofs.Common.{refl, sym, ap, ◌∙◌, subst}
 use Rattle.std.proofs.Common.{arith, append_assoc, append-nil, rules, Vec, Global, Option, None, Some, is_some}
 use Rattle.std.proofs.lemmas.List.{map-append, reverse-append, reverse-reverse, length-append}
 use Rattle.tinyjson.specs.Tree.{Tree}
@@ -29,7 +30,8 @@ waits_popped old mid w e = ap waits_view e ∙ map-append wait_view mid (w ∷ [
 
 -- a node that is taken off the end of a list, and put behind those that wait
 pub put_behind : (nodes front : List Node) (n : Node) (old new : List Waiting) (i : ℕ) (b : Bool) (goal : List Wait)
-    → nodes ≡ front ++ n ∷ [] → new ≡ old ++ record { node = n; segment = i; repeats = b } ∷ [] → waits_view old ++ reverse (waits_at i (parts_view nodes)) ≡ goal
+    → nodes ≡ front ++ n ∷ [] → new ≡ old ++ record { node = n; segment = i; repeats = b } ∷ []
+    → waits_view old ++ reverse (waits_at i (parts_view nodes)) ≡ goal
     → waits_view new ++ reverse (waits_at i (parts_view front)) ≡ goal
 put_behind nodes front n old new i b goal e m h =
     let split : parts_view nodes ≡ parts_view front ++ part_view n ∷ [] = ap parts_view e ∙ map-append part_view front (n ∷ []) in
@@ -265,7 +267,8 @@ all_came ps old goal e h = sym (append-nil ps) ∙ (ap (λ z. ps ++ z) (sym e) �
 
 -- of a root that is the same
 pub next_at : (ss : List Segment) (ws vs : List Wait) (o : Option Node) {r s : ValueView} → r ≡ s
-    → Takes (waits_left ss (tree_of r) ws) (waits_left ss (tree_of r) vs) o → Takes (waits_left ss (tree_of s) ws) (waits_left ss (tree_of s) vs) o
+    → Takes (waits_left ss (tree_of r) ws) (waits_left ss (tree_of r) vs) o
+    → Takes (waits_left ss (tree_of s) ws) (waits_left ss (tree_of s) vs) o
 next_at ss ws vs o e t = subst (λ x. Takes (waits_left ss (tree_of x) ws) (waits_left ss (tree_of x) vs) o) e t
 
 pub is_next : (old new : List Part) (o : Option Node) → Takes old new o → is_some o ≡ is_some_part old

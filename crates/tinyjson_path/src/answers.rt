@@ -108,8 +108,8 @@ pub(crate) fn keep<'v>(
     question: Question<'v>,
     reply: Reply<'v>,
 ) -> Result<(), AllocError>
-    ensures { (root : Tree) → AreKnown root answers.old.items → reply_view reply.entry ≡ due root question.entry
-        → AreKnown root answers.new.items }
+    ensures { (root : Tree) → AreKnown root answers.old.items
+        → reply_view reply.entry ≡ due root question.entry → AreKnown root answers.new.items }
 {
     let key = key_of(question);
     let place = place(answers.as_slice(), key);

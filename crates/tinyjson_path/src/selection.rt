@@ -87,7 +87,8 @@ pub struct Selection<'v> {
     finder: Finder<'v>,
     segments: &'v [Segment],
     waiting: Vec<Waiting<'v>>,
-    ghost within: { are_among (waits_strings (waits_view waiting.items)) (strings_in (tree_of finder.root)) ≡ true },
+    ghost within: { are_among (waits_strings (waits_view waiting.items))
+        (strings_in (tree_of finder.root)) ≡ true },
 }
 
 impl<'v> Selection<'v> {

@@ -1,9 +1,10 @@
 use Rattle.std.proofs.Common.{◌∷◌, ◌∙◌, ap, refl, sym, subst}
 use Rattle.i_regexp.specs.Fronts.{token_of}
 use Rattle.i_regexp.specs.Grammar.{character}
-use Rattle.i_regexp.specs.Levels.{StandsAt, IsSized, fresh, with_atom, barred, advance}
+use Rattle.i_regexp.specs.Levels.{StandsAt, IsSized, fresh, with_atom, with_assertion, barred, advance}
 use Rattle.i_regexp.proofs.Levels.{stands_same, outer_push, quantifier_takes, closed_takes}
-use Rattle.i_regexp.proofs.Sizes.{put_grown, put_large, opened_grown, opened_large, barred_grown, barred_large}
+use Rattle.i_regexp.proofs.Sizes.{put_grown, put_large, opened_grown, opened_large, barred_grown, barred_large, assertion_grown}
+use Rattle.i_regexp.proofs.Sizes.{assertion_large}
 use Rattle.i_regexp.proofs.reader.take.Goals as goal
 
 pub returns-in_default : goal.returns-in_default
@@ -78,3 +79,22 @@ pub returns-in-Quantifier : goal.returns-in-Quantifier
 returns-in-Quantifier c =
     quantifier_takes c.args.here.now _ c.args.outer.now.items c.in-Quantifier.least c.in-Quantifier.most (token_of c.args.token) _
     (ap token_of c.in-Quantifier.is) c.repeat_last.ensures
+
+pub returns-in_default-grown-3 : goal.returns-in_default-grown-3
+returns-in_default-grown-3 c = λ s a. (
+  (with_assertion s.0 c.in-Assertion.kind, s.1),
+  ap (λ t. advance s (token_of t)) c.in-Assertion.is,
+  assertion_large c.args.here.now s.0 s.1 c.in-Assertion.kind a.1 c.in_default-grown-3.ensures,
+)
+
+pub returns-in_ok-put_assertion-in-Assertion : goal.returns-in_ok-put_assertion-in-Assertion
+returns-in_ok-put_assertion-in-Assertion c = λ s a. (
+  (with_assertion s.0 c.in-Assertion.kind, s.1),
+  ap (λ t. advance s (token_of t)) c.in-Assertion.is,
+  (
+    c.in_ok-put_assertion-in-Assertion.ensures.read s.0 a.0,
+    assertion_grown c.args.here.now _ s.0 s.1 c.in-Assertion.kind c.in-Some-grown-3.size a.1 c.in-Some-grown-3.ensures
+        c.in_ok-put_assertion-in-Assertion.ensures.size,
+    a.2,
+  ),
+)

@@ -11,14 +11,16 @@ pub returns-in_err-write_next : goal.returns-in_err-write_next
 returns-in_err-write_next g c =
     fails _ (items_text c.args.shape false (left c.loop-next.rest)) c.from_residual.ensures.0 c.in_err-write_next.ensures
     (subst (λ o. Written (g.W.Write.contents c.args.output.now) (g.W.Write.contents c.loop-next.output)
-    (items_text c.args.shape true (begun c.args.first (left c.args.rest.now))) (items_text c.args.shape c.loop-next.is_first (begun o (left c.loop-next.rest))))
+    (items_text c.args.shape true (begun c.args.first (left c.args.rest.now)))
+    (items_text c.args.shape c.loop-next.is_first (begun o (left c.loop-next.rest))))
     c.in-Some.is c.loop-next.invariant)
 
 pub returns-in_err-next : goal.returns-in_err-next
 returns-in_err-next g c = MatchResult-from_err _ _ _ c.from_residual-in_err-next.ensures.0 (λ _. stop
     (goes (items_text c.args.shape false (left c.loop-next.rest)) c.in_ok-write_next.ensures
     (subst (λ o. Written (g.W.Write.contents c.args.output.now) (g.W.Write.contents c.loop-next.output)
-    (items_text c.args.shape true (begun c.args.first (left c.args.rest.now))) (items_text c.args.shape c.loop-next.is_first (begun o (left c.loop-next.rest))))
+    (items_text c.args.shape true (begun c.args.first (left c.args.rest.now)))
+    (items_text c.args.shape c.loop-next.is_first (begun o (left c.loop-next.rest))))
     c.in-Some.is c.loop-next.invariant)))
 
 pub loop-next-preserved : goal.loop-next-preserved
@@ -28,5 +30,6 @@ loop-next-preserved g c =
     (took (left c.loop-next.rest) (left c.next_of.new.selection) _ c.in_ok-next.ensures)
     (goes (items_text c.args.shape false (left c.loop-next.rest)) c.in_ok-write_next.ensures
     (subst (λ o. Written (g.W.Write.contents c.args.output.now) (g.W.Write.contents c.loop-next.output)
-    (items_text c.args.shape true (begun c.args.first (left c.args.rest.now))) (items_text c.args.shape c.loop-next.is_first (begun o (left c.loop-next.rest))))
+    (items_text c.args.shape true (begun c.args.first (left c.args.rest.now)))
+    (items_text c.args.shape c.loop-next.is_first (begun o (left c.loop-next.rest))))
     c.in-Some.is c.loop-next.invariant))

@@ -6,7 +6,8 @@ use Rattle.json_path.proofs.array.write_items_begun.Given as goal
 
 abbrev pub invariant-loop-next : goal.invariant-loop-next
 invariant-loop-next g l =
-    Written (g.W.Write.contents l.initial.output) (g.W.Write.contents l.output) (items_text l.shape true (begun l.fn.first (left l.fn.rest)))
+    Written (g.W.Write.contents l.initial.output) (g.W.Write.contents l.output)
+    (items_text l.shape true (begun l.fn.first (left l.fn.rest)))
     (items_text l.shape l.is_first (begun l.next (left l.rest)))
 
 abbrev pub decreases-loop-next : goal.decreases-loop-next

@@ -4,7 +4,8 @@ use Rattle.tinyjson_path.proofs.same.+comparing.Given as goal
 
 abbrev pub invariant-are_same-loop-index : goal.invariant-are_same-loop-index
 invariant-are_same-loop-index l =
-    map segment_parts (drop l.index l.left) ≡ map segment_parts (drop l.index l.right) → map segment_parts l.left ≡ map segment_parts l.right
+    map segment_parts (drop l.index l.left) ≡ map segment_parts (drop l.index l.right)
+    → map segment_parts l.left ≡ map segment_parts l.right
 
 abbrev pub invariant-are_selectors_same-loop-index : goal.invariant-are_selectors_same-loop-index
 invariant-are_selectors_same-loop-index l =

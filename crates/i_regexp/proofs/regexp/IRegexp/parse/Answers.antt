@@ -17,7 +17,7 @@ returns-in-Ok-read c =
       text = text;
       only = λ q t. one_reading (chars c.args.text.now) q r t text;
       small = c.in-Ok-read.ensures.3;
-      same = λ ds. (means.sound ds, means.complete ds);
+      same = record { to = means.sound; from = means.complete };
     }
 
 pub returns-in_default : goal.returns-in_default

@@ -23,7 +23,9 @@ loop-places-preserved c = record {
       ∙ ap (λ bs. cond (bytes_eq bs (path_bytes path)) true old)
       (path_is c.in_ok-place_path.field-0 (path_of n) c.in_ok-place_path.ensures))
       ∙ or_moves (bytes_eq (path_bytes (path_of n)) (path_bytes path)) old rest (is_at (left c.args.selection.now) path)
-      (ap (λ ps. old || is_at ps path) (sym (subst (λ o. Takes all (left c.next.new.self) o) c.in-Some.is c.in_ok-node.ensures.next)) ∙ c.loop-places.invariant.paths path);
+      (ap (λ ps. old || is_at ps path)
+      (sym (subst (λ o. Takes all (left c.next.new.self) o) c.in-Some.is c.in_ok-node.ensures.next))
+      ∙ c.loop-places.invariant.paths path);
 }
 
 pub loop-places-smaller : goal.loop-places-smaller

@@ -1,4 +1,5 @@
-use Rattle.std.proofs.Common.{◌≡◌, ◌≤◌, ◌∙◌, ◌++◌, ◌+◌, [], ◌∷◌, arith, rules, length, min, drop, reverse, ap, sym, subst, refl, option_map, Some}
+use Rattle.std.proofs.Common.{◌≡◌, ◌≤◌, ◌∙◌, ◌++◌, ◌+◌, [], ◌∷◌, arith, rules, length, min, drop, reverse}
+use Rattle.std.proofs.Common.{ap, sym, subst, refl, option_map, Some}
 use Rattle.std.specs.Prelude.{IfOk, IfErr}
 use Rattle.std.specs.Box.{box_value}
 use Rattle.tinyjson_path.proofs.Errors.{is_whole, is_left, is_right, is_one, node_within, error_of, error_from, error_of_pattern}
@@ -6,7 +7,8 @@ use Rattle.tinyjson_path.proofs.Errors.{same_result, part_result, answered, some
 use Rattle.tinyjson_view.proofs.Callers.{drop_past}
 use Rattle.tinyjson_path.proofs.Selected.{are_children, are_in, are_within, are_from}
 use Rattle.tinyjson_path.proofs.Stated.{are_kept, child_strings, descendant_strings, filter_strings_are, or_strings, and_strings}
-use Rattle.tinyjson_path.proofs.Stated.{not_strings, comparison_strings, test_strings, pattern_strings, length_strings, count_strings, value_strings, segments_of_query}
+use Rattle.tinyjson_path.proofs.Stated.{not_strings, comparison_strings, test_strings, pattern_strings, length_strings}
+use Rattle.tinyjson_path.proofs.Stated.{count_strings, value_strings, segments_of_query}
 use Rattle.tinyjson_path.proofs.Chosen.{chosen_children}
 use Rattle.tinyjson_view.proofs.Callers.{sorted_in, value_sound}
 use Rattle.tinyjson_path.proofs.Repeating.{AreSound, puts_both, sound_none, sound_next, sound_skip, left_skip}
@@ -193,7 +195,8 @@ matches-returns-in_err-test-in-Ok-clause-err t c =
 
 pub length-returns-in_err-compared-clause-err : goal.length-returns-in_err-compared-clause-err
 length-returns-in_err-compared-clause-err t c =
-    from_same (comparable_strings c.args.argument.now ++ (strings_in (tree_of c.args.self.now.root) ++ strings_in (tree_of c.args.here.now)))
+    from_same
+    (comparable_strings c.args.argument.now ++ (strings_in (tree_of c.args.self.now.root) ++ strings_in (tree_of c.args.here.now)))
     c.in_err-compared.field-0.0 c.from_residual.result c.from_residual.ensures.1 c.in_err-compared.ensures.err
 
 pub count-returns-in_err-found-clause-err : goal.count-returns-in_err-found-clause-err
@@ -409,7 +412,8 @@ next_found-loop-node-preserved t c =
           let low = waits_view w.push_containers.new.waiting.items in
           let puts : Puts rest newer = puts_both rest w.push_containers.new.waiting.items newer
           w.in_ok-push_containers-in-Descendant.ensures.marked
-          (subst (λ v. Puts w.push_containers.new.waiting.items v.items) (sym w.waiting-is) w.in_ok-push_selected-in-Descendant.ensures.marked) in
+          (subst (λ v. Puts w.push_containers.new.waiting.items v.items) (sym w.waiting-is)
+          w.in_ok-push_selected-in-Descendant.ensures.marked) in
           let lower : low ≡ mid ++ reverse (waits_at i inner) = w.in_ok-push_containers-in-Descendant.ensures.view in
           let pushed : new ≡ low ++ reverse (waits_at (i + 1) chosen) = ap (λ v. waits_view v.items) w.waiting-is
           ∙ (w.in_ok-push_selected-in-Descendant.ensures.ok
@@ -503,8 +507,8 @@ found_from-loop-waiting-smaller t c =
     let vs = waits_view c.next_found.new.waiting.items in
     one_less (waits_left ss root ws) (waits_left ss root vs) (part_view n)
     (next_at ss ws vs (Some n) c.loop-waiting.invariant.root
-    (subst (λ o. Takes (waits_left ss (tree_of c.loop-waiting.self.root) ws) (waits_left ss (tree_of c.loop-waiting.self.root) vs) o) c.in-Some.is
-    c.in_ok-node.ensures.next))
+    (subst (λ o. Takes (waits_left ss (tree_of c.loop-waiting.self.root) ws)
+    (waits_left ss (tree_of c.loop-waiting.self.root) vs) o) c.in-Some.is c.in_ok-node.ensures.next))
 
 pub found_from-loop-waiting-preserved : goal.found_from-loop-waiting-preserved
 found_from-loop-waiting-preserved t c =
@@ -521,7 +525,8 @@ found_from-loop-waiting-preserved t c =
         c.in_ok-found.ensures ps (part_view n) c.loop-waiting.invariant.left.1 refl,
         one_more ps (waits_left ss root ws) (waits_left ss root vs) (found_by ss root (tree_of c.args.value)) (part_view n)
             (next_at ss ws vs (Some n) c.loop-waiting.invariant.root
-            (subst (λ o. Takes (waits_left ss (tree_of c.loop-waiting.self.root) ws) (waits_left ss (tree_of c.loop-waiting.self.root) vs) o)
+            (subst (λ o. Takes (waits_left ss (tree_of c.loop-waiting.self.root) ws)
+            (waits_left ss (tree_of c.loop-waiting.self.root) vs) o)
             c.in-Some.is c.in_ok-node.ensures.next))
             c.loop-waiting.invariant.left.2,
       );

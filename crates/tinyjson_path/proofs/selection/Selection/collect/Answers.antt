@@ -29,4 +29,5 @@ loop-nodes-preserved c =
 pub returns-in_err-node-clause-err : goal.returns-in_err-node-clause-err
 returns-in_err-node-clause-err c =
     subst (λ ts. IfErr c.from_residual.result (IsFrom ts)) c.loop-nodes.invariant.sources
-    (from_same (sources c.loop-nodes.self) c.in_err-node.field-0.0 c.from_residual.result c.from_residual.ensures.1 c.in_err-node.ensures.err)
+    (from_same (sources c.loop-nodes.self) c.in_err-node.field-0.0 c.from_residual.result
+    c.from_residual.ensures.1 c.in_err-node.ensures.err)
