@@ -17,7 +17,7 @@ use Rattle.tinyjson_schema.specs.Places.{IsAt, place}
 use Rattle.tinyjson_schema.specs.Steps.{AddsFirst, AddsUses, use_of, place_of}
 use Rattle.tinyjson_schema.specs.Valid.{root_of}
 use Rattle.tinyjson_schema.specs.Walks.{IsDeeper}
-use Rattle.tinyjson_schema.specs.declared.validate.uses.Pending.{Pending}
+use Rattle.tinyjson_schema.specs.declared.validate.pending.Pending.{Pending}
 use Rattle.tinyjson_schema.specs.declared.violation.Violation.{Violation}
 use Rattle.tinyjson_schema.specs.declared.walk.Walk.{Walk}
 use Rattle.tinyjson_schema.proofs.Validity.{same_root}

@@ -25,7 +25,7 @@ use Rattle.tinyjson_schema.specs.Nested.{Applies, by_list, by_branch, by_key, by
 use Rattle.tinyjson_schema.specs.Nested.{Nests, within, is_reference}
 use Rattle.tinyjson_schema.specs.Parts.{property, additional, prefix_item, member_schema, item_schema, or_else}
 use Rattle.tinyjson_schema.specs.Steps.{AreApplied, use_of}
-use Rattle.tinyjson_schema.specs.declared.validate.uses.Pending.{Pending}
+use Rattle.tinyjson_schema.specs.declared.validate.pending.Pending.{Pending}
 use Rattle.tinyjson_schema.specs.declared.walk.Walk.{Walk}
 use Rattle.tinyjson_schema_keywords.specs.Applied.{schema_at, schemas_at, schema_map_at, items_in, members_in, branch}
 use Rattle.tinyjson_schema_keywords.specs.Names.{name}
@@ -96,7 +96,8 @@ of_option P None f h = tt
 of_option P (Some r) f h = (h r refl, tt)
 
 of_two : (P : Use → Type 0) (o p : Option Tree) (f e : Tree → Use) → ((r : Tree) → or_else o p ≡ Some r → P (f r))
-    → ((r : Tree) → or_else o p ≡ Some r → P (e r)) → AllByRecursion P (option_map_or (λ r. f r ∷ []) o (option_map_or (λ r. e r ∷ []) p []))
+    → ((r : Tree) → or_else o p ≡ Some r → P (e r)) → AllByRecursion P
+    (option_map_or (λ r. f r ∷ []) o (option_map_or (λ r. e r ∷ []) p []))
 of_two P None p f e g h = of_option P p e h
 of_two P (Some r) p f e g h = (g r refl, tt)
 
@@ -109,7 +110,8 @@ module _ (root s t : Tree) (g : IsTree s) (h : IsSorted (members_in t)) where
   abbrev IsApplied : Use → Type 0
   IsApplied u = Applies root s t u.schema u.value
 
-  of_all : (i : ℕ) (rs : Items) → ((j : ℕ) (r : Tree) → nth rs j ≡ Some r → Applies root s t r t) → AllByRecursion IsApplied (all_uses i rs t)
+  of_all : (i : ℕ) (rs : Items) → ((j : ℕ) (r : Tree) → nth rs j ≡ Some r → Applies root s t r t) → AllByRecursion IsApplied
+      (all_uses i rs t)
   of_all i no_items a = tt
   of_all i (item r rs) a = (a 0 r refl, of_all (suc i) rs (λ j q e. a (suc j) q e))
 

@@ -16,7 +16,8 @@ use Rattle.tinyjson_schema.specs.Evaluated.{Answers, Child, member_at, item_at, 
 use Rattle.tinyjson_schema.specs.Evaluated.{members_pass, items_pass, children_pass}
 use Rattle.tinyjson_schema.specs.Every.{Token, token, index, word, Spot, spot_of, here, at_keyword, Use, same, within, by}
 use Rattle.tinyjson_schema.specs.Every.{all_uses, uses_at, branch_uses, dependent_uses, found_uses, pattern_uses, target_uses}
-use Rattle.tinyjson_schema.specs.Every.{uses_of_member, member_uses, uses_of_item, item_uses, left_members, left_items, rest_members, rest_items, uses}
+use Rattle.tinyjson_schema.specs.Every.{uses_of_member, member_uses, uses_of_item, item_uses, left_members, left_items}
+use Rattle.tinyjson_schema.specs.Every.{rest_members, rest_items, uses}
 use Rattle.tinyjson_schema.specs.Every.{failing, own, under, spread, every, AreFirst, AreNoneIfValid}
 use Rattle.tinyjson_schema.specs.Parts.{or_else, property, additional, prefix_item}
 use Rattle.tinyjson_schema.specs.Valid.{Root, IsValidIn, judge, answers, refuses_all, target_accepts, reference_accepts}

@@ -1,5 +1,6 @@
 -- Schemas that apply no others.
-use Rattle.std.proofs.Common.{◌≡◌, ◌&&◌, ℕ, suc, true, false, not, is_some, List, [], ◌∷◌, Option, Some, None, Ok, refl, sym, ap, ◌∙◌, subst}
+use Rattle.std.proofs.Common.{◌≡◌, ◌&&◌, ℕ, suc, true, false, not, is_some, List, [], ◌∷◌, Option, Some, None, Ok, refl, sym}
+use Rattle.std.proofs.Common.{ap, ◌∙◌, subst}
 use Rattle.std.proofs.lemmas.Bool.{or_right}
 use Rattle.std.specs.Option.{option_map_or}
 use Rattle.std.specs.Prelude.{option_and_then}
@@ -14,7 +15,8 @@ use Rattle.tinyjson_schema_keywords.specs.declared.keyword.Keyword.TheVariants a
 use Rattle.tinyjson_schema_assertions.specs.Assertions.{meets_all, assertions, IsUnmet}
 use Rattle.tinyjson_schema.specs.Applicators.{Judge, all_accept, any_of, one_of, keys_pass, items_passing, is_zero, contained}
 use Rattle.tinyjson_schema.specs.Applicators.{contains_some, contains_at_most, contains_at_least, branch_accepts, dependents_accept}
-use Rattle.tinyjson_schema.specs.Applicators.{patterns_accept, applies, apply_all, tests, demands, members_accepted, items_accepted, parts_accepted}
+use Rattle.tinyjson_schema.specs.Applicators.{patterns_accept, applies, apply_all, tests, demands, members_accepted}
+use Rattle.tinyjson_schema.specs.Applicators.{items_accepted, parts_accepted}
 use Rattle.tinyjson_schema.specs.Evaluated.{Answers, rest_accepted}
 use Rattle.tinyjson_schema.specs.Parts.{member_schema, item_schema}
 use Rattle.tinyjson_schema.specs.Marks.{TestsNothing, DemandsNothing, RefersNowhere, AppliesNothing}

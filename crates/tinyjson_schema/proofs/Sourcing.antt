@@ -74,7 +74,8 @@ within_at n (y ∷ xs) (suc i) x h k e = within_at n xs i x h.1 (omega arith) e
 
 -- a schema, one step further in, and those that it applies
 pub schema_added : (w inner : Walk) (x : Source) (t : Tree) (xs ys zs : List Source) → IsDeeper w inner → x.asks ≡ false → x.walk ≡ inner
-    → ys ≡ xs ++ x ∷ [] → Adds inner (λ a c. inner_evaluate (view inner.ground.now.whole.now.root.now) a (view x.applied.schema.now) t c) ys zs
+    → ys ≡ xs ++ x ∷ [] → Adds inner (λ a c. inner_evaluate (view inner.ground.now.whole.now.root.now) a
+    (view x.applied.schema.now) t c) ys zs
     → Adds w (λ a c. a.evaluates (view x.applied.schema.now) t c) xs zs
 schema_added w inner x t xs ys zs d answers_for same put k g c =
     let s = view x.applied.schema.now in
@@ -93,7 +94,8 @@ schema_added w inner x t xs ys zs d answers_for same put k g c =
 
 -- the schema that asks, and those that it applies
 pub asking_added : (w : Walk) (x : Source) (t : Tree) (ys zs : List Source) → x.asks ≡ true → x.walk ≡ w → ys ≡ x ∷ []
-    → Adds w (λ a c. inner_evaluate (view w.ground.now.whole.now.root.now) a (view x.applied.schema.now) t c) ys zs → (g : Answers) (c : Child)
+    → Adds w (λ a c. inner_evaluate (view w.ground.now.whole.now.root.now) a (view x.applied.schema.now) t c) ys zs → (g : Answers)
+    (c : Child)
     → sources_evaluate g zs c ≡ others_evaluate (view w.ground.now.whole.now.root.now) (answers_in w g) (view x.applied.schema.now) t c
 asking_added w x t ys zs asked same put k g c =
     let s = view x.applied.schema.now in
@@ -251,20 +253,25 @@ rest_place w s t r xs a v sources e h =
     (in_rest h.child (ap (schema_at s) h.keyword ∙ sym e) h.named (λ g. sym (sources g h.child) ∙ h.left g) h.invalid)
 
 pub members_found : (w : Walk) (s r : Tree) (ms : Members) (xs : List Source) (x : Result (Option Violation) CheckError)
-    → ((g : Answers) (c : Child) → sources_evaluate g xs c ≡ others_evaluate (view w.ground.now.whole.now.root.now) (answers_in w g) s (object ms) c)
-    → AreReached (root_tree w) (suc w.steps) s (object ms) xs → Some r ≡ schema_at s kw.UnevaluatedProperties → FindsLeft w kw.UnevaluatedProperties xs r (object ms) x → FindsRest w s (object ms) x
+    → ((g : Answers) (c : Child) → sources_evaluate g xs c ≡ others_evaluate (view w.ground.now.whole.now.root.now) (answers_in w g) s
+    (object ms) c)
+    → AreReached (root_tree w) (suc w.steps) s (object ms) xs → Some r ≡ schema_at s kw.UnevaluatedProperties
+    → FindsLeft w kw.UnevaluatedProperties xs r (object ms) x → FindsRest w s (object ms) x
 members_found w s r ms xs (Ok None) sources reached e h = λ g.
     members_same (rest_accepts (view w.ground.now.whole.now.root.now) (answers_in w g) s (object ms))
     (λ c. sources_evaluate g xs c || says w g r (value_of c))
-    (λ k u. ap (λ o. option_map_or (λ q. others_evaluate (view w.ground.now.whole.now.root.now) (answers_in w g) s (object ms) (member_at k u)
+    (λ k u. ap (λ o. option_map_or (λ q. others_evaluate (view w.ground.now.whole.now.root.now) (answers_in w g) s (object ms)
+    (member_at k u)
     || says w g q u) o
     true) (sym e) ∙ ap (λ b. b || says w g r u) (sym (sources g (member_at k u)))) ms ∙ h g
 members_found w s r ms xs (Ok (Some v)) sources reached e h = rest_place w s (object ms) r xs kw.UnevaluatedProperties v sources e h
 members_found w s r ms xs (Err x) sources reached e h = if_deep x (λ f. f s (sym e) reached) h
 
 pub items_found : (w : Walk) (s r : Tree) (us : Items) (xs : List Source) (x : Result (Option Violation) CheckError)
-    → ((g : Answers) (c : Child) → sources_evaluate g xs c ≡ others_evaluate (view w.ground.now.whole.now.root.now) (answers_in w g) s (array us) c)
-    → AreReached (root_tree w) (suc w.steps) s (array us) xs → Some r ≡ schema_at s kw.UnevaluatedItems → FindsLeft w kw.UnevaluatedItems xs r (array us) x → FindsRest w s (array us) x
+    → ((g : Answers) (c : Child) → sources_evaluate g xs c ≡ others_evaluate (view w.ground.now.whole.now.root.now) (answers_in w g) s
+    (array us) c)
+    → AreReached (root_tree w) (suc w.steps) s (array us) xs → Some r ≡ schema_at s kw.UnevaluatedItems
+    → FindsLeft w kw.UnevaluatedItems xs r (array us) x → FindsRest w s (array us) x
 items_found w s r us xs (Ok None) sources reached e h = λ g.
     items_same (rest_accepts (view w.ground.now.whole.now.root.now) (answers_in w g) s (array us))
     (λ c. sources_evaluate g xs c || says w g r (value_of c))

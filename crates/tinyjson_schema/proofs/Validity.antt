@@ -433,7 +433,8 @@ last_tested w s t (Err e) a h = h
 
 -- the last step of the check
 pub last_found : (w : Walk) (s t : Tree) (x : Result (Option Violation) CheckError)
-    → refuses_all s ≡ false → meets_all (assertions w.ground.now.formats) s t ≡ true → ((g : Answers) → apply_all (says w g) tests s t ≡ true)
+    → refuses_all s ≡ false → meets_all (assertions w.ground.now.formats) s t ≡ true →
+    ((g : Answers) → apply_all (says w g) tests s t ≡ true)
     → ((g : Answers) → apply_all (says w g) demands s t ≡ true)
     → ((g : Answers) → reference_accepts (view w.ground.now.whole.now.root.now) (says w g) s t ≡ true)
     → ((g : Answers) → parts_accepted (says w g) s t ≡ true)

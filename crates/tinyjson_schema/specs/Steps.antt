@@ -12,9 +12,9 @@ use Rattle.tinyjson_schema.specs.Every.{Token, index, token, word, Spot, spot_of
 use Rattle.tinyjson_schema.specs.Nested.{Applies}
 use Rattle.tinyjson_schema.specs.Parts.{is_by_part}
 use Rattle.tinyjson_schema.specs.Valid.{root_of}
-use Rattle.tinyjson_schema.specs.declared.validate.uses.Pending.{Pending}
-use Rattle.tinyjson_schema.specs.declared.validate.uses.Step.{Step}
-use Rattle.tinyjson_schema.specs.declared.validate.uses.Step.TheVariants.{Schema, Listed, Keyed, Member, Patterned, Item}
+use Rattle.tinyjson_schema.specs.declared.validate.pending.Pending.{Pending}
+use Rattle.tinyjson_schema.specs.declared.validate.pending.Step.{Step}
+use Rattle.tinyjson_schema.specs.declared.validate.pending.Step.TheVariants.{Schema, Listed, Keyed, Member, Patterned, Item}
 use Rattle.tinyjson_schema.specs.declared.violation.Violation.{Violation}
 use Rattle.tinyjson_schema.specs.declared.walk.Walk.{Walk}
 use Rattle.tinyjson_view.specs.Views.{tree_of}

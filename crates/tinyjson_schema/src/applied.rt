@@ -1,12 +1,15 @@
 //! Schemas that are applied, with marks of their names.
 ghost use Rattle.std.specs.Int.{bit_at};
-ghost use Rattle.std.specs.Prelude.{◌≡◌, ◌==◌, None, IfOk, true, false, option_map};
+ghost use Rattle.std.specs.Prelude.{◌≡◌, ◌==◌, Some, None, IfOk, true, false, option_map};
+ghost use Rattle.std.specs.Str.{chars};
+ghost use Rattle.tinyjson.specs.Index.{nth};
 ghost use Rattle.tinyjson.specs.Soundness.{IsSorted};
 ghost use Rattle.tinyjson.specs.View.{view, items_view, members_listed};
 ghost use Rattle.tinyjson_schema_keywords.specs.Applied.{schema_at, schemas_at, schema_map_at};
 ghost use Rattle.tinyjson_schema_keywords.specs.Names.{name};
 ghost use Rattle.tinyjson_schema_keywords.specs.References.{referenced};
 ghost use Rattle.tinyjson_schema_keywords.specs.declared.keyword.Keyword.{Keyword};
+ghost use Rattle.tinyjson_schema_table.specs.Links.{keyed};
 ghost use Rattle.tinyjson_schema_table.specs.Marks.{mark, HasMarks};
 ghost use Rattle.tinyjson_schema_table.specs.Places.{is_of};
 ghost use Rattle.tinyjson_schema.specs.Marks.{AppliesNothing, DemandsNothing, RefersNowhere};
@@ -17,7 +20,7 @@ use crate::walk::Walk;
 use std::alloc::{AllocError, Global};
 use tinyjson::JsonValue;
 use tinyjson_schema_keywords::{Keyword, items_in, listed_members, schema_at, target};
-use tinyjson_schema_table::{Known, mark_of, marks_of};
+use tinyjson_schema_table::{Known, Way, known_part, mark_of, marks_of};
 
 /// The marks of the keywords that apply schemas.
 const APPLICATORS: u64 = 0x4841_0140_7029_0051;
@@ -145,6 +148,42 @@ impl<'s> Applied<'s> {
             Some(known) => known.shape.value_of(keyword),
             None => schema_at(self.schema, keyword),
         }
+    }
+
+    /// The schema that is the value of the keyword, if the schema has it. Neither this nor the next two are inlined, for
+    /// the stack that nested schemas take.
+    #[inline(never)]
+    pub fn part(&self, keyword: Keyword) -> Option<Applied<'s>>
+        ensures { option_map (λ x. view x.schema.now) result
+            ≡ schema_at (view self.now.schema.now) keyword }
+    {
+        let Some(schema) = self.schema_at(keyword) else {
+            return None;
+        };
+        let known = known_part(self.known, Way::Single(keyword), 0);
+        Some(Applied::by(schema, known))
+    }
+
+    /// The schema that the keyword's list has at the index.
+    #[inline(never)]
+    pub fn listed_part(&self, keyword: Keyword, index: usize, schema: &'s JsonValue) -> Applied<'s>
+        requires { nth (schemas_at (view self.now.schema.now) keyword) index
+            ≡ Some (view schema.now) }
+        ensures { view result.schema.now ≡ view schema.now }
+    {
+        let known = known_part(self.known, Way::Listed(keyword, index), index);
+        Applied::by(schema, known)
+    }
+
+    /// The schema that the keyword's object has at the key.
+    #[inline(never)]
+    pub fn keyed_part(&self, keyword: Keyword, key: &str, schema: &'s JsonValue) -> Applied<'s>
+        requires { keyed (view self.now.schema.now) keyword (chars key.now)
+            ≡ Some (view schema.now) }
+        ensures { view result.schema.now ≡ view schema.now }
+    {
+        let known = known_part(self.known, Way::Keyed(keyword, key), 0);
+        Applied::by(schema, known)
     }
 
     /// The list of schemas that the keyword has, or an empty one.

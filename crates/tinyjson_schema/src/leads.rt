@@ -11,9 +11,9 @@ use tinyjson_schema_keywords::{Keyword, SchemaMember, Walk, Whole, schema_member
 use tinyjson_schema_table::Table;
 
 /// How many references are kept. They are compared one by one.
-const KEPT: usize = 16;
+const KEPT: usize = 64;
 
-/// The first references of the whole schema, up to 16 of them. The only error is out of memory.
+/// The first different references of the whole schema, up to 64 of them. The only error is out of memory.
 pub fn leads_of<'s>(whole: &Whole<'s>, alloc: Global) -> Result<Vec<Lead<'s>>, AllocError>
     ensures { IfOk result (λ leads. are_led (view whole.now.root.now) leads.items ≡ true) }
 {
@@ -30,7 +30,7 @@ pub fn leads_of<'s>(whole: &Whole<'s>, alloc: Global) -> Result<Vec<Lead<'s>>, A
     Ok(leads)
 }
 
-/// Appends the member, if it is a `$ref` that leads to a schema, and not too many are there.
+/// Appends the member, if it is a `$ref` that leads to a schema, one with this text is not there, and not too many are.
 fn add_lead<'s>(
     member: SchemaMember<'s>,
     walk: Walk<'_, 's>,
@@ -48,6 +48,9 @@ fn add_lead<'s>(
     let JsonValue::String(reference) = member.value else {
         return Ok(());
     };
+    if led(leads.as_slice(), reference.as_str()).is_some() {
+        return Ok(());
+    }
     let Some(schema) = target(member.value, walk)? else {
         return Ok(());
     };

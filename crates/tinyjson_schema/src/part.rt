@@ -14,7 +14,7 @@ use crate::applied::Applied;
 use crate::walk::{CheckError, Walk};
 use tinyjson::JsonValue;
 use tinyjson_schema_keywords::{Keyword, operand};
-use tinyjson_schema_table::{known_item, known_property};
+use tinyjson_schema_table::{Way, known_part};
 
 /// The schema for a part of the value, and the keyword that applies it.
 #[derive(Clone, Copy)]
@@ -41,7 +41,7 @@ pub fn member_part_of<'s>(
     if walk.ground.whole.budget.spend(1).is_err() {
         return Err(CheckError::TooMuch);
     }
-    if let Some(known) = known_property(here.known, key, near) {
+    if let Some(known) = known_part(here.known, Way::Keyed(Keyword::Properties, key), near) {
         return Ok(Some(Part {
             applicator: Keyword::Properties,
             to: Applied::known(known),
@@ -54,10 +54,13 @@ pub fn member_part_of<'s>(
         }));
     }
     match additional(here, key, walk)? {
-        Some(part) => Ok(Some(Part {
-            applicator: Keyword::AdditionalProperties,
-            to: Applied::of(part),
-        })),
+        Some(part) => {
+            let known = known_part(here.known, Way::Single(Keyword::AdditionalProperties), 0);
+            Ok(Some(Part {
+                applicator: Keyword::AdditionalProperties,
+                to: Applied::by(part, known),
+            }))
+        }
         None => Ok(None),
     }
 }
@@ -67,12 +70,13 @@ pub fn item_part<'s>(here: &Applied<'s>, index: usize) -> Option<Part<'s>>
     ensures { IsItemPart (view here.now.schema.now) index result }
 {
     if let Some(part) = prefix_item(here, index) {
+        let known = known_part(here.known, Way::Listed(Keyword::PrefixItems, index), index);
         return Some(Part {
             applicator: Keyword::PrefixItems,
-            to: Applied::of(part),
+            to: Applied::by(part, known),
         });
     }
-    if let Some(known) = known_item(here.known) {
+    if let Some(known) = known_part(here.known, Way::Single(Keyword::Items), 0) {
         return Some(Part {
             applicator: Keyword::Items,
             to: Applied::known(known),

@@ -17,13 +17,13 @@ ghost use Rattle.tinyjson_schema.specs.Nested.{IfDeep};
 ghost use Rattle.tinyjson_schema.specs.Deep.{IsShallow, Descends};
 ghost use Rattle.tinyjson_schema.specs.Marks.{AppliesNothing};
 ghost use Rattle.tinyjson_schema.specs.Places.{IsAt};
-ghost use Rattle.tinyjson_schema_table.specs.Places.{is_of};
 ghost use Rattle.tinyjson_schema.specs.Valid.{refuses_all, reference_accepts, ValidatesIn, AgreesIn};
 ghost use Rattle.tinyjson_schema.specs.Valid.{Judges, Follows, Finds, FindsFound};
 ghost use Rattle.tinyjson_schema.specs.Nested.{is_reference};
 ghost use Rattle.tinyjson_schema.specs.Valid.{target_accepts, root_of};
 
 mod every;
+mod pending;
 mod tested;
 mod unevaluated;
 mod uses;
@@ -39,7 +39,6 @@ pub use every::find_violations;
 use tinyjson::{JsonKind, JsonValue};
 use tinyjson_document::JsonView;
 use tinyjson_schema_keywords::{Keyword, branch};
-use tinyjson_schema_table::{Known, marks_of};
 use tinyjson_view::{MemberView, ValueView};
 
 /// What the value violates of the whole schema, if it violates it; `None` means that the value is valid. Nested
@@ -63,23 +62,6 @@ pub fn find_violation(
 }
 
 /// `find_violation` for a subschema of the whole schema.
-#[cycle(validate)]
-fn violation_in(
-    value: &ValueView<'_>,
-    schema: &JsonValue,
-    walk: Walk<'_, '_>,
-) -> Result<Option<Violation>, CheckError>
-    ensures { Judges walk.entry (view schema.now) (tree_of value.now) result }
-{
-    let here = Applied {
-        schema,
-        marks: marks_of(schema),
-        known: None,
-    };
-    violation_of(value, &here, walk)
-}
-
-/// `violation_in` for a schema whose marks are there already.
 #[cycle(validate)]
 fn violation_of(
     value: &ValueView<'_>,
@@ -145,35 +127,17 @@ fn has_key(value: &ValueView<'_>, key: &str) -> bool
 #[cycle(validate)]
 fn is_accepted(
     value: &ValueView<'_>,
-    schema: &JsonValue,
+    part: &Applied<'_>,
     walk: Walk<'_, '_>,
 ) -> Result<bool, CheckError>
     ensures { MatchResult result
-        (λ is. Follows walk.entry is (λ f. f (view schema.now) (tree_of value.now)))
-        (λ e. IfDeep e (Descends walk.entry (view schema.now) (tree_of value.now))) }
+        (λ is. Follows walk.entry is (λ f. f (view part.now.schema.now) (tree_of value.now)))
+        (λ e. IfDeep e (Descends walk.entry (view part.now.schema.now) (tree_of value.now))) }
 {
-    let found = violation_in(value, schema, walk)?;
-    Ok(found.is_none())
-}
-
-/// `is_accepted` for a schema that may be known.
-#[cycle(validate)]
-fn is_accepted_by(
-    value: &ValueView<'_>,
-    schema: &JsonValue,
-    known: Option<Known<'_>>,
-    walk: Walk<'_, '_>,
-) -> Result<bool, CheckError>
-    requires { is_of known (view schema.now) ≡ true }
-    ensures { MatchResult result
-        (λ is. Follows walk.entry is (λ f. f (view schema.now) (tree_of value.now)))
-        (λ e. IfDeep e (Descends walk.entry (view schema.now) (tree_of value.now))) }
-{
-    let part = Applied::by(schema, known);
     if !part.may_apply() {
-        return is_accepted_alone(value, &part, walk);
+        return is_accepted_alone(value, part, walk);
     }
-    let found = violation_of(value, &part, walk)?;
+    let found = violation_of(value, part, walk)?;
     Ok(found.is_none())
 }
 
@@ -197,7 +161,8 @@ fn is_accepted_alone(
     Ok(found.is_none())
 }
 
-/// What the value violates of the schemas of `allOf`, `if`, `dependentSchemas` or `patternProperties`.
+/// What the value violates of the schemas of `allOf`, `if`, `dependentSchemas` or `patternProperties`. Those for each are
+/// not inlined, so that a level of the recursion takes the stack of one of them.
 #[cycle(validate)]
 #[inline(never)]
 fn in_demands(
@@ -226,6 +191,7 @@ fn in_demands(
 
 /// What the value violates of a schema of `allOf`.
 #[cycle(validate)]
+#[inline(never)]
 fn in_all_of(
     value: &ValueView<'_>,
     here: &Applied<'_>,
@@ -237,7 +203,8 @@ fn in_all_of(
 {
     let parts = here.schemas_at(Keyword::AllOf);
     for (index, part) in parts.iter().enumerate() {
-        if let Some(mut found) = violation_in(value, part, walk)? {
+        let applied = here.listed_part(Keyword::AllOf, index, part);
+        if let Some(mut found) = violation_of(value, &applied, walk)? {
             found.enter_listed(walk.alloc, Keyword::AllOf, index)?;
             return Ok(Some(found));
         }
@@ -247,6 +214,7 @@ fn in_all_of(
 
 /// What the value violates of the schema that `if` chooses.
 #[cycle(validate)]
+#[inline(never)]
 fn in_branch(
     value: &ValueView<'_>,
     here: &Applied<'_>,
@@ -255,15 +223,15 @@ fn in_branch(
     ensures { Finds walk.entry (λ f. applies f kw.If (view here.now.schema.now) (tree_of value.now))
         (view here.now.schema.now) (tree_of value.now) result }
 {
-    let Some(test) = here.schema_at(Keyword::If) else {
+    let Some(test) = here.part(Keyword::If) else {
         return Ok(None);
     };
-    let accepted = is_accepted(value, test, walk)?;
+    let accepted = is_accepted(value, &test, walk)?;
     let chosen = branch(accepted);
-    let Some(part) = here.schema_at(chosen) else {
+    let Some(part) = here.part(chosen) else {
         return Ok(None);
     };
-    let Some(mut found) = violation_in(value, part, walk)? else {
+    let Some(mut found) = violation_of(value, &part, walk)? else {
         return Ok(None);
     };
     found.enter_keyword(walk.alloc, chosen)?;
@@ -272,6 +240,7 @@ fn in_branch(
 
 /// What the value violates of a schema of `dependentSchemas` whose key it has.
 #[cycle(validate)]
+#[inline(never)]
 fn in_dependents(
     value: &ValueView<'_>,
     here: &Applied<'_>,
@@ -285,9 +254,11 @@ fn in_dependents(
     let dependents = listed.as_slice();
     walk.ground.whole.budget.charge(dependents.len());
     for &(key, part) in dependents {
-        if has_key(value, key.as_str()) {
-            if let Some(mut found) = violation_in(value, part, walk)? {
-                found.enter_keyed(walk.alloc, Keyword::DependentSchemas, key.as_str())?;
+        let name = key.as_str();
+        if has_key(value, name) {
+            let applied = here.keyed_part(Keyword::DependentSchemas, name, part);
+            if let Some(mut found) = violation_of(value, &applied, walk)? {
+                found.enter_keyed(walk.alloc, Keyword::DependentSchemas, name)?;
                 return Ok(Some(found));
             }
         }
@@ -311,8 +282,10 @@ fn in_patterned(
     let patterns = listed.as_slice();
     walk.ground.whole.budget.charge(patterns.len());
     for &(pattern, part) in patterns {
-        if let Some(mut found) = in_found(value, pattern.as_str(), part, walk)? {
-            found.enter_keyed(walk.alloc, Keyword::PatternProperties, pattern.as_str())?;
+        let text = pattern.as_str();
+        let applied = here.keyed_part(Keyword::PatternProperties, text, part);
+        if let Some(mut found) = in_found(value, text, &applied, walk)? {
+            found.enter_keyed(walk.alloc, Keyword::PatternProperties, text)?;
             return Ok(Some(found));
         }
     }
@@ -325,10 +298,10 @@ fn in_patterned(
 fn in_found(
     value: &ValueView<'_>,
     pattern: &str,
-    schema: &JsonValue,
+    part: &Applied<'_>,
     walk: Walk<'_, '_>,
 ) -> Result<Option<Violation>, CheckError>
-    ensures { FindsFound walk.entry (chars pattern.now) (view schema.now)
+    ensures { FindsFound walk.entry (chars pattern.now) (view part.now.schema.now)
         (members_in (tree_of value.now)) result }
 {
     let listed = value.members(walk.alloc)?;
@@ -336,7 +309,7 @@ fn in_found(
     for member in members {
         let is_found = walk.is_found(pattern, member.key)?;
         if is_found {
-            if let Some(mut found) = violation_in(&member.value, schema, walk)? {
+            if let Some(mut found) = violation_of(&member.value, part, walk)? {
                 found.enter_value(walk.alloc, member.key)?;
                 return Ok(Some(found));
             }

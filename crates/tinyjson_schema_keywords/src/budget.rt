@@ -1,4 +1,7 @@
 //! How much work a check may do.
+ghost use Rattle.std.specs.Prelude.{◌≡◌, ◌<◌, IfErr};
+ghost use Rattle.tinyjson_schema_keywords.specs.declared.walk.CheckError.{CheckError};
+
 use crate::walk::CheckError;
 use std::cell::Cell;
 
@@ -23,7 +26,9 @@ impl Budget {
     }
 
     /// Takes the steps. If fewer are left, it takes all of them, and the error is `TooMuch`.
-    pub fn spend(&self, steps: usize) -> Result<(), CheckError> {
+    pub fn spend(&self, steps: usize) -> Result<(), CheckError>
+        ensures { IfErr result (λ error. (error ≡ CheckError.TooMuch) × (0 < steps)) }
+    {
         let left = self.left.get();
         let steps = steps as u64;
         self.left.set(left.saturating_sub(steps));

@@ -98,8 +98,8 @@ fn with_words(
 ) -> Result<Option<Finding>, CheckError>
     requires { ValidatesIn checks.limits.nested (root_in schema.now checks.formats)
         (value_tree value.now) (Ok (Some violation)) }
-    ensures { FindsIn checks.limits.nested (root_in schema.now checks.formats) (value_tree value.now)
-        result }
+    ensures { FindsIn checks.limits.nested (root_in schema.now checks.formats)
+        (value_tree value.now) result }
 {
     let places = Places {
         keyword: &violation.keyword_location,

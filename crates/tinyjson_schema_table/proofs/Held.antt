@@ -5,6 +5,7 @@ use Rattle.std.proofs.lemmas.Bool.{and_parts, and_from}
 use Rattle.std.specs.Prelude.{slice_get}
 use Rattle.tinyjson.specs.Equality.{tree_eq, tree_eq_Decides}
 use Rattle.tinyjson.specs.Tree.{Tree}
+use Rattle.tinyjson_schema_keywords.specs.declared.keyword.Keyword.{Keyword}
 use Rattle.tinyjson_schema_table.specs.Held.{is_value, are_values}
 
 some_apart : {A : Type 0} {x : A} {R : Type 0} → None ≡ Some x → R
@@ -12,6 +13,10 @@ some_apart h = cc
 
 some_is : {A : Type 0} (a b : A) → Some a ≡ Some b → a ≡ b
 some_is a b h = cc
+
+-- two keywords at one place
+pub one_there : (k l : Keyword) → Some k ≡ Some l → k ≡ l
+one_there k l h = some_is k l h
 
 -- ---- the values are those
 

@@ -122,7 +122,8 @@ module _ (xs ys : List Shape) (keeps : Keeps xs ys) where
   fit_next (z ∷ zs) (o ∷ os) ms s at good (w ∷ ws) kept before (suc i) =
       fit_next zs os ms s at good ws (λ j t h. kept (suc j) t h) (λ j. before (suc j)) i
 
-pub next_added : (xs ys : List Shape) (lss mss : List (Vec Link Global)) (ms : Vec Link Global) (s : Tree) → Some s ≡ tree_in xs (length lss)
+pub next_added : (xs ys : List Shape) (lss mss : List (Vec Link Global)) (ms : Vec Link Global) (s : Tree) → Some s ≡ tree_in xs
+    (length lss)
     → AddsLinks s xs ys [] ms.items → mss ≡ lss ++ (ms ∷ []) → AddsNext xs ys lss mss
 next_added xs ys lss mss ms s at a e = record {
   keeps = a.keeps;
@@ -144,7 +145,8 @@ link_of xs s (m ∷ ls) zero l h e =
 link_of xs s (m ∷ ls) (suc i) l h e = link_of xs s ls i l (and_parts (is_link xs s m) (are_links xs s ls) h).1 e
 
 -- what is at the place of a link of the schema at a place
-pub linked_to : (xs : List Shape) (lss : List (Vec Link Global)) (at : ℕ) (s : Tree) (ls : Vec Link Global) (i : ℕ) (l : Link) (n : Option Known)
+pub linked_to : (xs : List Shape) (lss : List (Vec Link Global)) (at : ℕ) (s : Tree) (ls : Vec Link Global) (i : ℕ) (l : Link)
+    (n : Option Known)
     → AreLinked xs lss → is_at (tree_in xs at) s ≡ true → slice_get lss at ≡ Some ls → slice_get ls.items i ≡ Some l
     → IsIn xs l.at n → LeadsTo (led_by s l.way) n
 linked_to xs lss at s ls i l None linked is there link found = tt

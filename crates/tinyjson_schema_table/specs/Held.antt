@@ -7,9 +7,9 @@ use Rattle.tinyjson_schema_keywords.specs.declared.keyword.Keyword.{Keyword}
 use Rattle.tinyjson_schema_keywords.specs.declared.keyword.Keyword.TheVariants as kw
 
 abbrev pub held : List Keyword
-held = kw.Ref ∷ kw.DynamicRef ∷ kw.AllOf ∷ kw.AnyOf ∷ kw.OneOf ∷ kw.Not ∷ kw.If ∷ kw.Then ∷ kw.Else ∷ kw.DependentSchemas
-    ∷ kw.PrefixItems ∷ kw.Items ∷ kw.Contains ∷ kw.MinContains ∷ kw.MaxContains ∷ kw.Properties ∷ kw.PatternProperties
-    ∷ kw.AdditionalProperties ∷ kw.PropertyNames ∷ kw.UnevaluatedItems ∷ kw.UnevaluatedProperties ∷ []
+held = kw.Properties ∷ kw.AnyOf ∷ kw.OneOf ∷ kw.Items ∷ kw.AllOf ∷ kw.PrefixItems ∷ kw.PatternProperties ∷ kw.DependentSchemas ∷ kw.Not
+    ∷ kw.If ∷ kw.Then ∷ kw.Else ∷ kw.Contains ∷ kw.AdditionalProperties ∷ kw.PropertyNames
+    ∷ kw.UnevaluatedItems ∷ kw.UnevaluatedProperties ∷ kw.Ref ∷ kw.DynamicRef ∷ kw.MinContains ∷ kw.MaxContains ∷ []
 
 -- their values in the schema
 abbrev pub values_of : Tree → List (Option Tree)

@@ -8,23 +8,22 @@ use Rattle.tinyjson.specs.Index.{nth, tree_at_key}
 use Rattle.tinyjson.specs.Tree.{Tree}
 use Rattle.tinyjson.specs.View.{view}
 use Rattle.tinyjson_schema_keywords.specs.Applied.{schema_at, schemas_at}
-use Rattle.tinyjson_schema_keywords.specs.declared.keyword.Keyword.TheVariants as kw
+use Rattle.tinyjson_schema_keywords.specs.declared.keyword.Keyword.{Keyword}
 use Rattle.tinyjson_schema_table.specs.Givens.{is_at}
 use Rattle.tinyjson_schema_table.specs.declared.link.Link.{Link}
 use Rattle.tinyjson_schema_table.specs.declared.shape.Shape.{Shape}
 use Rattle.tinyjson_schema_table.specs.declared.link.Way.{Way}
 use Rattle.tinyjson_schema_table.specs.declared.link.Way.TheVariants as way
 
--- the schema of `properties` at a key
-abbrev pub property : Tree → List ℕ → Option Tree
-property s k = option_and_then (λ p. tree_at_key p k) (schema_at s kw.Properties)
+-- the schema at a key of the keyword's object
+abbrev pub keyed : Tree → Keyword → List ℕ → Option Tree
+keyed s k l = option_and_then (λ p. tree_at_key p l) (schema_at s k)
 
 -- the schema to which the way leads
 abbrev pub led_by : Tree → Way → Option Tree
-led_by s way.Items = schema_at s kw.Items
-led_by s (way.Property k) = property s (chars k.now)
-led_by s (way.AnyOf i) = nth (schemas_at s kw.AnyOf) i
-led_by s (way.OneOf i) = nth (schemas_at s kw.OneOf) i
+led_by s (way.Single k) = schema_at s k
+led_by s (way.Listed k i) = nth (schemas_at s k) i
+led_by s (way.Keyed k l) = keyed s k (chars l.now)
 
 -- the schema at a place of the table
 abbrev pub tree_in : List Shape → ℕ → Option Tree
@@ -65,10 +64,10 @@ pub record AddsNext (xs ys : List Shape) (lss mss : List (Vec Link Global)) : Ty
   pub keeps : Keeps xs ys
   pub linked : AreLinked xs lss → AreLinked ys mss
 
--- the place is that to which one of the links leads, that of the subschema f
-pub record IsPlaceOf (ls : List Link) (f : Tree → Option Tree) (at : ℕ) : Type 0 where
+-- the place is that to which one of the links leads, the one for the way
+pub record IsPlaceOf (ls : List Link) (w : Way) (at : ℕ) : Type 0 where
   pub index : ℕ
   pub link : Link
   pub there : slice_get ls index ≡ Some link
-  pub leads : (s : Tree) → led_by s link.way ≡ f s
+  pub leads : (s : Tree) → led_by s link.way ≡ led_by s w
   pub place : at ≡ link.at

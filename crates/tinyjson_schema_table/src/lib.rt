@@ -17,7 +17,8 @@ mod values;
 
 pub use constraints::{assertions, unmet_given};
 pub use given::Given;
-pub use known::{known_item, known_listed, known_property};
+pub use known::known_part;
+pub use link::Way;
 pub use marks::{mark_of, marks_of};
 pub use shape::Shape;
 pub use table::{Known, Table};

@@ -3,36 +3,23 @@ ghost use Rattle.std.specs.Prelude.{◌≡◌, true, IfSome};
 ghost use Rattle.std.specs.Str.{chars};
 ghost use Rattle.tinyjson.specs.Index.{nth};
 ghost use Rattle.tinyjson.specs.Tree.{Tree};
-ghost use Rattle.tinyjson_schema_keywords.specs.Applied.{schemas_at};
-ghost use Rattle.tinyjson_schema_keywords.specs.declared.keyword.Keyword.TheVariants as kw;
-ghost use Rattle.tinyjson_schema_table.specs.Links.{property, led_by, IsPlaceOf};
+ghost use Rattle.tinyjson_schema_keywords.specs.Applied.{schema_at, schemas_at};
+ghost use Rattle.tinyjson_schema_table.specs.Links.{keyed, led_by, IsPlaceOf};
 
+use crate::values::place_of;
+use std::cmp::Ordering;
 use tinyjson_bytes::are_equal;
 use tinyjson_schema_keywords::Keyword;
 
 /// How a schema leads to a subschema.
 #[derive(Clone, Copy)]
 pub enum Way<'s> {
-    /// By `items`.
-    Items,
-    /// By `properties`, at this key.
-    Property(&'s str),
-    /// By `anyOf`, at this index.
-    AnyOf(usize),
-    /// By `oneOf`, at this index.
-    OneOf(usize),
-}
-
-/// The way by the list of `anyOf` or `oneOf`, at the index; `None` for another keyword.
-pub fn way_of<'s>(keyword: Keyword, index: usize) -> Option<Way<'s>>
-    ensures { IfSome result
-        (λ way. (s : Tree) → led_by s way ≡ nth (schemas_at s keyword) index) }
-{
-    match keyword {
-        Keyword::AnyOf => Some(Way::AnyOf(index)),
-        Keyword::OneOf => Some(Way::OneOf(index)),
-        _ => None,
-    }
+    /// By the keyword, whose value it is.
+    Single(Keyword),
+    /// By the keyword's list, at this index.
+    Listed(Keyword, usize),
+    /// By the keyword's object, at this key.
+    Keyed(Keyword, &'s str),
 }
 
 /// A way, and the place in the table to which it leads.
@@ -42,93 +29,116 @@ pub struct Link<'s> {
     pub at: usize,
 }
 
-/// The place to which the link for the property leads. The link at the place `near` is tried first.
-pub fn found(links: &[Link<'_>], key: &str, near: usize) -> Option<usize>
-    ensures { IfSome result (IsPlaceOf links.now (λ s. property s (chars key.now))) }
+/// The place to which the link for the way leads. The link at the place `near` is tried first. The links have to be in
+/// their order, or this one may not be found.
+pub fn found(links: &[Link<'_>], way: Way<'_>, near: usize) -> Option<usize>
+    ensures { IfSome result (IsPlaceOf links.now way.entry) }
 {
-    let Some(link) = links.get(near) else {
-        return found_in(links, key);
-    };
-    if is_for(*link, key) {
-        return Some(link.at);
+    if let Some(at) = found_at(links, way, near) {
+        return Some(at);
     }
-    found_in(links, key)
-}
-
-/// The place to which the first link for the property leads.
-fn found_in(links: &[Link<'_>], key: &str) -> Option<usize>
-    ensures { IfSome result (IsPlaceOf links.now (λ s. property s (chars key.now))) }
-{
-    for link in links {
-        if is_for(*link, key) {
-            return Some(link.at);
-        }
-    }
-    None
-}
-
-/// Whether the link is for the property.
-fn is_for(link: Link<'_>, key: &str) -> bool
-    ensures { result ≡ true → (s : Tree) → led_by s link.entry.way ≡ property s (chars key.now) }
-{
-    match link.way {
-        Way::Property(name) => are_equal(name.as_bytes(), key.as_bytes()),
-        _ => false,
+    let searched = links.binary_search_by(|link| order(link.way, way));
+    match searched {
+        Ok(index) => found_at(links, way, index),
+        Err(_) => None,
     }
 }
 
-/// The place to which the link for the list's schema at the index leads. The link at the place `index` is tried first.
-pub fn found_listed(links: &[Link<'_>], keyword: Keyword, index: usize) -> Option<usize>
-    ensures { IfSome result (IsPlaceOf links.now (λ s. nth (schemas_at s keyword) index)) }
+/// The place to which the link at the index leads, if it is the one for the way.
+#[inline(always)]
+fn found_at(links: &[Link<'_>], way: Way<'_>, index: usize) -> Option<usize>
+    ensures { IfSome result (IsPlaceOf links.now way.entry) }
 {
     let Some(link) = links.get(index) else {
-        return found_listed_in(links, keyword, index);
+        return None;
     };
-    if is_listed(*link, keyword, index) {
+    if is_same(link.way, way) {
         return Some(link.at);
-    }
-    found_listed_in(links, keyword, index)
-}
-
-fn found_listed_in(links: &[Link<'_>], keyword: Keyword, index: usize) -> Option<usize>
-    ensures { IfSome result (IsPlaceOf links.now (λ s. nth (schemas_at s keyword) index)) }
-{
-    for link in links {
-        if is_listed(*link, keyword, index) {
-            return Some(link.at);
-        }
     }
     None
 }
 
-/// Whether the link is for the list's schema at the index.
-fn is_listed(link: Link<'_>, keyword: Keyword, index: usize) -> bool
-    ensures { result ≡ true → (s : Tree)
-        → led_by s link.entry.way ≡ nth (schemas_at s keyword) index }
+/// Whether both ways lead to the same subschema.
+fn is_same(own: Way<'_>, way: Way<'_>) -> bool
+    ensures { result ≡ true → (s : Tree) → led_by s own.entry ≡ led_by s way.entry }
 {
-    match keyword {
-        Keyword::AnyOf => is_any_of(link, index),
-        Keyword::OneOf => is_one_of(link, index),
+    match own {
+        Way::Single(keyword) => is_single(keyword, way),
+        Way::Listed(keyword, index) => is_listed(keyword, index, way),
+        Way::Keyed(keyword, key) => is_keyed(keyword, key, way),
+    }
+}
+
+fn is_single(keyword: Keyword, way: Way<'_>) -> bool
+    ensures { result ≡ true → (s : Tree) → schema_at s keyword ≡ led_by s way.entry }
+{
+    match way {
+        Way::Single(other) => is_keyword(keyword, other),
         _ => false,
     }
 }
 
-fn is_any_of(link: Link<'_>, index: usize) -> bool
+fn is_listed(keyword: Keyword, index: usize, way: Way<'_>) -> bool
     ensures { result ≡ true → (s : Tree)
-        → led_by s link.entry.way ≡ nth (schemas_at s kw.AnyOf) index }
+        → nth (schemas_at s keyword) index ≡ led_by s way.entry }
 {
-    match link.way {
-        Way::AnyOf(at) => at == index,
-        _ => false,
+    let Way::Listed(other, at) = way else {
+        return false;
+    };
+    if at != index {
+        return false;
+    }
+    is_keyword(keyword, other)
+}
+
+fn is_keyed(keyword: Keyword, key: &str, way: Way<'_>) -> bool
+    ensures { result ≡ true → (s : Tree) → keyed s keyword (chars key.now) ≡ led_by s way.entry }
+{
+    let Way::Keyed(other, name) = way else {
+        return false;
+    };
+    if !is_keyword(keyword, other) {
+        return false;
+    }
+    are_equal(key.as_bytes(), name.as_bytes())
+}
+
+/// Whether it is the same keyword, one whose value is held.
+#[inline(always)]
+fn is_keyword(keyword: Keyword, other: Keyword) -> bool
+    ensures { result ≡ true → keyword ≡ other }
+{
+    let Some(place) = place_of(keyword) else {
+        return false;
+    };
+    let Some(at) = place_of(other) else {
+        return false;
+    };
+    at == place
+}
+
+/// The order of a schema's links: by the places of their keywords, and then by index or key.
+fn order(way: Way<'_>, other: Way<'_>) -> Ordering {
+    match rank(way).cmp(&rank(other)) {
+        Ordering::Equal => order_within(way, other),
+        apart => apart,
     }
 }
 
-fn is_one_of(link: Link<'_>, index: usize) -> bool
-    ensures { result ≡ true → (s : Tree)
-        → led_by s link.entry.way ≡ nth (schemas_at s kw.OneOf) index }
-{
-    match link.way {
-        Way::OneOf(at) => at == index,
-        _ => false,
+fn order_within(way: Way<'_>, other: Way<'_>) -> Ordering {
+    match (way, other) {
+        (Way::Listed(_, index), Way::Listed(_, at)) => index.cmp(&at),
+        (Way::Keyed(_, key), Way::Keyed(_, name)) => key.cmp(name),
+        _ => Ordering::Equal,
     }
+}
+
+/// The place of the way's keyword.
+fn rank(way: Way<'_>) -> usize {
+    let keyword = match way {
+        Way::Single(keyword) => keyword,
+        Way::Listed(keyword, _) => keyword,
+        Way::Keyed(keyword, _) => keyword,
+    };
+    place_of(keyword).unwrap_or(0)
 }

@@ -1,25 +1,24 @@
 //! A table of subschemas. From each of them links lead to others.
 ghost use Rattle.std.specs.Prelude.{◌≡◌, true, IfOk, OnOk, IfSome, Some};
-ghost use Rattle.std.specs.Str.{chars};
-ghost use Rattle.tinyjson.specs.Index.{nth};
 ghost use Rattle.tinyjson.specs.Tree.{Tree};
 ghost use Rattle.tinyjson.specs.View.{view};
-ghost use Rattle.tinyjson_schema_keywords.specs.Applied.{schema_at, schemas_at};
-ghost use Rattle.tinyjson_schema_keywords.specs.declared.keyword.Keyword.TheVariants as kw;
 ghost use Rattle.tinyjson_schema_table.specs.Givens.{is_at};
-ghost use Rattle.tinyjson_schema_table.specs.Links.{property, led_by, tree_in, AreLinked};
+ghost use Rattle.tinyjson_schema_table.specs.Links.{led_by, tree_in, AreLinked};
 ghost use Rattle.tinyjson_schema_table.specs.Links.{AddsLinks, AddsNext};
 
-use crate::link::{Link, Way, found, found_listed, way_of};
+use crate::link::{Link, Way, found};
 use crate::shape::{Shape, shape_of};
+use crate::values::held;
 use std::alloc::{AllocError, Global};
 use tinyjson::JsonValue;
-use tinyjson_schema_keywords::{Keyword, operand, schema_at, schema_map_at, schemas_at};
+use tinyjson_schema_keywords::{
+    Form, Keyword, form_by, operand, schema_at, schema_map_at, schemas_at,
+};
 
 /// How many subschemas a table has at most.
-const MOST: usize = 256;
+const MOST: usize = 1024;
 
-/// A schema and its subschemas at `items`, `properties`, `anyOf` and `oneOf`, up to 256 of them.
+/// A schema and the subschemas in it that its keywords apply, up to 1,024 of them.
 #[derive(Drop)]
 pub struct Table<'s> {
     pub schema: &'s JsonValue,
@@ -82,45 +81,14 @@ impl<'s> Table<'s> {
 impl<'s> Known<'s> {
     ghost use Rattle.tinyjson_schema_table.specs.Places.{LeadsTo, IsIn};
 
-    /// The subschema to which `items` leads, if it is in the table.
-    pub fn item(self) -> Option<Known<'s>>
-        ensures { LeadsTo (schema_at (view self.entry.shape.now.schema.now) kw.Items) result }
+    /// The subschema to which the way leads, if it is in the table. The link at the place `near` is tried first.
+    pub fn part(self, way: Way<'_>, near: usize) -> Option<Known<'s>>
+        ensures { LeadsTo (led_by (view self.entry.shape.now.schema.now) way.entry) result }
     {
         let Some(links) = self.table.links.get(self.at) else {
             return None;
         };
-        let Some(link) = links.get(0) else {
-            return None;
-        };
-        match link.way {
-            Way::Items => self.over(link.at),
-            _ => None,
-        }
-    }
-
-    /// The subschema that `properties` has at the key, if it is in the table. The link at the place `near` is tried
-    /// first.
-    pub fn property(self, key: &str, near: usize) -> Option<Known<'s>>
-        ensures { LeadsTo (property (view self.entry.shape.now.schema.now) (chars key.now)) result }
-    {
-        let Some(links) = self.table.links.get(self.at) else {
-            return None;
-        };
-        let Some(at) = found(links.as_slice(), key, near) else {
-            return None;
-        };
-        self.over(at)
-    }
-
-    /// The subschema that the list of `anyOf` or `oneOf` has at the index, if it is in the table.
-    pub fn listed(self, keyword: Keyword, index: usize) -> Option<Known<'s>>
-        ensures { LeadsTo (nth (schemas_at (view self.entry.shape.now.schema.now) keyword) index)
-            result }
-    {
-        let Some(links) = self.table.links.get(self.at) else {
-            return None;
-        };
-        let Some(at) = found_listed(links.as_slice(), keyword, index) else {
+        let Some(at) = found(links.as_slice(), way, near) else {
             return None;
         };
         self.over(at)
@@ -155,16 +123,13 @@ fn add_links<'s>(
     };
     let schema = shape.schema;
     let mut found = Vec::new(alloc);
-    add_items(schema, shapes, &mut found, alloc)?;
-    add_properties(schema, shapes, &mut found, alloc)?;
-    add_listed(Keyword::AnyOf, schema, shapes, &mut found, alloc)?;
-    add_listed(Keyword::OneOf, schema, shapes, &mut found, alloc)?;
+    add_all(schema, shapes, &mut found, alloc)?;
     links.push(found)?;
     Ok(())
 }
 
-/// Adds the link by `items`, if the schema has it.
-fn add_items<'s>(
+/// Adds the links of the schema, in the order in which they are searched.
+fn add_all<'s>(
     schema: &'s JsonValue,
     shapes: &mut Vec<Shape<'s>>,
     links: &mut Vec<Link<'s>>,
@@ -173,34 +138,17 @@ fn add_items<'s>(
     ensures { OnOk result (AddsLinks (view schema.now)
         shapes.old.items shapes.new.items links.old.items links.new.items) }
 {
-    let Some(part) = schema_at(schema, Keyword::Items) else {
-        return Ok(());
-    };
-    add_link(Way::Items, part, shapes, links, alloc)?;
-    Ok(())
-}
-
-/// Adds the links by `properties`, in the order of their keys.
-fn add_properties<'s>(
-    schema: &'s JsonValue,
-    shapes: &mut Vec<Shape<'s>>,
-    links: &mut Vec<Link<'s>>,
-    alloc: Global,
-) -> Result<(), AllocError>
-    ensures { OnOk result (AddsLinks (view schema.now)
-        shapes.old.items shapes.new.items links.old.items links.new.items) }
-{
-    let listed = schema_map_at(schema, Keyword::Properties, alloc)?;
-    for &(key, _) in listed.as_slice() {
-        add_property(schema, key, shapes, links, alloc)?;
+    let keywords = held();
+    for &keyword in keywords {
+        add_by(keyword, schema, shapes, links, alloc)?;
     }
     Ok(())
 }
 
-/// Adds the link by the property at the key.
-fn add_property<'s>(
+/// Adds the links by the keyword, if it applies schemas and the schema has it.
+fn add_by<'s>(
+    keyword: Keyword,
     schema: &'s JsonValue,
-    key: &'s String,
     shapes: &mut Vec<Shape<'s>>,
     links: &mut Vec<Link<'s>>,
     alloc: Global,
@@ -208,18 +156,34 @@ fn add_property<'s>(
     ensures { OnOk result (AddsLinks (view schema.now)
         shapes.old.items shapes.new.items links.old.items links.new.items) }
 {
-    let name = key.as_str();
-    let Some(properties) = schema_at(schema, Keyword::Properties) else {
+    match form_by(Some(keyword)) {
+        Form::Schema => add_single(keyword, schema, shapes, links, alloc),
+        Form::Schemas => add_listed(keyword, schema, shapes, links, alloc),
+        Form::SchemaMap => add_keyed(keyword, schema, shapes, links, alloc),
+        Form::PatternMap => add_keyed(keyword, schema, shapes, links, alloc),
+        _ => Ok(()),
+    }
+}
+
+/// Adds the link by the keyword's schema.
+fn add_single<'s>(
+    keyword: Keyword,
+    schema: &'s JsonValue,
+    shapes: &mut Vec<Shape<'s>>,
+    links: &mut Vec<Link<'s>>,
+    alloc: Global,
+) -> Result<(), AllocError>
+    ensures { OnOk result (AddsLinks (view schema.now)
+        shapes.old.items shapes.new.items links.old.items links.new.items) }
+{
+    let Some(part) = schema_at(schema, keyword) else {
         return Ok(());
     };
-    let Some(part) = operand(properties, name) else {
-        return Ok(());
-    };
-    add_link(Way::Property(name), part, shapes, links, alloc)?;
+    add_link(Way::Single(keyword), part, shapes, links, alloc)?;
     Ok(())
 }
 
-/// Adds the links by the list of `anyOf` or `oneOf`, in its order.
+/// Adds the links by the keyword's list, in its order.
 fn add_listed<'s>(
     keyword: Keyword,
     schema: &'s JsonValue,
@@ -232,11 +196,48 @@ fn add_listed<'s>(
 {
     let listed = schemas_at(schema, keyword);
     for (index, part) in listed.iter().enumerate() {
-        let Some(way) = way_of(keyword, index) else {
-            return Ok(());
-        };
-        add_link(way, part, shapes, links, alloc)?;
+        add_link(Way::Listed(keyword, index), part, shapes, links, alloc)?;
     }
+    Ok(())
+}
+
+/// Adds the links by the keyword's object, in the order of its keys.
+fn add_keyed<'s>(
+    keyword: Keyword,
+    schema: &'s JsonValue,
+    shapes: &mut Vec<Shape<'s>>,
+    links: &mut Vec<Link<'s>>,
+    alloc: Global,
+) -> Result<(), AllocError>
+    ensures { OnOk result (AddsLinks (view schema.now)
+        shapes.old.items shapes.new.items links.old.items links.new.items) }
+{
+    let listed = schema_map_at(schema, keyword, alloc)?;
+    for &(key, _) in listed.as_slice() {
+        add_at_key(keyword, schema, key.as_str(), shapes, links, alloc)?;
+    }
+    Ok(())
+}
+
+/// Adds the link by the keyword's object at the key.
+fn add_at_key<'s>(
+    keyword: Keyword,
+    schema: &'s JsonValue,
+    key: &'s str,
+    shapes: &mut Vec<Shape<'s>>,
+    links: &mut Vec<Link<'s>>,
+    alloc: Global,
+) -> Result<(), AllocError>
+    ensures { OnOk result (AddsLinks (view schema.now)
+        shapes.old.items shapes.new.items links.old.items links.new.items) }
+{
+    let Some(parts) = schema_at(schema, keyword) else {
+        return Ok(());
+    };
+    let Some(part) = operand(parts, key) else {
+        return Ok(());
+    };
+    add_link(Way::Keyed(keyword, key), part, shapes, links, alloc)?;
     Ok(())
 }
 

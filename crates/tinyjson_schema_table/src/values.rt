@@ -9,30 +9,31 @@ use tinyjson_schema_keywords::{Keyword, schema_at};
 
 /// The keywords that a check looks up beside the assertions.
 const HELD: [Keyword; 21] = [
-    Keyword::Ref,
-    Keyword::DynamicRef,
-    Keyword::AllOf,
+    Keyword::Properties,
     Keyword::AnyOf,
     Keyword::OneOf,
+    Keyword::Items,
+    Keyword::AllOf,
+    Keyword::PrefixItems,
+    Keyword::PatternProperties,
+    Keyword::DependentSchemas,
     Keyword::Not,
     Keyword::If,
     Keyword::Then,
     Keyword::Else,
-    Keyword::DependentSchemas,
-    Keyword::PrefixItems,
-    Keyword::Items,
     Keyword::Contains,
-    Keyword::MinContains,
-    Keyword::MaxContains,
-    Keyword::Properties,
-    Keyword::PatternProperties,
     Keyword::AdditionalProperties,
     Keyword::PropertyNames,
     Keyword::UnevaluatedItems,
     Keyword::UnevaluatedProperties,
+    Keyword::Ref,
+    Keyword::DynamicRef,
+    Keyword::MinContains,
+    Keyword::MaxContains,
 ];
 
-fn held() -> &'static [Keyword]
+/// These keywords. A schema's links are in their order.
+pub fn held() -> &'static [Keyword]
     ensures { result.now ≡ held }
 {
     &HELD
@@ -60,27 +61,27 @@ pub fn place_of(keyword: Keyword) -> Option<usize>
     ensures { IfSome result (λ place. slice_get held place ≡ Some keyword) }
 {
     match keyword {
-        Keyword::Ref => Some(0),
-        Keyword::DynamicRef => Some(1),
-        Keyword::AllOf => Some(2),
-        Keyword::AnyOf => Some(3),
-        Keyword::OneOf => Some(4),
-        Keyword::Not => Some(5),
-        Keyword::If => Some(6),
-        Keyword::Then => Some(7),
-        Keyword::Else => Some(8),
-        Keyword::DependentSchemas => Some(9),
-        Keyword::PrefixItems => Some(10),
-        Keyword::Items => Some(11),
+        Keyword::Properties => Some(0),
+        Keyword::AnyOf => Some(1),
+        Keyword::OneOf => Some(2),
+        Keyword::Items => Some(3),
+        Keyword::AllOf => Some(4),
+        Keyword::PrefixItems => Some(5),
+        Keyword::PatternProperties => Some(6),
+        Keyword::DependentSchemas => Some(7),
+        Keyword::Not => Some(8),
+        Keyword::If => Some(9),
+        Keyword::Then => Some(10),
+        Keyword::Else => Some(11),
         Keyword::Contains => Some(12),
-        Keyword::MinContains => Some(13),
-        Keyword::MaxContains => Some(14),
-        Keyword::Properties => Some(15),
-        Keyword::PatternProperties => Some(16),
-        Keyword::AdditionalProperties => Some(17),
-        Keyword::PropertyNames => Some(18),
-        Keyword::UnevaluatedItems => Some(19),
-        Keyword::UnevaluatedProperties => Some(20),
+        Keyword::AdditionalProperties => Some(13),
+        Keyword::PropertyNames => Some(14),
+        Keyword::UnevaluatedItems => Some(15),
+        Keyword::UnevaluatedProperties => Some(16),
+        Keyword::Ref => Some(17),
+        Keyword::DynamicRef => Some(18),
+        Keyword::MinContains => Some(19),
+        Keyword::MaxContains => Some(20),
         _ => None,
     }
 }

@@ -38,18 +38,15 @@ abbrev pub in_escape : List ℕ → List ℕ
 in_escape bs =
     cond (begins (codes "\\A") bs) (codes "\\A")
     (cond (begins (codes "\\Z") bs) (codes "\\Z")
-    (cond (begins (codes "\\b") bs || begins (codes "\\B") bs) (codes "a word boundary")
     (cond (begins (codes "\\p") bs || begins (codes "\\P") bs) (codes "a property of characters")
-    (cond (is_back_reference bs) (codes "a back-reference") (codes "an unknown escape")))))
+    (cond (is_back_reference bs) (codes "a back-reference") (codes "an unknown escape"))))
 
 -- what neither a `(?` nor a backslash begins
 abbrev pub in_sign : List ℕ → List ℕ
 in_sign bs =
     cond (length bs == 0) (codes "the end of the text in a group")
-    (cond (begins (codes "^") bs) (codes "a ^ inside")
-    (cond (begins (codes "$") bs) (codes "a $ inside")
     (cond (begins (codes "[") bs) (codes "a wrong class")
-    (cond (begins (codes ")") bs) (codes "a ) without its (") (codes "a wrong sign")))))
+    (cond (begins (codes ")") bs) (codes "a ) without its (") (codes "a wrong sign")))
 
 -- what is wrong where the text goes on so
 abbrev pub construct : List ℕ → List ℕ

@@ -106,8 +106,6 @@ fn in_escape(rest: &str) -> &'static str
         "\\A"
     } else if begins(rest, "\\Z") {
         "\\Z"
-    } else if begins(rest, "\\b") || begins(rest, "\\B") {
-        "a word boundary"
     } else if begins(rest, "\\p") || begins(rest, "\\P") {
         "a property of characters"
     } else if is_back_reference(rest) {
@@ -136,10 +134,6 @@ fn in_sign(rest: &str) -> &'static str
 {
     if rest.is_empty() {
         "the end of the text in a group"
-    } else if begins(rest, "^") {
-        "a ^ inside"
-    } else if begins(rest, "$") {
-        "a $ inside"
     } else if begins(rest, "[") {
         "a wrong class"
     } else if begins(rest, ")") {

@@ -16,15 +16,15 @@ ghost use Rattle.tinyjson_schema.specs.Valid.{root_of, says, IsBeyond};
 use crate::applied::Applied;
 use crate::assertions::meets;
 use crate::contains::{contains_at_least, contains_at_most, contains_some};
+use crate::validate::pending::{Pending, Step};
 use crate::validate::refuses_all;
 use crate::validate::tested::{are_names_met, contained, is_any_met, is_not_met, is_one_met};
-use crate::validate::uses::{Pending, Step, uses_in};
+use crate::validate::uses::uses_in;
 use crate::violation::Violation;
 use crate::walk::{CheckError, Walk};
 use std::alloc::{AllocError, Global};
-use tinyjson::JsonValue;
 use tinyjson_schema_keywords::Keyword;
-use tinyjson_schema_table::{assertions, marks_of};
+use tinyjson_schema_table::assertions;
 use tinyjson_view::ValueView;
 
 /// The first violations of the whole schema by the value, up to the limit, in order. It applies more schemas and takes
@@ -47,8 +47,9 @@ pub fn find_violations(
     ensures deep { IfErr result
         (IsBeyond walk.entry.steps (root_of walk.entry) (tree_of value.now)) }
 {
+    let here = Applied::by(walk.ground.whole.root, walk.ground.known);
     let mut found = Vec::new(walk.alloc);
-    add_violations(value, walk.ground.whole.root, walk, &[], limit, &mut found)?;
+    add_violations(value, &here, walk, &[], limit, &mut found)?;
     found.truncate(limit);
     Ok(found)
 }
@@ -58,38 +59,34 @@ pub fn find_violations(
 #[inline(never)]
 fn add_violations<'v, 's>(
     value: &ValueView<'v>,
-    schema: &'s JsonValue,
+    here: &Applied<'s>,
     walk: Walk<'_, 's>,
     path: &[Step<'v, 's>],
     limit: usize,
     found: &mut Vec<Violation>,
 ) -> Result<(), CheckError>
-    ensures { MatchResult result (λ _. AddsEvery limit walk.entry path.now (view schema.now) (tree_of value.now)
+    ensures { MatchResult result (λ _. AddsEvery limit walk.entry path.now
+        (view here.now.schema.now) (tree_of value.now)
         found.old.items found.new.items)
         (λ e. IfDeep e
-        (Descends walk.entry (view schema.now) (tree_of value.now))) }
+        (Descends walk.entry (view here.now.schema.now) (tree_of value.now))) }
 {
     let inner = walk.entered()?;
-    if refuses_all(schema) {
+    if refuses_all(here.schema) {
         add_place(path, None, walk.alloc, limit, found)?;
         return Ok(());
     }
-    let here = Applied {
-        schema,
-        marks: marks_of(schema),
-        known: None,
-    };
     let mut keywords = Vec::new(walk.alloc);
     add_unmet(
         assertions(walk.ground.formats),
-        &here,
+        here,
         value,
         walk,
         &mut keywords,
     )?;
-    add_tests(value, &here, inner, &mut keywords)?;
+    add_tests(value, here, inner, &mut keywords)?;
     add_places(path, keywords.as_slice(), walk.alloc, limit, found)?;
-    let uses = uses_in(value, &here, inner)?;
+    let uses = uses_in(value, here, inner)?;
     add_further(uses.as_slice(), inner, path, limit, found)?;
     Ok(())
 }
@@ -116,14 +113,8 @@ fn add_further<'v, 's>(
         let mut further = Vec::new(walk.alloc);
         further.push(used.step)?;
         further.extend_from_slice(path)?;
-        add_violations(
-            &used.value,
-            used.schema,
-            walk,
-            further.as_slice(),
-            limit,
-            found,
-        )?;
+        let part = Applied::by(used.schema, used.known);
+        add_violations(&used.value, &part, walk, further.as_slice(), limit, found)?;
     }
     Ok(())
 }

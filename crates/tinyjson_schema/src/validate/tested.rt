@@ -1,6 +1,6 @@
 //! Keywords that count or combine the results of their subschemas. These tests are not inlined, so that a level of
 //! the recursion over schemas takes less than a kilobyte of stack.
-ghost use Rattle.std.specs.Prelude.{◌≡◌, IfOk, MatchResult};
+ghost use Rattle.std.specs.Prelude.{◌≡◌, IfOk, MatchResult, true};
 ghost use Rattle.std.specs.Str.{chars};
 ghost use Rattle.tinyjson.specs.Tree.{string};
 ghost use Rattle.tinyjson.specs.View.{view, items_view};
@@ -17,13 +17,12 @@ ghost use Rattle.tinyjson_schema.specs.Valid.{Follows, IsUnapplied};
 
 use crate::applied::Applied;
 use crate::contains::{contains_at_least, contains_at_most, contains_some};
-use crate::validate::{is_accepted, is_accepted_by};
+use crate::validate::is_accepted;
 use crate::walk::{CheckError, Walk};
 use std::alloc::{AllocError, Global};
 use tinyjson::{JsonKind, JsonValue};
 use tinyjson_document::JsonView;
 use tinyjson_schema_keywords::{Keyword, is_some_item};
-use tinyjson_schema_table::known_listed;
 use tinyjson_view::{MemberView, ValueView};
 
 /// One of these keywords that the value violates, if there is one.
@@ -114,10 +113,10 @@ pub fn is_any_met(
 
 #[cycle(validate)]
 #[inline(never)]
-fn is_some_met(
+fn is_some_met<'s>(
     value: &ValueView<'_>,
-    here: &Applied<'_>,
-    schemas: &[JsonValue],
+    here: &Applied<'s>,
+    schemas: &'s [JsonValue],
     walk: Walk<'_, '_>,
 ) -> Result<bool, CheckError>
     requires { items_view schemas.now ≡ schemas_at (view here.now.schema.now) kw.AnyOf }
@@ -128,8 +127,8 @@ fn is_some_met(
         (DescendsAmong walk.entry (items_view schemas.now) (tree_of value.now))) }
 {
     for (index, schema) in schemas.iter().enumerate() {
-        let known = known_listed(here.known, Keyword::AnyOf, index);
-        let accepted = is_accepted_by(value, schema, known, walk)?;
+        let part = here.listed_part(Keyword::AnyOf, index, schema);
+        let accepted = is_accepted(value, &part, walk)?;
         if accepted {
             return Ok(true);
         }
@@ -161,10 +160,10 @@ pub fn is_one_met(
 
 /// How many schemas of the list accept the value.
 #[cycle(validate)]
-fn count_accepting(
+fn count_accepting<'s>(
     value: &ValueView<'_>,
-    here: &Applied<'_>,
-    schemas: &[JsonValue],
+    here: &Applied<'s>,
+    schemas: &'s [JsonValue],
     walk: Walk<'_, '_>,
 ) -> Result<usize, CheckError>
     requires { items_view schemas.now ≡ schemas_at (view here.now.schema.now) kw.OneOf }
@@ -176,8 +175,8 @@ fn count_accepting(
 {
     let mut count = 0;
     for (index, schema) in schemas.iter().enumerate() {
-        let known = known_listed(here.known, Keyword::OneOf, index);
-        let accepted = is_accepted_by(value, schema, known, walk)?;
+        let part = here.listed_part(Keyword::OneOf, index, schema);
+        let accepted = is_accepted(value, &part, walk)?;
         if accepted {
             count += 1;
         }
@@ -198,9 +197,9 @@ pub fn is_not_met(
         (λ f. applies f kw.Not (view here.now.schema.now) (tree_of value.now)))
         (IsDeep walk.entry (view here.now.schema.now) (tree_of value.now)) }
 {
-    match here.schema_at(Keyword::Not) {
+    match here.part(Keyword::Not) {
         Some(part) => {
-            let accepted = is_accepted(value, part, walk)?;
+            let accepted = is_accepted(value, &part, walk)?;
             Ok(!accepted)
         }
         None => Ok(true),
@@ -220,10 +219,10 @@ pub fn are_names_met(
         (λ f. applies f kw.PropertyNames (view here.now.schema.now) (tree_of value.now)))
         (IsDeep walk.entry (view here.now.schema.now) (tree_of value.now)) }
 {
-    match here.schema_at(Keyword::PropertyNames) {
+    match here.part(Keyword::PropertyNames) {
         Some(part) => {
             let members = value.members(walk.alloc)?;
-            let accepted = are_keys_met(members.as_slice(), part, walk)?;
+            let accepted = are_keys_met(members.as_slice(), &part, walk)?;
             Ok(accepted)
         }
         None => Ok(true),
@@ -234,18 +233,18 @@ pub fn are_names_met(
 #[inline(never)]
 fn are_keys_met(
     members: &[MemberView<'_>],
-    schema: &JsonValue,
+    part: &Applied<'_>,
     walk: Walk<'_, '_>,
 ) -> Result<bool, CheckError>
     ensures { MatchResult result
         (λ is. Follows walk.entry is
-        (λ f. keys_pass (f (view schema.now)) (members_of members.now)))
+        (λ f. keys_pass (f (view part.now.schema.now)) (members_of members.now)))
         (λ e. IfDeep e
-        (DescendsAtKey walk.entry (view schema.now) (members_of members.now))) }
+        (DescendsAtKey walk.entry (view part.now.schema.now) (members_of members.now))) }
 {
     for member in members {
         let name = name_of(member.key, walk.alloc)?;
-        let accepted = is_accepted(&ValueView::InValue(&name), schema, walk)?;
+        let accepted = is_accepted(&ValueView::InValue(&name), part, walk)?;
         if !accepted {
             return Ok(false);
         }
@@ -274,13 +273,13 @@ pub fn contained(
         (λ f. contained f (view here.now.schema.now) (tree_of value.now)))
         (IsDeep walk.entry (view here.now.schema.now) (tree_of value.now)) }
 {
-    let Some(part) = here.schema_at(Keyword::Contains) else {
+    let Some(part) = here.part(Keyword::Contains) else {
         return Ok(None);
     };
     match value.kind() {
         JsonKind::Array => {
             let items = value.items(walk.alloc)?;
-            let count = count_passing(items.as_slice(), part, walk)?;
+            let count = count_passing(items.as_slice(), &part, walk)?;
             Ok(Some(count))
         }
         _ => Ok(None),
@@ -290,18 +289,18 @@ pub fn contained(
 #[cycle(validate)]
 fn count_passing(
     items: &[ValueView<'_>],
-    schema: &JsonValue,
+    part: &Applied<'_>,
     walk: Walk<'_, '_>,
 ) -> Result<usize, CheckError>
     ensures { MatchResult result
         (λ count. Follows walk.entry count
-        (λ f. passing (f (view schema.now)) (trees_of items.now)))
+        (λ f. passing (f (view part.now.schema.now)) (trees_of items.now)))
         (λ e. IfDeep e
-        (DescendsAtItem walk.entry (view schema.now) (trees_of items.now))) }
+        (DescendsAtItem walk.entry (view part.now.schema.now) (trees_of items.now))) }
 {
     let mut count = 0;
     for item in items {
-        let accepted = is_accepted(item, schema, walk)?;
+        let accepted = is_accepted(item, part, walk)?;
         if accepted {
             count += 1;
         }

@@ -4,14 +4,16 @@
 //! The schemas that evaluate are listed first: the schema that asks, and those that it applies to the value itself
 //! and that accept it, at any depth. So each of them checks the value once, not once for each member.
 ghost use Rattle.std.specs.Prelude.{◌≡◌, ◌&&◌, ◌||◌, IfOk, IfErr, MatchResult, OnOk, is_some};
-ghost use Rattle.std.specs.Prelude.{not, suc};
+ghost use Rattle.std.specs.Prelude.{not, suc, true};
 ghost use Rattle.std.specs.Str.{chars};
 ghost use Rattle.tinyjson.specs.Index.{tree_at_key};
+ghost use Rattle.tinyjson.specs.JsonKind.TheVariants as kind;
+ghost use Rattle.tinyjson.specs.Kind.{kind_of};
 ghost use Rattle.tinyjson.specs.Tree.{array, object, Tree};
 ghost use Rattle.tinyjson.specs.View.{view, items_view};
 ghost use Rattle.tinyjson_view.specs.Views.{tree_of, trees_of, members_of};
 ghost use Rattle.tinyjson.specs.Soundness.{IsSorted};
-ghost use Rattle.tinyjson_schema_keywords.specs.Applied.{schema_at, schema_map_at};
+ghost use Rattle.tinyjson_schema_keywords.specs.Applied.{schema_at, schemas_at, schema_map_at};
 ghost use Rattle.tinyjson_schema_keywords.specs.declared.keyword.Keyword.TheVariants as kw;
 ghost use Rattle.tinyjson_schema.specs.Evaluated.{Child, Answers, member_at, item_at};
 ghost use Rattle.tinyjson_schema.specs.Evaluated.{others_evaluate, inner_evaluate, some_evaluate};
@@ -29,14 +31,13 @@ ghost use Rattle.tinyjson_schema.specs.Valid.{Follows, FindsRest, answers_in};
 
 use crate::applied::Applied;
 use crate::part::{is_patterned, item_part, member_part_of};
-use crate::validate::{has_key, is_accepted, violation_in};
+use crate::validate::{has_key, is_accepted, violation_of};
 use crate::violation::Violation;
 use crate::walk::{CheckError, Walk};
 use std::alloc::AllocError;
 use tinyjson::{JsonKind, JsonValue};
 use tinyjson_document::JsonView;
 use tinyjson_schema_keywords::{Keyword, branch};
-use tinyjson_schema_table::marks_of;
 use tinyjson_view::{MemberView, ValueView};
 
 /// A schema whose keywords evaluate members and items, and the walk in it.
@@ -50,7 +51,6 @@ pub struct Source<'d, 's> {
 
 /// What a member or an item violates that no other keyword of the schema evaluates.
 #[cycle(validate)]
-#[inline(never)]
 pub fn in_rest(
     value: &ValueView<'_>,
     here: &Applied<'_>,
@@ -59,24 +59,48 @@ pub fn in_rest(
     ensures { FindsRest walk.entry (view here.now.schema.now) (tree_of value.now) result }
 {
     match value.kind() {
-        JsonKind::Object => {
-            let Some(rest) = here.schema_at(Keyword::UnevaluatedProperties) else {
-                return Ok(None);
-            };
-            let sources = sources_of(value, &*here, walk)?;
-            let members = value.members(walk.alloc)?;
-            in_members_left(members.as_slice(), rest, sources.as_slice(), walk)
-        }
-        JsonKind::Array => {
-            let Some(rest) = here.schema_at(Keyword::UnevaluatedItems) else {
-                return Ok(None);
-            };
-            let sources = sources_of(value, &*here, walk)?;
-            let items = value.items(walk.alloc)?;
-            in_items_left(items.as_slice(), rest, sources.as_slice(), walk)
-        }
+        JsonKind::Object => in_members_rest(value, here, walk),
+        JsonKind::Array => in_items_rest(value, here, walk),
         _ => Ok(None),
     }
+}
+
+/// `in_rest` for an object. Neither this nor the next is inlined, for the stack that nested schemas take.
+#[cycle(validate)]
+#[inline(never)]
+fn in_members_rest(
+    value: &ValueView<'_>,
+    here: &Applied<'_>,
+    walk: Walk<'_, '_>,
+) -> Result<Option<Violation>, CheckError>
+    requires { kind_of (tree_of value.now) ≡ kind.Object }
+    ensures { FindsRest walk.entry (view here.now.schema.now) (tree_of value.now) result }
+{
+    let Some(rest) = here.part(Keyword::UnevaluatedProperties) else {
+        return Ok(None);
+    };
+    let sources = sources_of(value, &*here, walk)?;
+    let members = value.members(walk.alloc)?;
+    in_members_left(members.as_slice(), &rest, sources.as_slice(), walk)
+}
+
+/// `in_rest` for an array.
+#[cycle(validate)]
+#[inline(never)]
+fn in_items_rest(
+    value: &ValueView<'_>,
+    here: &Applied<'_>,
+    walk: Walk<'_, '_>,
+) -> Result<Option<Violation>, CheckError>
+    requires { kind_of (tree_of value.now) ≡ kind.Array }
+    ensures { FindsRest walk.entry (view here.now.schema.now) (tree_of value.now) result }
+{
+    let Some(rest) = here.part(Keyword::UnevaluatedItems) else {
+        return Ok(None);
+    };
+    let sources = sources_of(value, &*here, walk)?;
+    let items = value.items(walk.alloc)?;
+    in_items_left(items.as_slice(), &rest, sources.as_slice(), walk)
 }
 
 /// What a member violates of the schema, among those that the sources do not evaluate.
@@ -84,18 +108,18 @@ pub fn in_rest(
 #[inline(never)]
 fn in_members_left(
     members: &[MemberView<'_>],
-    rest: &JsonValue,
+    rest: &Applied<'_>,
     sources: &[Source<'_, '_>],
     walk: Walk<'_, '_>,
 ) -> Result<Option<Violation>, CheckError>
     requires { IsSorted (members_of members.now) }
-    ensures { FindsLeft walk.entry kw.UnevaluatedProperties sources.now (view rest.now)
+    ensures { FindsLeft walk.entry kw.UnevaluatedProperties sources.now (view rest.now.schema.now)
         (object (members_of members.now)) result }
 {
     for member in members {
         let evaluated = is_member_evaluated(member.key, sources)?;
         if !evaluated {
-            if let Some(mut found) = violation_in(&member.value, rest, walk)? {
+            if let Some(mut found) = violation_of(&member.value, rest, walk)? {
                 found.enter_member(walk.alloc, Keyword::UnevaluatedProperties, member.key)?;
                 return Ok(Some(found));
             }
@@ -109,18 +133,18 @@ fn in_members_left(
 #[inline(never)]
 fn in_items_left(
     items: &[ValueView<'_>],
-    rest: &JsonValue,
+    rest: &Applied<'_>,
     sources: &[Source<'_, '_>],
     walk: Walk<'_, '_>,
 ) -> Result<Option<Violation>, CheckError>
     requires { AreWithin walk.steps sources.now }
-    ensures { FindsLeft walk.entry kw.UnevaluatedItems sources.now (view rest.now)
+    ensures { FindsLeft walk.entry kw.UnevaluatedItems sources.now (view rest.now.schema.now)
         (array (trees_of items.now)) result }
 {
     for (index, item) in items.iter().enumerate() {
         let evaluated = is_item_evaluated(index, item, sources, walk)?;
         if !evaluated {
-            if let Some(mut found) = violation_in(item, rest, walk)? {
+            if let Some(mut found) = violation_of(item, rest, walk)? {
                 found.enter_item(walk.alloc, Keyword::UnevaluatedItems, index)?;
                 return Ok(Some(found));
             }
@@ -213,10 +237,10 @@ fn evaluates_item(
     if applied.is_some() {
         return Ok(true);
     }
-    let Some(part) = source.applied.schema_at(Keyword::Contains) else {
+    let Some(part) = source.applied.part(Keyword::Contains) else {
         return Ok(false);
     };
-    let accepted = is_accepted(item, part, source.walk)?;
+    let accepted = is_accepted(item, &part, source.walk)?;
     Ok(accepted)
 }
 
@@ -253,32 +277,27 @@ pub fn sources_of<'d, 's>(
 #[inline(never)]
 fn add_schema<'d, 's>(
     value: &ValueView<'_>,
-    schema: &'s JsonValue,
+    part: &Applied<'s>,
     walk: Walk<'d, 's>,
     sources: &mut Vec<Source<'d, 's>>,
 ) -> Result<(), CheckError>
     ensures evaluated { OnOk result (Adds walk.entry
-        (λ a c. a.evaluates (view schema.now) (tree_of value.now) c)
+        (λ a c. a.evaluates (view part.now.schema.now) (tree_of value.now) c)
         sources.old.items sources.new.items) }
     ensures within { OnOk result (StaysWithin walk.entry sources.old.items sources.new.items) }
     ensures reached { OnOk result (StaysReached
-        (Descends walk.entry (view schema.now) (tree_of value.now))
+        (Descends walk.entry (view part.now.schema.now) (tree_of value.now))
         (tree_of value.now) sources.old.items sources.new.items) }
     ensures deep { IfErr result (λ e. IfDeep e
-        (Descends walk.entry (view schema.now) (tree_of value.now))) }
+        (Descends walk.entry (view part.now.schema.now) (tree_of value.now))) }
 {
     let inner = walk.deeper()?;
-    let here = Applied {
-        schema,
-        marks: marks_of(schema),
-        known: None,
-    };
     sources.push(Source {
-        applied: here,
+        applied: *part,
         walk: inner,
         asks: false,
     })?;
-    add_inner(value, &here, inner, sources)?;
+    add_inner(value, part, inner, sources)?;
     Ok(())
 }
 
@@ -303,26 +322,28 @@ fn add_inner<'d, 's>(
         (DescendsIn walk.entry (view here.now.schema.now) (tree_of value.now))) }
 {
     let all = here.schemas_at(Keyword::AllOf);
-    add_listed(value, all, walk, sources)?;
+    add_listed(value, here, all, walk, sources)?;
     let any = here.schemas_at(Keyword::AnyOf);
-    add_accepting(value, any, walk, sources)?;
+    add_accepting(value, here, Keyword::AnyOf, any, walk, sources)?;
     let one = here.schemas_at(Keyword::OneOf);
-    add_accepting(value, one, walk, sources)?;
+    add_accepting(value, here, Keyword::OneOf, one, walk, sources)?;
     add_branch(value, here, walk, sources)?;
     add_dependents(value, here, walk, sources)?;
     add_reference(value, here, walk, sources)?;
     Ok(())
 }
 
-/// Adds the schemas of a list, all of which accept the value.
+/// Adds the schemas of `allOf`, all of which accept the value.
 #[cycle(validate)]
 #[inline(never)]
 fn add_listed<'d, 's>(
     value: &ValueView<'_>,
+    here: &Applied<'s>,
     schemas: &'s [JsonValue],
     walk: Walk<'d, 's>,
     sources: &mut Vec<Source<'d, 's>>,
 ) -> Result<(), CheckError>
+    requires { items_view schemas.now ≡ schemas_at (view here.now.schema.now) kw.AllOf }
     ensures evaluated { OnOk result (Adds walk.entry
         (λ a c. some_evaluate a (items_view schemas.now) (tree_of value.now) c)
         sources.old.items sources.new.items) }
@@ -333,21 +354,25 @@ fn add_listed<'d, 's>(
     ensures deep { IfErr result (λ e. IfDeep e
         (DescendsAmong walk.entry (items_view schemas.now) (tree_of value.now))) }
 {
-    for schema in schemas {
-        add_schema(value, schema, walk, sources)?;
+    for (index, schema) in schemas.iter().enumerate() {
+        let part = here.listed_part(Keyword::AllOf, index, schema);
+        add_schema(value, &part, walk, sources)?;
     }
     Ok(())
 }
 
-/// Adds the schemas of a list that accept the value.
+/// Adds the schemas of the keyword's list that accept the value.
 #[cycle(validate)]
 #[inline(never)]
 fn add_accepting<'d, 's>(
     value: &ValueView<'_>,
+    here: &Applied<'s>,
+    keyword: Keyword,
     schemas: &'s [JsonValue],
     walk: Walk<'d, 's>,
     sources: &mut Vec<Source<'d, 's>>,
 ) -> Result<(), CheckError>
+    requires { items_view schemas.now ≡ schemas_at (view here.now.schema.now) keyword }
     ensures evaluated { OnOk result (Adds walk.entry
         (λ a c. accepting_evaluate a (items_view schemas.now) (tree_of value.now) c)
         sources.old.items sources.new.items) }
@@ -358,8 +383,9 @@ fn add_accepting<'d, 's>(
     ensures deep { IfErr result (λ e. IfDeep e
         (DescendsAmong walk.entry (items_view schemas.now) (tree_of value.now))) }
 {
-    for schema in schemas {
-        add_if_accepting(value, schema, walk, sources)?;
+    for (index, schema) in schemas.iter().enumerate() {
+        let part = here.listed_part(keyword, index, schema);
+        add_if_accepting(value, &part, walk, sources)?;
     }
     Ok(())
 }
@@ -369,29 +395,29 @@ fn add_accepting<'d, 's>(
 #[inline(never)]
 fn add_if_accepting<'d, 's>(
     value: &ValueView<'_>,
-    schema: &'s JsonValue,
+    part: &Applied<'s>,
     walk: Walk<'d, 's>,
     sources: &mut Vec<Source<'d, 's>>,
 ) -> Result<bool, CheckError>
     ensures accepted { IfOk result (λ is. Follows walk.entry is
-        (λ f. f (view schema.now) (tree_of value.now))) }
+        (λ f. f (view part.now.schema.now) (tree_of value.now))) }
     ensures evaluated { IfOk result (λ is. Adds walk.entry
-        (λ a c. a.accepts (view schema.now) (tree_of value.now)
-        && a.evaluates (view schema.now) (tree_of value.now) c)
+        (λ a c. a.accepts (view part.now.schema.now) (tree_of value.now)
+        && a.evaluates (view part.now.schema.now) (tree_of value.now) c)
         sources.old.items sources.new.items) }
     ensures within { IfOk result (λ is.
         StaysWithin walk.entry sources.old.items sources.new.items) }
     ensures reached { IfOk result (λ is. StaysReached
-        (Descends walk.entry (view schema.now) (tree_of value.now))
+        (Descends walk.entry (view part.now.schema.now) (tree_of value.now))
         (tree_of value.now) sources.old.items sources.new.items) }
     ensures deep { IfErr result (λ e. IfDeep e
-        (Descends walk.entry (view schema.now) (tree_of value.now))) }
+        (Descends walk.entry (view part.now.schema.now) (tree_of value.now))) }
 {
-    let accepted = is_accepted(value, schema, walk)?;
+    let accepted = is_accepted(value, part, walk)?;
     if !accepted {
         return Ok(false);
     }
-    add_schema(value, schema, walk, sources)?;
+    add_schema(value, part, walk, sources)?;
     Ok(true)
 }
 
@@ -414,15 +440,15 @@ fn add_branch<'d, 's>(
     ensures deep { IfErr result (λ e. IfDeep e
         (DescendsIn walk.entry (view here.now.schema.now) (tree_of value.now))) }
 {
-    let Some(test) = here.schema_at(Keyword::If) else {
+    let Some(test) = here.part(Keyword::If) else {
         return Ok(());
     };
-    let accepted = add_if_accepting(value, test, walk, sources)?;
+    let accepted = add_if_accepting(value, &test, walk, sources)?;
     let chosen = branch(accepted);
-    let Some(part) = here.schema_at(chosen) else {
+    let Some(part) = here.part(chosen) else {
         return Ok(());
     };
-    add_schema(value, part, walk, sources)?;
+    add_schema(value, &part, walk, sources)?;
     Ok(())
 }
 
@@ -450,7 +476,9 @@ fn add_dependents<'d, 's>(
     let listed = here.schema_map_at(Keyword::DependentSchemas, walk.alloc)?;
     let dependents = listed.as_slice();
     for &(key, part) in dependents {
-        add_dependent(value, key.as_str(), part, walk, sources)?;
+        let name = key.as_str();
+        let applied = here.keyed_part(Keyword::DependentSchemas, name, part);
+        add_dependent(value, name, &applied, walk, sources)?;
     }
     Ok(())
 }
@@ -461,25 +489,25 @@ fn add_dependents<'d, 's>(
 fn add_dependent<'d, 's>(
     value: &ValueView<'_>,
     key: &str,
-    schema: &'s JsonValue,
+    part: &Applied<'s>,
     walk: Walk<'d, 's>,
     sources: &mut Vec<Source<'d, 's>>,
 ) -> Result<(), CheckError>
     ensures evaluated { OnOk result (Adds walk.entry
         (λ a c. is_some (tree_at_key (tree_of value.now) (chars key.now))
-        && a.evaluates (view schema.now) (tree_of value.now) c)
+        && a.evaluates (view part.now.schema.now) (tree_of value.now) c)
         sources.old.items sources.new.items) }
     ensures within { OnOk result (StaysWithin walk.entry sources.old.items sources.new.items) }
     ensures reached { OnOk result (StaysReached
-        (DescendsForKey walk.entry (chars key.now) (view schema.now) (tree_of value.now))
+        (DescendsForKey walk.entry (chars key.now) (view part.now.schema.now) (tree_of value.now))
         (tree_of value.now) sources.old.items sources.new.items) }
     ensures deep { IfErr result (λ e. IfDeep e
-        (DescendsForKey walk.entry (chars key.now) (view schema.now) (tree_of value.now))) }
+        (DescendsForKey walk.entry (chars key.now) (view part.now.schema.now) (tree_of value.now))) }
 {
     if !has_key(value, key) {
         return Ok(());
     }
-    add_schema(value, schema, walk, sources)?;
+    add_schema(value, part, walk, sources)?;
     Ok(())
 }
 
@@ -532,6 +560,6 @@ fn add_target<'d, 's>(
     let Some(part) = here.referenced(keyword, walk)? else {
         return Ok(());
     };
-    add_schema(value, part.schema, walk, sources)?;
+    add_schema(value, &part, walk, sources)?;
     Ok(())
 }

@@ -1,5 +1,5 @@
 //! The schemas that a schema applies to a value and its parts, one after the other.
-ghost use Rattle.std.specs.Prelude.{◌≡◌, ◌∷◌, [], MatchResult, OnOk, cond, not, map};
+ghost use Rattle.std.specs.Prelude.{◌≡◌, ◌∷◌, [], MatchResult, OnOk, cond, not, map, true};
 ghost use Rattle.std.specs.Str.{chars};
 ghost use Rattle.tinyjson.specs.View.{view, items_view, members_listed};
 ghost use Rattle.tinyjson_view.specs.Views.{tree_of, trees_of, members_of};
@@ -18,41 +18,19 @@ ghost use Rattle.tinyjson_schema.specs.Sources.{sources_evaluate, AreWithin};
 ghost use Rattle.tinyjson_schema.specs.Sources.{DescendsFromItems};
 ghost use Rattle.tinyjson_schema.specs.Steps.{AddsUses, use_of};
 ghost use Rattle.tinyjson_schema.specs.Valid.{answers_in, says};
+ghost use Rattle.tinyjson_schema_table.specs.Places.{is_of};
 
 use crate::applied::Applied;
 use crate::part::{additional, prefix_item, property};
+use crate::validate::pending::{Pending, Step};
 use crate::validate::unevaluated::{Source, is_item_evaluated, is_member_evaluated, sources_of};
 use crate::validate::{has_key, is_accepted};
 use crate::walk::{CheckError, Walk};
 use std::alloc::AllocError;
 use tinyjson::JsonValue;
 use tinyjson_schema_keywords::{Keyword, branch};
+use tinyjson_schema_table::{Known, Way, known_part};
 use tinyjson_view::{MemberView, ValueView};
-
-/// How a schema leads to one that it applies.
-#[derive(Clone, Copy)]
-pub enum Step<'v, 's> {
-    /// By the keyword, to the same value.
-    Schema(Keyword),
-    /// By the keyword's list.
-    Listed(Keyword, usize),
-    /// By the key of the keyword's object.
-    Keyed(Keyword, &'s str),
-    /// By the applicator, to the member at the key.
-    Member(Keyword, &'v str),
-    /// By a pattern of `patternProperties`, to the member at the key.
-    Patterned(&'s str, &'v str),
-    /// By the applicator, to the item at the index.
-    Item(Keyword, usize),
-}
-
-/// A schema that is still to be applied, and the value.
-#[derive(Clone, Copy)]
-pub struct Pending<'v, 's> {
-    pub step: Step<'v, 's>,
-    pub schema: &'s JsonValue,
-    pub value: ValueView<'v>,
-}
 
 /// The schemas that the schema applies to the value and its parts, in order.
 #[inline(never)]
@@ -113,9 +91,11 @@ fn add_all_of<'v, 's>(
 {
     let parts = here.schemas_at(Keyword::AllOf);
     for (index, part) in parts.iter().enumerate() {
+        let known = known_part(here.known, Way::Listed(Keyword::AllOf, index), index);
         let one = Pending {
             step: Step::Listed(Keyword::AllOf, index),
             schema: part,
+            known,
             value: *value,
         };
         add_if(true, one, pending)?;
@@ -136,17 +116,18 @@ fn add_branch<'v, 's>(
         pending.old.items pending.new.items)
         (IsDeep walk.entry (view here.now.schema.now) (tree_of value.now)) }
 {
-    let Some(test) = here.schema_at(Keyword::If) else {
+    let Some(test) = here.part(Keyword::If) else {
         return Ok(());
     };
-    let accepted = is_accepted(value, test, walk)?;
+    let accepted = is_accepted(value, &test, walk)?;
     let chosen = branch(accepted);
-    let Some(part) = here.schema_at(chosen) else {
+    let Some(part) = here.part(chosen) else {
         return Ok(());
     };
     let one = Pending {
         step: Step::Schema(chosen),
-        schema: part,
+        schema: part.schema,
+        known: part.known,
         value: *value,
     };
     add_if(true, one, pending)?;
@@ -172,9 +153,11 @@ fn add_dependents<'v, 's>(
     for &(key, part) in dependents {
         let name = key.as_str();
         let is_wanted = has_key(value, name);
+        let known = known_part(here.known, Way::Keyed(Keyword::DependentSchemas, name), 0);
         let one = Pending {
             step: Step::Keyed(Keyword::DependentSchemas, name),
             schema: part,
+            known,
             value: *value,
         };
         add_if(is_wanted, one, pending)?;
@@ -200,7 +183,8 @@ fn add_patterned<'v, 's>(
     walk.ground.whole.budget.charge(patterns.len());
     for &(pattern, part) in patterns {
         let text = pattern.as_str();
-        add_found(members, text, part, walk, pending)?;
+        let known = known_part(here.known, Way::Keyed(Keyword::PatternProperties, text), 0);
+        add_found(members, text, part, known, walk, pending)?;
     }
     Ok(())
 }
@@ -211,9 +195,11 @@ fn add_found<'v, 's>(
     members: &[MemberView<'v>],
     pattern: &'s str,
     schema: &'s JsonValue,
+    known: Option<Known<'s>>,
     walk: Walk<'_, 's>,
     pending: &mut Vec<Pending<'v, 's>>,
 ) -> Result<(), CheckError>
+    requires { is_of known (view schema.now) ≡ true }
     ensures { MatchResult result (λ _. AddsUses
         (found_uses (chars pattern.now) (view schema.now) (members_of members.now))
         pending.old.items pending.new.items)
@@ -224,6 +210,7 @@ fn add_found<'v, 's>(
         let one = Pending {
             step: Step::Patterned(pattern, member.key),
             schema,
+            known,
             value: member.value,
         };
         add_if(is_found, one, pending)?;
@@ -250,6 +237,7 @@ fn add_target<'v, 's>(
     let one = Pending {
         step: Step::Schema(keyword),
         schema: part.schema,
+        known: part.known,
         value: *value,
     };
     add_if(true, one, pending)?;
@@ -291,9 +279,11 @@ fn add_member<'v, 's>(
         IsShallow }
 {
     if let Some(part) = property(here, member.key) {
+        let known = known_part(here.known, Way::Keyed(Keyword::Properties, member.key), 0);
         let one = Pending {
             step: Step::Member(Keyword::Properties, member.key),
             schema: part,
+            known,
             value: member.value,
         };
         add_if(true, one, pending)?;
@@ -302,9 +292,11 @@ fn add_member<'v, 's>(
     let Some(part) = additional(here, member.key, walk)? else {
         return Ok(());
     };
+    let known = known_part(here.known, Way::Single(Keyword::AdditionalProperties), 0);
     let one = Pending {
         step: Step::Member(Keyword::AdditionalProperties, member.key),
         schema: part,
+        known,
         value: member.value,
     };
     add_if(true, one, pending)?;
@@ -339,20 +331,23 @@ fn add_item<'v, 's>(
         pending.old.items pending.new.items) }
 {
     if let Some(part) = prefix_item(here, index) {
+        let known = known_part(here.known, Way::Listed(Keyword::PrefixItems, index), index);
         let one = Pending {
             step: Step::Item(Keyword::PrefixItems, index),
             schema: part,
+            known,
             value: *item,
         };
         add_if(true, one, pending)?;
         return Ok(());
     }
-    let Some(part) = here.schema_at(Keyword::Items) else {
+    let Some(part) = here.part(Keyword::Items) else {
         return Ok(());
     };
     let one = Pending {
         step: Step::Item(Keyword::Items, index),
-        schema: part,
+        schema: part.schema,
+        known: part.known,
         value: *item,
     };
     add_if(true, one, pending)?;
@@ -375,23 +370,23 @@ fn add_rest_members<'v, 's>(
         (view here.now.schema.now) (tree_of value.now)) pending.old.items pending.new.items)
         (IsDeep walk.entry (view here.now.schema.now) (tree_of value.now)) }
 {
-    let Some(rest) = here.schema_at(Keyword::UnevaluatedProperties) else {
+    let Some(rest) = here.part(Keyword::UnevaluatedProperties) else {
         return Ok(());
     };
     let sources = sources_of(value, here, walk)?;
-    add_left_members(members, rest, sources.as_slice(), pending)?;
+    add_left_members(members, &rest, sources.as_slice(), pending)?;
     Ok(())
 }
 
 #[inline(never)]
 fn add_left_members<'v, 's>(
     members: &[MemberView<'v>],
-    rest: &'s JsonValue,
+    rest: &Applied<'s>,
     sources: &[Source<'_, '_>],
     pending: &mut Vec<Pending<'v, 's>>,
 ) -> Result<(), CheckError>
     ensures { MatchResult result (λ _. (g : Answers) → AddsUses
-        (left_members (sources_evaluate g sources.now) (view rest.now) (members_of members.now))
+        (left_members (sources_evaluate g sources.now) (view rest.now.schema.now) (members_of members.now))
         pending.old.items pending.new.items)
         IsShallow }
 {
@@ -399,7 +394,8 @@ fn add_left_members<'v, 's>(
         let evaluated = is_member_evaluated(member.key, sources)?;
         let one = Pending {
             step: Step::Member(Keyword::UnevaluatedProperties, member.key),
-            schema: rest,
+            schema: rest.schema,
+            known: rest.known,
             value: member.value,
         };
         add_if(!evaluated, one, pending)?;
@@ -423,25 +419,25 @@ fn add_rest_items<'v, 's>(
         (view here.now.schema.now) (tree_of value.now)) pending.old.items pending.new.items)
         (IsDeep walk.entry (view here.now.schema.now) (tree_of value.now)) }
 {
-    let Some(rest) = here.schema_at(Keyword::UnevaluatedItems) else {
+    let Some(rest) = here.part(Keyword::UnevaluatedItems) else {
         return Ok(());
     };
     let sources = sources_of(value, here, walk)?;
-    add_left_items(items, rest, sources.as_slice(), walk, pending)?;
+    add_left_items(items, &rest, sources.as_slice(), walk, pending)?;
     Ok(())
 }
 
 #[inline(never)]
 fn add_left_items<'v, 's>(
     items: &[ValueView<'v>],
-    rest: &'s JsonValue,
+    rest: &Applied<'s>,
     sources: &[Source<'_, '_>],
     walk: Walk<'_, '_>,
     pending: &mut Vec<Pending<'v, 's>>,
 ) -> Result<(), CheckError>
     requires { AreWithin walk.steps sources.now }
     ensures { MatchResult result (λ _. (g : Answers) → AddsUses
-        (left_items (sources_evaluate g sources.now) (view rest.now) 0 (trees_of items.now))
+        (left_items (sources_evaluate g sources.now) (view rest.now.schema.now) 0 (trees_of items.now))
         pending.old.items pending.new.items)
         (λ e. IfDeep e (DescendsFromItems sources.now (trees_of items.now))) }
 {
@@ -449,7 +445,8 @@ fn add_left_items<'v, 's>(
         let evaluated = is_item_evaluated(index, item, sources, walk)?;
         let one = Pending {
             step: Step::Item(Keyword::UnevaluatedItems, index),
-            schema: rest,
+            schema: rest.schema,
+            known: rest.known,
             value: *item,
         };
         add_if(!evaluated, one, pending)?;

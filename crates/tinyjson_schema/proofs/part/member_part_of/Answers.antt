@@ -7,6 +7,7 @@ use Rattle.tinyjson_pointer.specs.Walk.{part_at}
 use Rattle.tinyjson_schema_keywords.specs.declared.keyword.Keyword.TheVariants as kw
 use Rattle.tinyjson_schema.specs.Parts.{property, member_schema}
 use Rattle.tinyjson_schema.specs.Places.{place}
+use Rattle.tinyjson_schema.proofs.Alternatives.{additional_known}
 use Rattle.tinyjson_schema.proofs.Parts.{by_property, by_additional, no_member}
 use Rattle.tinyjson_schema.proofs.Deep.{shallow}
 use Rattle.tinyjson_schema.proofs.part.member_part_of.Goals as goal
@@ -29,12 +30,19 @@ returns-in-Some-property_of c listed =
     (sym c.of.ensures) (by_property s k (view c.in-Some-property_of.part.now)
     (ap (option_and_then (λ p. tree_at_key p k)) (sym listed) ∙ sym c.in-Some-property_of.ensures))
 
+pub by-requires : goal.by-requires
+by-requires c =
+    let here = c.args.here.now in
+    let s = view here.schema.now in
+    additional_known s (chars c.args.key.now) (view c.in-Some-2.part.now) c.known_part-known.result
+    (sym c.in_ok-part.ensures ∙ ap (option_map (λ x. view x.now)) c.in-Some-2.is) (c.known_part-known.ensures s here.same)
+
 pub returns-in-Some-2 : goal.returns-in-Some-2
 returns-in-Some-2 c listed =
     let s = view c.args.here.now.schema.now in
     let k = chars c.args.key.now in
-    subst (λ x. (member_schema s k ≡ Some (view x.now)) × (part_at s (place kw.AdditionalProperties k) ≡ Some (view x.now)))
-    (sym c.of-in-Some-2.ensures) (by_additional s k (view c.in-Some-2.part.now)
+    subst (λ r. (member_schema s k ≡ Some r) × (part_at s (place kw.AdditionalProperties k) ≡ Some r))
+    (sym c.by.ensures) (by_additional s k (view c.in-Some-2.part.now)
     (ap (option_and_then (λ p. tree_at_key p k)) (sym listed) ∙ sym c.in_default-property_of.ensures)
     (sym c.in_ok-part.ensures ∙ ap (option_map (λ x. view x.now)) c.in-Some-2.is))
 

@@ -6,6 +6,8 @@ use Rattle.std.specs.Option.{option_map_or}
 use Rattle.std.specs.Prelude.{option_and_then, MatchResult}
 use Rattle.std.specs.Str.{chars}
 use Rattle.tinyjson.specs.Index.{nth, tree_at_key}
+use Rattle.tinyjson.specs.JsonKind.TheVariants as kind
+use Rattle.tinyjson.specs.Kind.{kind_of}
 use Rattle.tinyjson.specs.Tree.{object, array, find}
 use Rattle.tinyjson.specs.View.{view, text, items_view, members_listed}
 use Rattle.tinyjson_document.specs.Parts as part
@@ -20,7 +22,8 @@ use Rattle.tinyjson_schema_keywords.specs.declared.keyword.Keyword.TheVariants a
 use Rattle.tinyjson_schema_keywords.proofs.Callers.{listed_found, turn_next, turn_stop, turn_end, count_next, count_end}
 use Rattle.tinyjson_schema_keywords.proofs.Callers.{nth_item}
 use Rattle.tinyjson_schema.specs.Applicators.{all_accept, dependents_accept, members_accepted, items_accepted, found_pass, patterns_accept}
-use Rattle.tinyjson_schema.specs.Applicators.{applies, apply_all, demands, parts_accepted, tests, contains_some, contains_at_most, contains_at_least, any_of}
+use Rattle.tinyjson_schema.specs.Applicators.{applies, apply_all, demands, parts_accepted, tests, contains_some}
+use Rattle.tinyjson_schema.specs.Applicators.{contains_at_most, contains_at_least, any_of}
 use Rattle.tinyjson_schema.specs.Applicators.{one_of, branch_accepts, some_accepts, accepting, keys_pass, passing, items_passing}
 use Rattle.tinyjson_schema.specs.Evaluated.{Answers, Child, member_at, item_at, value_of, others_evaluate, rest_accepted, members_pass}
 use Rattle.tinyjson_schema.specs.Evaluated.{some_evaluate, accepting_evaluate, branch_evaluates, dependents_evaluate, target_evaluates}
@@ -31,23 +34,28 @@ use Rattle.tinyjson_schema.specs.Deep.{root_tree, Descends, DescendsIn, Descends
 use Rattle.tinyjson_schema.specs.Deep.{DescendsAtFound, DescendsBy, DescendsForKey}
 use Rattle.tinyjson_schema.specs.Nested.{within, by_list, by_not, by_if, by_branch, by_key, by_reference, by_pattern, by_member, by_item}
 use Rattle.tinyjson_schema.specs.Nested.{by_name, by_contains, by_rest, IfDeep}
-use Rattle.tinyjson_schema.specs.Sources.{sources_evaluate, AreWithin, AreReached, FindsLeft}
+use Rattle.tinyjson_schema.specs.Sources.{sources_evaluate, AreWithin, AreReached, Adds, FindsLeft}
+use Rattle.tinyjson_schema_table.specs.Links.{keyed}
 use Rattle.tinyjson_schema.specs.declared.walk.CheckError.TheVariants.{OutOfMemory}
-use Rattle.tinyjson_schema.proofs.Alternatives.{alternative_known}
-use Rattle.tinyjson_schema.proofs.Deep.{at_error, raised, raised_alone, if_deep, not_deep, at_last, one_deeper, of_list, of_target, has_own_key}
+use Rattle.tinyjson_schema.proofs.Alternatives.{key_there}
+use Rattle.tinyjson_schema.proofs.Deep.{at_error, raised, raised_alone, if_deep, not_deep, at_last, one_deeper, of_list}
+use Rattle.tinyjson_schema.proofs.Deep.{of_target, has_own_key}
 use Rattle.tinyjson_schema.proofs.Deep.{reached_pushed, reached_at}
 use Rattle.tinyjson_schema.specs.Valid.{answers_in, FindsRest, reference_accepts, target_accepts, says, Judges, Finds, IsUnapplied, refused}
 use Rattle.tinyjson_schema.specs.Valid.{unmet, not_applied, in_all_of, in_dependent, in_patterned, in_reference, in_part, IsInvalidAt}
 use Rattle.tinyjson_schema.specs.Valid.{FindsFound, Follows, root_of}
 use Rattle.tinyjson_schema.specs.declared.validate.unevaluated.Source.{Source}
 use Rattle.tinyjson_schema.proofs.Leaves.{decided_alone, untested, undemanded, unreferred}
-use Rattle.tinyjson_schema.proofs.Loops.{items_turn, items_end, item_passes, item_free, members_turn, member_passes, member_free, same_members}
+use Rattle.tinyjson_schema.proofs.Loops.{items_turn, items_end, item_passes, item_free, members_turn, member_passes}
+use Rattle.tinyjson_schema.proofs.Loops.{member_free, same_members}
 use Rattle.tinyjson_schema.proofs.Loops.{dependents_turn, dependent_passes, dependent_free, no_parts, found_holds, not_found, found_turn}
 use Rattle.tinyjson_schema.proofs.Sourcing.{adds_none, adds_both, adds_as, adds_turn, adds_end, within_pushed, within_at, schema_added}
 use Rattle.tinyjson_schema.proofs.Sourcing.{inner_added, asking_added, branch_none, branch_some, no_branch_added, target_added}
-use Rattle.tinyjson_schema.proofs.Sourcing.{no_target_added, left_turn, left_end, no_member_rest, no_item_rest, no_rest, members_found, items_found}
+use Rattle.tinyjson_schema.proofs.Sourcing.{no_target_added, left_turn, left_end, no_member_rest, no_item_rest, no_rest}
+use Rattle.tinyjson_schema.proofs.Sourcing.{members_found, items_found}
 use Rattle.tinyjson_schema.proofs.Sourcing.{evaluated_by, item_applied}
-use Rattle.tinyjson_schema.proofs.Validity.{reported, reported_there, flipped, verdict, placed, last_tested, last_found, before, no_branch, branch_met, branch_place}
+use Rattle.tinyjson_schema.proofs.Validity.{reported, reported_there, flipped, verdict, placed, last_tested, last_found, before}
+use Rattle.tinyjson_schema.proofs.Validity.{no_branch, branch_met, branch_place}
 use Rattle.tinyjson_schema.proofs.Validity.{reference_met, no_reference, both_met, last_demanded}
 use Rattle.tinyjson_schema.proofs.validate.+validate.Goals.{in_dependents-then-has_key+in_ok-found+in_default, in_dependents-else-has_key}
 use Rattle.tinyjson_schema.proofs.validate.+validate.Goals.{in_found-then-is_found+in_ok-found+in_default, in_found-else-is_found}
@@ -85,7 +93,7 @@ violation_of-in_parts-requires t c =
 
 pub violation_of-in_rest-requires : goal.violation_of-in_rest-requires
 violation_of-in_rest-requires t c =
-    let fewer : 16 * c.in_ok-inner.inner.steps + 14 < 16 * c.args.walk.steps + 6 = omega (arith, c.in_ok-inner.ensures.1) in
+    let fewer : 16 * c.in_ok-inner.inner.steps + 15 < 16 * c.args.walk.steps + 6 = omega (arith, c.in_ok-inner.ensures.1) in
     search rules
 
 pub unevaluated::add_schema-add_inner-requires : goal.unevaluated::add_schema-add_inner-requires
@@ -167,7 +175,8 @@ violation_of-returns t c =
     let v = tree_of c.args.value.now in
     before c.args.walk inner c.in_ok-inner.ensures s v c.in_rest.result
     (last_found inner s v c.in_rest.result (sym c.refuses_all.ensures ∙ c.if-refuses_all.false)
-    (subst (λ f. IsUnmet f s v None) (sym (ap (λ g. g.now.formats) c.in_ok-inner.ensures.0)) (subst (λ o. IsUnmet c.args.walk.ground.now.formats s v o) c.in_default.is
+    (subst (λ f. IsUnmet f s v None) (sym (ap (λ g. g.now.formats) c.in_ok-inner.ensures.0))
+    (subst (λ o. IsUnmet c.args.walk.ground.now.formats s v o) c.in_default.is
     c.in_ok-keyword.ensures))
     (subst (λ o. IsUnapplied inner tests s v o) c.in_default-2.is c.in_ok-keyword-2.ensures)
     (subst (λ o. Finds inner (λ f. apply_all f demands s v) s v (Ok o)) c.in_default-3.is c.in_ok-found.ensures)
@@ -176,25 +185,13 @@ violation_of-returns t c =
     (subst (λ o. Finds inner (λ f. parts_accepted f s v) s v (Ok o)) c.in_default-5.is c.in_ok-found-3.ensures)
     c.in_rest.ensures)
 
+pub is_accepted-returns-then-not-may_apply : goal.is_accepted-returns-then-not-may_apply
+is_accepted-returns-then-not-may_apply t c = c.is_accepted_alone.ensures
+
 pub is_accepted-returns : goal.is_accepted-returns
 is_accepted-returns t c g = flipped c.is_none.result _ c.is_none.ensures
-    ∙ verdict (root_of c.args.walk) c.args.walk.steps (view c.args.schema.now) (tree_of c.args.value.now) c.in_ok-found.found
+    ∙ verdict (root_of c.args.walk) c.args.walk.steps (view c.args.part.now.schema.now) (tree_of c.args.value.now) c.in_ok-found.found
     c.in_ok-found.ensures g
-
-pub is_accepted_by-returns-then-not-may_apply : goal.is_accepted_by-returns-then-not-may_apply
-is_accepted_by-returns-then-not-may_apply t c =
-    let w = c.args.walk in
-    let v = tree_of c.args.value.now in
-    subst (λ s. MatchResult c.is_accepted_alone.result (λ is. Follows w is (λ f. f s v)) (λ e. IfDeep e (Descends w s v)))
-    c.by-part.ensures c.is_accepted_alone.ensures
-
-pub is_accepted_by-returns : goal.is_accepted_by-returns
-is_accepted_by-returns t c g =
-    let w = c.args.walk in
-    let v = tree_of c.args.value.now in
-    flipped c.is_none.result _ c.is_none.ensures
-    ∙ (verdict (root_of w) w.steps (view c.by-part.result.schema.now) v c.in_ok-found.found c.in_ok-found.ensures g
-    ∙ ap (λ s. says w g s v) c.by-part.ensures)
 
 pub tested::unmet_test-returns-then-not-may_test : goal.tested::unmet_test-returns-then-not-may_test
 tested::unmet_test-returns-then-not-may_test t c g =
@@ -246,19 +243,15 @@ tested::is_any_met-returns t c g =
     c.in_ok-accepted.ensures g ∙ (sym (ap (λ b. not b || some_accepts f rs v) (sym c.is_some_item.ensures ∙ c.if-not-is_some_item.false))
     ∙ ap (λ xs. any_of f xs v) c.schemas_at-schemas.ensures)
 
-pub tested::is_some_met-is_accepted_by-requires : goal.tested::is_some_met-is_accepted_by-requires
-tested::is_some_met-is_accepted_by-requires t c =
-    let s = view c.args.here.now.schema.now in
-    let same = alternative_known s kw.AnyOf c.args.schemas.now c.loop-index.index c.index-schemas-index.result c.known_listed-known.result
-    c.requires c.loop-index-test.true c.index-schemas-index.is (c.known_listed-known.ensures s c.args.here.now.same) in
-    search rules
+pub tested::is_some_met-listed_part-part-requires : goal.tested::is_some_met-listed_part-part-requires
+tested::is_some_met-listed_part-part-requires t c =
+    ap (λ ts. nth ts c.loop-index.index) (sym c.requires)
+    ∙ nth_item c.args.schemas.now c.loop-index.index c.index-schemas-index.result c.loop-index-test.true c.index-schemas-index.is
 
-pub tested::count_accepting-is_accepted_by-requires : goal.tested::count_accepting-is_accepted_by-requires
-tested::count_accepting-is_accepted_by-requires t c =
-    let s = view c.args.here.now.schema.now in
-    let same = alternative_known s kw.OneOf c.args.schemas.now c.loop-index.index c.index-schemas-index.result c.known_listed-known.result
-    c.requires c.loop-index-test.true c.index-schemas-index.is (c.known_listed-known.ensures s c.args.here.now.same) in
-    search rules
+pub tested::count_accepting-listed_part-part-requires : goal.tested::count_accepting-listed_part-part-requires
+tested::count_accepting-listed_part-part-requires t c =
+    ap (λ ts. nth ts c.loop-index.index) (sym c.requires)
+    ∙ nth_item c.args.schemas.now c.loop-index.index c.index-schemas-index.result c.loop-index-test.true c.index-schemas-index.is
 
 pub tested::is_some_met-returns-then-accepted : goal.tested::is_some_met-returns-then-accepted
 tested::is_some_met-returns-then-accepted t c g =
@@ -267,7 +260,8 @@ tested::is_some_met-returns-then-accepted t c g =
     let vs = c.args.schemas.now in
     let i = c.loop-index.index in
     turn_stop (λ xs. some_accepts f (items_view xs) v) vs i true c.index-schemas-index.result c.loop-index-test.true c.index-schemas-index.is
-    (ap (λ b. b || some_accepts f (items_view (drop (i + 1) vs)) v) (sym (c.in_ok-accepted.ensures g) ∙ c.if-accepted.true))
+    (ap (λ b. b || some_accepts f (items_view (drop (i + 1) vs)) v)
+    (sym (c.in_ok-accepted.ensures g ∙ ap (λ s. f s v) c.listed_part-part.ensures) ∙ c.if-accepted.true))
     (c.loop-index.invariant g)
 
 pub tested::is_some_met-loop-index-preserved : goal.tested::is_some_met-loop-index-preserved
@@ -277,7 +271,8 @@ tested::is_some_met-loop-index-preserved t c g =
     let vs = c.args.schemas.now in
     let i = c.loop-index.index in
     turn_next (λ xs. some_accepts f (items_view xs) v) vs i c.index-schemas-index.result c.loop-index-test.true c.index-schemas-index.is
-    (ap (λ b. b || some_accepts f (items_view (drop (i + 1) vs)) v) (sym (c.in_ok-accepted.ensures g) ∙ c.if-accepted.false))
+    (ap (λ b. b || some_accepts f (items_view (drop (i + 1) vs)) v)
+    (sym (c.in_ok-accepted.ensures g ∙ ap (λ s. f s v) c.listed_part-part.ensures) ∙ c.if-accepted.false))
     (c.loop-index.invariant g)
 
 pub tested::is_some_met-returns : goal.tested::is_some_met-returns
@@ -307,13 +302,15 @@ tested::count_accepting-loop-index-preserved t c =
         omega (arith, w.count-is, c.loop-index.invariant.0),
         λ g. count_next (λ xs. accepting (says c.args.walk g) (items_view xs) v) vs i n x 1 c.if-accepted.count c.loop-index-test.true
             c.index-schemas-index.is (ap (λ b. cond b 1 0 + accepting (says c.args.walk g) (items_view (drop (i + 1) vs)) v)
-            (sym (c.in_ok-accepted.ensures g) ∙ w.if-accepted.true)) w.count-is (c.loop-index.invariant.1 g),
+            (sym (c.in_ok-accepted.ensures g ∙ ap (λ s. says c.args.walk g s v) c.listed_part-part.ensures) ∙ w.if-accepted.true))
+            w.count-is (c.loop-index.invariant.1 g),
       )
       | tested::count_accepting-else-accepted w ↦ (
         omega (arith, w.count-is, c.loop-index.invariant.0),
         λ g. count_next (λ xs. accepting (says c.args.walk g) (items_view xs) v) vs i n x 0 c.if-accepted.count c.loop-index-test.true
             c.index-schemas-index.is (ap (λ b. cond b 1 0 + accepting (says c.args.walk g) (items_view (drop (i + 1) vs)) v)
-            (sym (c.in_ok-accepted.ensures g) ∙ w.if-accepted.false)) (omega (arith, w.count-is)) (c.loop-index.invariant.1 g),
+            (sym (c.in_ok-accepted.ensures g ∙ ap (λ s. says c.args.walk g s v) c.listed_part-part.ensures) ∙ w.if-accepted.false))
+            (omega (arith, w.count-is)) (c.loop-index.invariant.1 g),
       )
     ]
 
@@ -328,14 +325,14 @@ tested::are_names_met-returns-in_ok-accepted-in-Some t c g =
     let f = says c.args.walk g in
     let v = tree_of c.args.value.now in
     c.in_ok-accepted-in-Some.ensures g
-    ∙ (ap (keys_pass (f (view c.in-Some.part.now)))
+    ∙ (ap (keys_pass (f (view c.in-Some.part.schema.now)))
     (ap members_of c.as_slice.ensures.value ∙ (c.in_ok-members-in-Some.ensures.listed ∙ same_members v))
     ∙ ap (λ o. option_map_or (λ r. keys_pass (f r) (members_in v)) o true) c.in-Some.ensures)
 
 pub tested::are_keys_met-returns-then-not-accepted : goal.tested::are_keys_met-returns-then-not-accepted
 tested::are_keys_met-returns-then-not-accepted t c g =
     let f = says c.args.walk g in
-    let s = view c.args.schema.now in
+    let s = view c.args.part.now.schema.now in
     let ps = c.args.members.now in
     let i = c.loop-member.member-index in
     turn_stop (λ xs. keys_pass (f s) (members_of xs)) ps i false c.member-item.result c.loop-member-test.true c.member-item.is
@@ -346,7 +343,7 @@ tested::are_keys_met-returns-then-not-accepted t c g =
 pub tested::are_keys_met-loop-member-preserved : goal.tested::are_keys_met-loop-member-preserved
 tested::are_keys_met-loop-member-preserved t c g =
     let f = says c.args.walk g in
-    let s = view c.args.schema.now in
+    let s = view c.args.part.now.schema.now in
     let ps = c.args.members.now in
     let i = c.loop-member.member-index in
     turn_next (λ xs. keys_pass (f s) (members_of xs)) ps i c.member-item.result c.loop-member-test.true c.member-item.is
@@ -356,7 +353,7 @@ tested::are_keys_met-loop-member-preserved t c g =
 
 pub tested::are_keys_met-returns : goal.tested::are_keys_met-returns
 tested::are_keys_met-returns t c g =
-    let s = view c.args.schema.now in
+    let s = view c.args.part.now.schema.now in
     sym (turn_end (λ xs. keys_pass (says c.args.walk g s) (members_of xs)) c.args.members.now c.loop-member.member-index true
     c.loop-member-test.false refl (c.loop-member.invariant g))
 
@@ -366,12 +363,12 @@ tested::contained-returns-in_ok-count-in-Array t c g =
     let v = tree_of c.args.value.now in
     let same : array (trees_of c.as_slice.result.now) ≡ v
     = ap array (ap trees_of c.as_slice.ensures.value ∙ c.in_ok-items-in-Array.ensures) ∙ array_is v (sym c.in-Array.is ∙ c.kind.ensures) in
-    ap Some (c.in_ok-count-in-Array.ensures g) ∙ (ap (items_passing (f (view c.in-Some.part.now))) same
+    ap Some (c.in_ok-count-in-Array.ensures g) ∙ (ap (items_passing (f (view c.in-Some.part.schema.now))) same
     ∙ ap (option_and_then (λ r. items_passing (f r) v)) c.in-Some.ensures)
 
 pub tested::count_passing-loop-item-preserved : goal.tested::count_passing-loop-item-preserved
 tested::count_passing-loop-item-preserved t c =
-    let s = view c.args.schema.now in
+    let s = view c.args.part.now.schema.now in
     let vs = c.args.items.now in
     let i = c.loop-item.item-index in
     let n = c.loop-item.count in
@@ -393,7 +390,7 @@ tested::count_passing-loop-item-preserved t c =
 
 pub tested::count_passing-returns : goal.tested::count_passing-returns
 tested::count_passing-returns t c g =
-    let s = view c.args.schema.now in
+    let s = view c.args.part.now.schema.now in
     count_end (λ xs. passing (says c.args.walk g s) (trees_of xs)) c.args.items.now c.loop-item.item-index c.loop-item.count
     c.loop-item-test.false refl (c.loop-item.invariant.1 g)
 
@@ -430,6 +427,11 @@ in_demands-returns t c =
     (subst (λ o. Finds w (λ f. applies f kw.DependentSchemas s v) s v (Ok o)) c.in_default-3.is c.in_ok-found-3.ensures)
     c.in_patterned.ensures
 
+pub in_all_of-listed_part-applied-requires : goal.in_all_of-listed_part-applied-requires
+in_all_of-listed_part-applied-requires t c =
+    ap (λ ts. nth ts c.loop-index.index) (sym c.schemas_at-parts.ensures)
+    ∙ nth_item c.schemas_at-parts.result.now c.loop-index.index c.index-parts-index.result c.loop-index-test.true c.index-parts-index.is
+
 pub in_all_of-returns-in-Some : goal.in_all_of-returns-in-Some
 in_all_of-returns-in-Some t c =
     let s = view c.args.here.now.schema.now in
@@ -438,7 +440,8 @@ in_all_of-returns-in-Some t c =
     let i = c.loop-index.index in
     let x = c.index-parts-index.result in
     let old = c.in-Some.found in
-    let inner = subst (λ o. Judges c.args.walk (view x) v (Ok o)) c.in-Some.is c.in_ok-found.ensures in
+    let told = subst (λ s. Judges c.args.walk s v (Ok c.in_ok-found.field-0)) c.listed_part-applied.ensures c.in_ok-found.ensures in
+    let inner = subst (λ o. Judges c.args.walk (view x) v (Ok o)) c.in-Some.is told in
     let entered = c.in_ok-enter_listed.ensures in
     let at : nth (schemas_at s kw.AllOf) i ≡ Some (view x)
     = ap (λ ts. nth ts i) (sym c.schemas_at-parts.ensures) ∙ nth_item vs i x c.loop-index-test.true c.index-parts-index.is in
@@ -452,7 +455,8 @@ in_all_of-loop-index-preserved t c g =
     let i = c.loop-index.index in
     let x = c.index-parts-index.result in
     let f = says c.args.walk g in
-    let good = subst (λ o. Judges c.args.walk (view x) v (Ok o)) c.in_default.is c.in_ok-found.ensures in
+    let told = subst (λ s. Judges c.args.walk s v (Ok c.in_ok-found.field-0)) c.listed_part-applied.ensures c.in_ok-found.ensures in
+    let good = subst (λ o. Judges c.args.walk (view x) v (Ok o)) c.in_default.is told in
     turn_next (λ xs. all_accept f (items_view xs) v) vs i x c.loop-index-test.true c.index-parts-index.is
     (ap (λ b. b && all_accept f (items_view (drop (i + 1) vs)) v) (good g)) (c.loop-index.invariant g)
 
@@ -471,28 +475,43 @@ in_branch-returns-in_default t c g =
     let v = tree_of c.args.value.now in
     ap (λ o. option_map_or (λ r. branch_accepts f s v (f r v)) o true) (sym c.in_default.ensures)
 
-pub in_branch-returns-in_default-schema_at : goal.in_branch-returns-in_default-schema_at
-in_branch-returns-in_default-schema_at t c =
-    no_branch c.args.walk (view c.args.here.now.schema.now) (tree_of c.args.value.now) (view c.in-Some.test.now) c.in_ok-accepted.accepted
-    c.branch-chosen.result c.in-Some.ensures c.in_ok-accepted.ensures c.branch-chosen.ensures c.in_default-schema_at.ensures
+pub in_branch-returns-in_default-part : goal.in_branch-returns-in_default-part
+in_branch-returns-in_default-part t c =
+    no_branch c.args.walk (view c.args.here.now.schema.now) (tree_of c.args.value.now) (view c.in-Some.test.schema.now)
+    c.in_ok-accepted.accepted c.branch-chosen.result c.in-Some.ensures c.in_ok-accepted.ensures c.branch-chosen.ensures
+    c.in_default-part.ensures
 
 pub in_branch-returns-in_default-2 : goal.in_branch-returns-in_default-2
 in_branch-returns-in_default-2 t c =
     let v = tree_of c.args.value.now in
-    let r = view c.in-Some-schema_at.part.now in
-    branch_met c.args.walk (view c.args.here.now.schema.now) v (view c.in-Some.test.now) c.in_ok-accepted.accepted c.branch-chosen.result
-    c.in-Some.ensures c.in_ok-accepted.ensures c.branch-chosen.ensures r c.in-Some-schema_at.ensures
+    let r = view c.in-Some-part.part.schema.now in
+    branch_met c.args.walk (view c.args.here.now.schema.now) v (view c.in-Some.test.schema.now) c.in_ok-accepted.accepted
+    c.branch-chosen.result c.in-Some.ensures c.in_ok-accepted.ensures c.branch-chosen.ensures r c.in-Some-part.ensures
     (subst (λ o. Judges c.args.walk r v (Ok o)) c.in_default-2.is c.in_ok-found.ensures)
 
 pub in_branch-returns : goal.in_branch-returns
 in_branch-returns t c =
     let s = view c.args.here.now.schema.now in
     let v = tree_of c.args.value.now in
-    let r = view c.in-Some-schema_at.part.now in
+    let r = view c.in-Some-part.part.schema.now in
     let inner = subst (λ o. Judges c.args.walk r v (Ok o)) c.in-Some-2.is c.in_ok-found.ensures in
     placed c.args.walk (λ f. applies f kw.If s v) s v c.enter_keyword.new.self _ _ c.in_ok-enter_keyword.ensures
-    (branch_place c.args.walk s v (view c.in-Some.test.now) c.in_ok-accepted.accepted c.branch-chosen.result c.in-Some.ensures
-    c.in_ok-accepted.ensures c.branch-chosen.ensures r _ _ c.in-Some-schema_at.ensures inner)
+    (branch_place c.args.walk s v (view c.in-Some.test.schema.now) c.in_ok-accepted.accepted c.branch-chosen.result c.in-Some.ensures
+    c.in_ok-accepted.ensures c.branch-chosen.ensures r _ _ c.in-Some-part.ensures inner)
+
+pub in_dependents-keyed_part-applied-requires : goal.in_dependents-keyed_part-applied-requires
+in_dependents-keyed_part-applied-requires t c =
+    let s = view c.args.here.now.schema.now in
+    let ps = c.as_slice-dependents.result.now in
+    let p = c.loop-key-item.result in
+    let k = text p.0.now in
+    let r = view p.1.now in
+    let sorted = subst (λ xs. IsSorted (members_listed xs)) (sym c.as_slice-dependents.ensures.value) c.in_ok-listed.ensures.sorted in
+    let at : find k (schema_map_at s kw.DependentSchemas) ≡ Some r
+    = ap (find k) (sym (ap members_listed c.as_slice-dependents.ensures.value ∙ c.in_ok-listed.ensures.listed))
+    ∙ listed_found ps c.loop-key.key-index p sorted c.loop-key-test.true c.loop-key-item.is in
+    subst (λ bs. keyed s kw.DependentSchemas (chars bs) ≡ Some r) (sym c.as_str-name.ensures.value)
+    (key_there s kw.DependentSchemas k r at)
 
 pub in_dependents-returns-in-Some : goal.in_dependents-returns-in-Some
 in_dependents-returns-in-Some t c =
@@ -504,10 +523,11 @@ in_dependents-returns-in-Some t c =
     let r = view p.1.now in
     let k = text p.0.now in
     let old = c.in-Some.found in
-    let inner = subst (λ o. Judges c.args.walk r v (Ok o)) c.in-Some.is c.in_ok-found.ensures in
-    let entered = subst (λ bs. IsUnderKey kw.DependentSchemas (chars bs) old c.enter_keyed.new.self) c.as_str-in-Some.ensures.value
+    let told = subst (λ x. Judges c.args.walk x v (Ok c.in_ok-found.field-0)) c.keyed_part-applied.ensures c.in_ok-found.ensures in
+    let inner = subst (λ o. Judges c.args.walk r v (Ok o)) c.in-Some.is told in
+    let entered = subst (λ bs. IsUnderKey kw.DependentSchemas (chars bs) old c.enter_keyed.new.self) c.as_str-name.ensures.value
     c.in_ok-enter_keyed.ensures in
-    let here : is_some (tree_at_key v k) ≡ true = ap (λ bs. is_some (tree_at_key v (chars bs))) (sym c.as_str.ensures.value)
+    let here : is_some (tree_at_key v k) ≡ true = ap (λ bs. is_some (tree_at_key v (chars bs))) (sym c.as_str-name.ensures.value)
     ∙ (sym c.has_key.ensures ∙ c.if-has_key.true) in
     let sorted = subst (λ xs. IsSorted (members_listed xs)) (sym c.as_slice-dependents.ensures.value) c.in_ok-listed.ensures.sorted in
     let at : find k (schema_map_at s kw.DependentSchemas) ≡ Some r
@@ -527,11 +547,12 @@ in_dependents-loop-key-preserved t c g =
     elim c.if-has_key.branch [
       | in_dependents-then-has_key+in_ok-found+in_default w ↦
           dependents_turn (says c.args.walk g) v ps i p c.loop-key-test.true c.loop-key-item.is
-          (dependent_passes (says c.args.walk g) v k r (subst (λ o. Judges c.args.walk r v (Ok o)) w.in_default.is w.in_ok-found.ensures g))
+          (dependent_passes (says c.args.walk g) v k r (subst (λ o. Judges c.args.walk r v (Ok o)) w.in_default.is
+          (subst (λ x. Judges c.args.walk x v (Ok w.in_ok-found.field-0)) w.keyed_part-applied.ensures w.in_ok-found.ensures) g))
           (c.loop-key.invariant g)
       | in_dependents-else-has_key w ↦
           dependents_turn (says c.args.walk g) v ps i p c.loop-key-test.true c.loop-key-item.is
-          (dependent_free (says c.args.walk g) v k r (ap (λ bs. is_some (tree_at_key v (chars bs))) (sym c.as_str.ensures.value)
+          (dependent_free (says c.args.walk g) v k r (ap (λ bs. is_some (tree_at_key v (chars bs))) (sym c.as_str-name.ensures.value)
           ∙ (sym c.has_key.ensures ∙ w.if-has_key.false))) (c.loop-key.invariant g)
     ]
 
@@ -543,6 +564,20 @@ in_dependents-returns t c g =
     ∙ turn_end (λ xs. dependents_accept (says c.args.walk g) (members_listed xs) v) c.as_slice-dependents.result.now c.loop-key.key-index
     true c.loop-key-test.false refl (c.loop-key.invariant g)
 
+pub in_patterned-keyed_part-applied-requires : goal.in_patterned-keyed_part-applied-requires
+in_patterned-keyed_part-applied-requires t c =
+    let s = view c.args.here.now.schema.now in
+    let ps = c.as_slice-patterns.result.now in
+    let p = c.loop-pattern-item.result in
+    let k = text p.0.now in
+    let r = view p.1.now in
+    let sorted = subst (λ xs. IsSorted (members_listed xs)) (sym c.as_slice-patterns.ensures.value) c.in_ok-listed.ensures.sorted in
+    let at : find k (schema_map_at s kw.PatternProperties) ≡ Some r
+    = ap (find k) (sym (ap members_listed c.as_slice-patterns.ensures.value ∙ c.in_ok-listed.ensures.listed))
+    ∙ listed_found ps c.loop-pattern.pattern-index p sorted c.loop-pattern-test.true c.loop-pattern-item.is in
+    subst (λ bs. keyed s kw.PatternProperties (chars bs) ≡ Some r) (sym c.as_str-text.ensures.value)
+    (key_there s kw.PatternProperties k r at)
+
 pub in_patterned-returns-in-Some : goal.in_patterned-returns-in-Some
 in_patterned-returns-in-Some t c =
     let s = view c.args.here.now.schema.now in
@@ -553,9 +588,11 @@ in_patterned-returns-in-Some t c =
     let r = view p.1.now in
     let k = text p.0.now in
     let old = c.in-Some.found in
-    let told = subst (λ o. FindsFound c.args.walk (chars c.as_str.result.now) r (members_in v) (Ok o)) c.in-Some.is c.in_ok-found.ensures in
-    let inner = subst (λ bs. FindsFound c.args.walk (chars bs) r (members_in v) (Ok (Some old))) c.as_str.ensures.value told in
-    let entered = subst (λ bs. IsUnderKey kw.PatternProperties (chars bs) old c.enter_keyed.new.self) c.as_str-in-Some.ensures.value
+    let first = subst (λ x. FindsFound c.args.walk (chars c.as_str-text.result.now) x (members_in v) (Ok c.in_ok-found.field-0))
+    c.keyed_part-applied.ensures c.in_ok-found.ensures in
+    let told = subst (λ o. FindsFound c.args.walk (chars c.as_str-text.result.now) r (members_in v) (Ok o)) c.in-Some.is first in
+    let inner = subst (λ bs. FindsFound c.args.walk (chars bs) r (members_in v) (Ok (Some old))) c.as_str-text.ensures.value told in
+    let entered = subst (λ bs. IsUnderKey kw.PatternProperties (chars bs) old c.enter_keyed.new.self) c.as_str-text.ensures.value
     c.in_ok-enter_keyed.ensures in
     let sorted = subst (λ xs. IsSorted (members_listed xs)) (sym c.as_slice-patterns.ensures.value) c.in_ok-listed.ensures.sorted in
     let at : find k (schema_map_at s kw.PatternProperties) ≡ Some r
@@ -571,9 +608,10 @@ in_patterned-loop-pattern-preserved t c g =
     let i = c.loop-pattern.pattern-index in
     let p = c.loop-pattern-item.result in
     let r = view p.1.now in
-    let told = subst (λ o. FindsFound c.args.walk (chars c.as_str.result.now) r (members_in v) (Ok o)) c.in_default.is
-    c.in_ok-found.ensures in
-    let good = subst (λ bs. FindsFound c.args.walk (chars bs) r (members_in v) (Ok None)) c.as_str.ensures.value told in
+    let first = subst (λ x. FindsFound c.args.walk (chars c.as_str-text.result.now) x (members_in v) (Ok c.in_ok-found.field-0))
+    c.keyed_part-applied.ensures c.in_ok-found.ensures in
+    let told = subst (λ o. FindsFound c.args.walk (chars c.as_str-text.result.now) r (members_in v) (Ok o)) c.in_default.is first in
+    let good = subst (λ bs. FindsFound c.args.walk (chars bs) r (members_in v) (Ok None)) c.as_str-text.ensures.value told in
     turn_next (λ xs. patterns_accept (says c.args.walk g) (members_listed xs) (members_in v)) ps i p c.loop-pattern-test.true
     c.loop-pattern-item.is
     (ap (λ b. b && patterns_accept (says c.args.walk g) (members_listed (drop (i + 1) ps)) (members_in v)) (good g))
@@ -590,7 +628,7 @@ in_patterned-returns t c g =
 pub in_found-returns-in-Some : goal.in_found-returns-in-Some
 in_found-returns-in-Some t c =
     let w = c.args.walk in
-    let r = view c.args.schema.now in
+    let r = view c.args.part.now.schema.now in
     let v = tree_of c.args.value.now in
     let ps = c.as_slice-members.result.now in
     let i = c.loop-member.member-index in
@@ -614,7 +652,7 @@ in_found-returns-in-Some t c =
 
 pub in_found-loop-member-preserved : goal.in_found-loop-member-preserved
 in_found-loop-member-preserved t c =
-    let r = view c.args.schema.now in
+    let r = view c.args.part.now.schema.now in
     let pattern = chars c.args.pattern.now in
     let ps = c.as_slice-members.result.now in
     let i = c.loop-member.member-index in
@@ -633,7 +671,7 @@ in_found-loop-member-preserved t c =
 
 pub in_found-returns : goal.in_found-returns
 in_found-returns t c g =
-    let q = says c.args.walk g (view c.args.schema.now) in
+    let q = says c.args.walk g (view c.args.part.now.schema.now) in
     let ps = chars c.args.pattern.now in
     ap (found_pass q ps) (sym (ap members_of c.as_slice-members.ensures.value
     ∙ (c.in_ok-listed.ensures.listed ∙ same_members (tree_of c.args.value.now))))
@@ -651,13 +689,15 @@ in_reference-returns t c =
     let s = view c.args.here.now.schema.now in
     let v = tree_of c.args.value.now in
     both_met w s v c.in_target-2.result
-    (subst (λ o. Finds w (λ f. target_accepts (view w.ground.now.whole.now.root.now) kw.Ref f s v) s v (Ok o)) c.in_default.is c.in_ok-found.ensures)
+    (subst (λ o. Finds w (λ f. target_accepts (view w.ground.now.whole.now.root.now) kw.Ref f s v) s v
+    (Ok o)) c.in_default.is c.in_ok-found.ensures)
     c.in_target-2.ensures
 
 pub in_target-returns-in_default : goal.in_target-returns-in_default
 in_target-returns-in_default t c g =
     let w = c.args.walk in
-    no_reference (view w.ground.now.whole.now.root.now) (says w g) (view c.args.here.now.schema.now) (tree_of c.args.value.now) c.args.keyword
+    no_reference (view w.ground.now.whole.now.root.now) (says w g) (view c.args.here.now.schema.now)
+    (tree_of c.args.value.now) c.args.keyword
     (ap (option_map (λ x. view x.schema.now)) (sym c.in_default.is) ∙ c.in_ok-part.ensures)
 
 pub in_target-returns-in_default-2 : goal.in_target-returns-in_default-2
@@ -678,7 +718,8 @@ in_target-returns t c =
     let inner = subst (λ o. Judges w r v (Ok o)) c.in-Some-2.is c.in_ok-found.ensures in
     placed w (λ f. target_accepts (view w.ground.now.whole.now.root.now) c.args.keyword f s v) s v c.enter_keyword.new.self _ _
     c.in_ok-enter_keyword.ensures
-    (in_reference c.args.keyword c.requires (sym (ap (option_map (λ x. view x.schema.now)) (sym c.in-Some.is) ∙ c.in_ok-part.ensures)) inner)
+    (in_reference c.args.keyword c.requires (sym (ap (option_map (λ x. view x.schema.now)) (sym c.in-Some.is)
+    ∙ c.in_ok-part.ensures)) inner)
 
 pub in_members-returns-in-Some-2 : goal.in_members-returns-in-Some-2
 in_members-returns-in-Some-2 t c =
@@ -714,7 +755,8 @@ in_members-loop-near-preserved t c g =
           (c.loop-near.invariant g)
       | in_members-in_default w ↦
           members_turn (says c.args.walk g) s ps i p c.loop-near-test.true c.index-members-near.is
-          (member_free (says c.args.walk g) s k u (subst (λ o. IsMemberPart s k o) w.in_default.is (c.in_ok-part.ensures c.schema_at-properties.ensures)))
+          (member_free (says c.args.walk g) s k u (subst (λ o. IsMemberPart s k o) w.in_default.is
+          (c.in_ok-part.ensures c.schema_at-properties.ensures)))
           (c.loop-near.invariant g)
     ]
 
@@ -805,7 +847,7 @@ unevaluated::in_members_left-returns-in-Some t c =
     let p = c.member-item.result in
     let k = chars p.key.now in
     let u = tree_of p.value in
-    let r = view c.args.rest.now in
+    let r = view c.args.rest.now.schema.now in
     let old = c.in-Some.found in
     record {
       child = member_at k u;
@@ -828,7 +870,7 @@ unevaluated::in_members_left-loop-member-preserved t c g =
     let p = c.member-item.result in
     let k = chars p.key.now in
     let u = tree_of p.value in
-    let r = view c.args.rest.now in
+    let r = view c.args.rest.now.schema.now in
     let q : Child → Bool = λ k. sources_evaluate g xs k || says w g r (value_of k) in
     let told : c.in_ok-evaluated.evaluated ≡ sources_evaluate g xs (member_at k u) = c.in_ok-evaluated.ensures g u in
     elim c.if-not-evaluated.branch [
@@ -844,7 +886,8 @@ unevaluated::in_members_left-loop-member-preserved t c g =
 
 pub unevaluated::in_members_left-returns : goal.unevaluated::in_members_left-returns
 unevaluated::in_members_left-returns t c g =
-    let q : Child → Bool = λ k. sources_evaluate g c.args.sources.now k || says c.args.walk g (view c.args.rest.now) (value_of k) in
+    let q : Child → Bool
+    = λ k. sources_evaluate g c.args.sources.now k || says c.args.walk g (view c.args.rest.now.schema.now) (value_of k) in
     turn_end (λ ys. members_pass q (members_of ys)) c.args.members.now c.loop-member.member-index true c.loop-member-test.false refl
     (c.loop-member.invariant g)
 
@@ -854,7 +897,7 @@ unevaluated::in_items_left-returns-in-Some t c =
     let vs = c.args.items.now in
     let i = c.loop-index.index in
     let x = c.index-items-index.result in
-    let r = view c.args.rest.now in
+    let r = view c.args.rest.now.schema.now in
     let old = c.in-Some.found in
     let entered = c.in_ok-enter_item.ensures in
     record {
@@ -874,7 +917,7 @@ unevaluated::in_items_left-loop-index-preserved t c g =
     let vs = c.args.items.now in
     let i = c.loop-index.index in
     let x = c.index-items-index.result in
-    let r = view c.args.rest.now in
+    let r = view c.args.rest.now.schema.now in
     let q : Child → Bool = λ k. sources_evaluate g c.args.sources.now k || says c.args.walk g r (value_of k) in
     elim c.if-not-evaluated.branch [
       | unevaluated::in_items_left-then-not-evaluated+in_ok-found+in_default w ↦
@@ -888,7 +931,8 @@ unevaluated::in_items_left-loop-index-preserved t c g =
 
 pub unevaluated::in_items_left-returns : goal.unevaluated::in_items_left-returns
 unevaluated::in_items_left-returns t c g =
-    let q : Child → Bool = λ k. sources_evaluate g c.args.sources.now k || says c.args.walk g (view c.args.rest.now) (value_of k) in
+    let q : Child → Bool
+    = λ k. sources_evaluate g c.args.sources.now k || says c.args.walk g (view c.args.rest.now.schema.now) (value_of k) in
     left_end q c.args.items.now c.loop-index.index c.loop-index-test.false (c.loop-index.invariant g)
 
 pub unevaluated::is_item_evaluated-evaluates_item-requires : goal.unevaluated::is_item_evaluated-evaluates_item-requires
@@ -954,37 +998,49 @@ unevaluated::evaluates_item-returns t c g =
 
 -- ---- the whole of it
 
-pub unevaluated::in_rest-in_members_left-requires : goal.unevaluated::in_rest-in_members_left-requires
-unevaluated::in_rest-in_members_left-requires t c =
+pub unevaluated::in_rest-in_members_rest-requires : goal.unevaluated::in_rest-in_members_rest-requires
+unevaluated::in_rest-in_members_rest-requires t c =
+    let is : kind_of (tree_of c.args.value.now) ≡ kind.Object = sym c.kind.ensures ∙ c.in-Object.is in
+    let fewer : 16 * c.args.walk.steps + 14 < 16 * c.args.walk.steps + 15 = omega arith in
+    search rules
+
+pub unevaluated::in_rest-in_items_rest-requires : goal.unevaluated::in_rest-in_items_rest-requires
+unevaluated::in_rest-in_items_rest-requires t c =
+    let is : kind_of (tree_of c.args.value.now) ≡ kind.Array = sym c.kind.ensures ∙ c.in-Array.is in
+    let fewer : 16 * c.args.walk.steps + 14 < 16 * c.args.walk.steps + 15 = omega arith in
+    search rules
+
+pub unevaluated::in_members_rest-in_members_left-requires : goal.unevaluated::in_members_rest-in_members_left-requires
+unevaluated::in_members_rest-in_members_left-requires t c =
     let rises : IsSorted (members_of c.as_slice.result.now) = subst (λ xs. IsSorted (members_of xs)) (sym c.as_slice.ensures.value)
-    c.in_ok-members-in-Object.ensures.sorted in
+    c.in_ok-members.ensures.sorted in
     let fewer : 16 * c.args.walk.steps + 13 < 16 * c.args.walk.steps + 14 = omega arith in
     search rules
 
-pub unevaluated::in_rest-in_items_left-requires : goal.unevaluated::in_rest-in_items_left-requires
-unevaluated::in_rest-in_items_left-requires t c =
-    let inside : AreWithin c.args.walk.steps c.as_slice-in-Array-2.result.now
-    = subst (AreWithin c.args.walk.steps) (sym c.as_slice-in-Array-2.ensures.value) c.in_ok-sources-in-Array.ensures.within in
+pub unevaluated::in_items_rest-in_items_left-requires : goal.unevaluated::in_items_rest-in_items_left-requires
+unevaluated::in_items_rest-in_items_left-requires t c =
+    let inside : AreWithin c.args.walk.steps c.as_slice-2.result.now
+    = subst (AreWithin c.args.walk.steps) (sym c.as_slice-2.ensures.value) c.in_ok-sources.ensures.within in
     let fewer : 16 * c.args.walk.steps + 13 < 16 * c.args.walk.steps + 14 = omega arith in
     search rules
 
-pub unevaluated::in_rest-returns-in_default-schema_at : goal.unevaluated::in_rest-returns-in_default-schema_at
-unevaluated::in_rest-returns-in_default-schema_at t c g =
+pub unevaluated::in_members_rest-returns-in_default : goal.unevaluated::in_members_rest-returns-in_default
+unevaluated::in_members_rest-returns-in_default t c g =
     let w = c.args.walk in
     let s = view c.args.here.now.schema.now in
     let v = tree_of c.args.value.now in
     subst (λ x. rest_accepted (view w.ground.now.whole.now.root.now) (answers_in w g) s x ≡ true)
-    (object_is v (sym c.in-Object.is ∙ c.kind.ensures))
-    (no_member_rest (view w.ground.now.whole.now.root.now) (answers_in w g) s (part.members_in v) c.in_default-schema_at.ensures)
+    (object_is v (sym c.requires))
+    (no_member_rest (view w.ground.now.whole.now.root.now) (answers_in w g) s (part.members_in v) c.in_default.ensures)
 
-pub unevaluated::in_rest-returns-in_default-schema_at-2 : goal.unevaluated::in_rest-returns-in_default-schema_at-2
-unevaluated::in_rest-returns-in_default-schema_at-2 t c g =
+pub unevaluated::in_items_rest-returns-in_default : goal.unevaluated::in_items_rest-returns-in_default
+unevaluated::in_items_rest-returns-in_default t c g =
     let w = c.args.walk in
     let s = view c.args.here.now.schema.now in
     let v = tree_of c.args.value.now in
     subst (λ x. rest_accepted (view w.ground.now.whole.now.root.now) (answers_in w g) s x ≡ true)
-    (array_is v (sym c.in-Array.is ∙ c.kind.ensures))
-    (no_item_rest (view w.ground.now.whole.now.root.now) (answers_in w g) s (part.items_in v) c.in_default-schema_at-2.ensures)
+    (array_is v (sym c.requires))
+    (no_item_rest (view w.ground.now.whole.now.root.now) (answers_in w g) s (part.items_in v) c.in_default.ensures)
 
 pub unevaluated::in_rest-returns-in_default : goal.unevaluated::in_rest-returns-in_default
 unevaluated::in_rest-returns-in_default t c g =
@@ -992,45 +1048,49 @@ unevaluated::in_rest-returns-in_default t c g =
     no_rest (view w.ground.now.whole.now.root.now) (answers_in w g) (view c.args.here.now.schema.now) (tree_of c.args.value.now)
     (λ e. c.in_default.not-Object (c.kind.ensures ∙ sym e)) (λ e. c.in_default.not-Array (c.kind.ensures ∙ sym e))
 
-pub unevaluated::in_rest-returns-in_ok-members-in-Object : goal.unevaluated::in_rest-returns-in_ok-members-in-Object
-unevaluated::in_rest-returns-in_ok-members-in-Object t c =
+pub unevaluated::in_members_rest-returns : goal.unevaluated::in_members_rest-returns
+unevaluated::in_members_rest-returns t c =
     let w = c.args.walk in
     let s = view c.args.here.now.schema.now in
     let v = tree_of c.args.value.now in
-    let xs = c.as_slice-in-Object.result.now in
+    let xs = c.as_slice-2.result.now in
     let ms = members_of c.as_slice.result.now in
-    let same : object ms ≡ v = ap object (ap members_of c.as_slice.ensures.value ∙ c.in_ok-members-in-Object.ensures.listed)
-    ∙ object_is v (sym c.in-Object.is ∙ c.kind.ensures) in
-    let told : (g : Answers) (k : Child) → sources_evaluate g xs k ≡ others_evaluate (view w.ground.now.whole.now.root.now) (answers_in w g) s v k
-    = λ g k. ap (λ l. sources_evaluate g l k) c.as_slice-in-Object.ensures.value ∙ c.in_ok-sources-in-Object.ensures.evaluated g k in
+    let same : object ms ≡ v = ap object (ap members_of c.as_slice.ensures.value ∙ c.in_ok-members.ensures.listed)
+    ∙ object_is v (sym c.requires) in
+    let told : (g : Answers) (k : Child) → sources_evaluate g xs k ≡ others_evaluate (view w.ground.now.whole.now.root.now)
+    (answers_in w g) s v k
+    = λ g k. ap (λ l. sources_evaluate g l k) c.as_slice-2.ensures.value ∙ c.in_ok-sources.ensures.evaluated g k in
     subst (λ x. FindsRest w s x c.in_members_left.result) same
-    (members_found w s (view c.in-Some.rest.now) ms xs c.in_members_left.result
-    (subst (λ x. (g : Answers) (k : Child) → sources_evaluate g xs k ≡ others_evaluate (view w.ground.now.whole.now.root.now) (answers_in w g) s x k)
+    (members_found w s (view c.in-Some.rest.schema.now) ms xs c.in_members_left.result
+    (subst (λ x. (g : Answers) (k : Child) → sources_evaluate g xs k ≡ others_evaluate (view w.ground.now.whole.now.root.now)
+    (answers_in w g) s x k)
     (sym same)
     told)
     (subst (λ x. AreReached (root_tree w) (suc w.steps) s x xs) (sym same)
-    (subst (AreReached (root_tree w) (suc w.steps) s v) (sym c.as_slice-in-Object.ensures.value) c.in_ok-sources-in-Object.ensures.reached))
+    (subst (AreReached (root_tree w) (suc w.steps) s v) (sym c.as_slice-2.ensures.value) c.in_ok-sources.ensures.reached))
     c.in-Some.ensures c.in_members_left.ensures)
 
-pub unevaluated::in_rest-returns-in_ok-items-in-Array : goal.unevaluated::in_rest-returns-in_ok-items-in-Array
-unevaluated::in_rest-returns-in_ok-items-in-Array t c =
+pub unevaluated::in_items_rest-returns : goal.unevaluated::in_items_rest-returns
+unevaluated::in_items_rest-returns t c =
     let w = c.args.walk in
     let s = view c.args.here.now.schema.now in
     let v = tree_of c.args.value.now in
-    let xs = c.as_slice-in-Array-2.result.now in
-    let us = trees_of c.as_slice-in-Array.result.now in
-    let same : array us ≡ v = ap array (ap trees_of c.as_slice-in-Array.ensures.value ∙ c.in_ok-items-in-Array.ensures)
-    ∙ array_is v (sym c.in-Array.is ∙ c.kind.ensures) in
-    let told : (g : Answers) (k : Child) → sources_evaluate g xs k ≡ others_evaluate (view w.ground.now.whole.now.root.now) (answers_in w g) s v k
-    = λ g k. ap (λ l. sources_evaluate g l k) c.as_slice-in-Array-2.ensures.value ∙ c.in_ok-sources-in-Array.ensures.evaluated g k in
+    let xs = c.as_slice-2.result.now in
+    let us = trees_of c.as_slice.result.now in
+    let same : array us ≡ v = ap array (ap trees_of c.as_slice.ensures.value ∙ c.in_ok-items.ensures)
+    ∙ array_is v (sym c.requires) in
+    let told : (g : Answers) (k : Child) → sources_evaluate g xs k ≡ others_evaluate (view w.ground.now.whole.now.root.now)
+    (answers_in w g) s v k
+    = λ g k. ap (λ l. sources_evaluate g l k) c.as_slice-2.ensures.value ∙ c.in_ok-sources.ensures.evaluated g k in
     subst (λ x. FindsRest w s x c.in_items_left.result) same
-    (items_found w s (view c.in-Some-schema_at.rest.now) us xs c.in_items_left.result
-    (subst (λ x. (g : Answers) (k : Child) → sources_evaluate g xs k ≡ others_evaluate (view w.ground.now.whole.now.root.now) (answers_in w g) s x k)
+    (items_found w s (view c.in-Some.rest.schema.now) us xs c.in_items_left.result
+    (subst (λ x. (g : Answers) (k : Child) → sources_evaluate g xs k ≡ others_evaluate (view w.ground.now.whole.now.root.now)
+    (answers_in w g) s x k)
     (sym same)
     told)
     (subst (λ x. AreReached (root_tree w) (suc w.steps) s x xs) (sym same)
-    (subst (AreReached (root_tree w) (suc w.steps) s v) (sym c.as_slice-in-Array-2.ensures.value) c.in_ok-sources-in-Array.ensures.reached))
-    c.in-Some-schema_at.ensures c.in_items_left.ensures)
+    (subst (AreReached (root_tree w) (suc w.steps) s v) (sym c.as_slice-2.ensures.value) c.in_ok-sources.ensures.reached))
+    c.in-Some.ensures c.in_items_left.ensures)
 
 -- ---- schemas that evaluate
 
@@ -1077,47 +1137,60 @@ unevaluated::add_inner-returns-clause-within t c n h k =
     c.in_ok-add_reference.ensures.within n h (c.in_ok-add_dependents.ensures.within n h (c.in_ok-add_branch.ensures.within n h
     (c.in_ok-add_accepting-2.ensures.within n h (c.in_ok-add_accepting.ensures.within n h (c.in_ok-add_listed.ensures.within n h k)))))
 
-pub unevaluated::add_listed-loop-schema-preserved : goal.unevaluated::add_listed-loop-schema-preserved
-unevaluated::add_listed-loop-schema-preserved t c = (
+pub unevaluated::add_listed-listed_part-part-requires : goal.unevaluated::add_listed-listed_part-part-requires
+unevaluated::add_listed-listed_part-part-requires t c =
+    ap (λ ts. nth ts c.loop-index.index) (sym c.requires)
+    ∙ nth_item c.args.schemas.now c.loop-index.index c.index-schemas-index.result c.loop-index-test.true c.index-schemas-index.is
+
+pub unevaluated::add_listed-loop-index-preserved : goal.unevaluated::add_listed-loop-index-preserved
+unevaluated::add_listed-loop-index-preserved t c = (
   λ g k. adds_turn (λ ys. some_evaluate (answers_in c.args.walk g) (items_view ys) (tree_of c.args.value.now) k) c.args.schemas.now
-      c.loop-schema.schema-index c.schema-item.result _ _ _ _ c.loop-schema-test.true c.schema-item.is refl
-      (c.in_ok-add_schema.ensures.evaluated g k) (c.loop-schema.invariant.0 g k),
-  λ n h k. c.in_ok-add_schema.ensures.within n h (c.loop-schema.invariant.1 n h k),
+      c.loop-index.index c.index-schemas-index.result _ _ _ _ c.loop-index-test.true c.index-schemas-index.is refl
+      (subst (λ s. Adds c.args.walk (λ a k. a.evaluates s (tree_of c.args.value.now) k) c.loop-index.sources.items
+      c.add_schema.new.sources.items) c.listed_part-part.ensures c.in_ok-add_schema.ensures.evaluated g k) (c.loop-index.invariant.0 g k),
+  λ n h k. c.in_ok-add_schema.ensures.within n h (c.loop-index.invariant.1 n h k),
   λ root s n lead q. c.in_ok-add_schema.ensures.reached root s n
       (λ h. lead (
-        c.loop-schema.schema-index,
-        view c.schema-item.result,
-        nth_item c.args.schemas.now c.loop-schema.schema-index c.schema-item.result c.loop-schema-test.true c.schema-item.is,
-        h,
+        c.loop-index.index,
+        view c.index-schemas-index.result,
+        nth_item c.args.schemas.now c.loop-index.index c.index-schemas-index.result c.loop-index-test.true c.index-schemas-index.is,
+        subst (λ x. Descends c.args.walk x (tree_of c.args.value.now)) c.listed_part-part.ensures h,
       ))
-      (c.loop-schema.invariant.2 root s n lead q),
+      (c.loop-index.invariant.2 root s n lead q),
 )
 
 pub unevaluated::add_listed-returns-clause-evaluated : goal.unevaluated::add_listed-returns-clause-evaluated
 unevaluated::add_listed-returns-clause-evaluated t c g k =
     adds_end (λ ys. some_evaluate (answers_in c.args.walk g) (items_view ys) (tree_of c.args.value.now) k) c.args.schemas.now
-    c.loop-schema.schema-index _ _ c.loop-schema-test.false refl (c.loop-schema.invariant.0 g k)
+    c.loop-index.index _ _ c.loop-index-test.false refl (c.loop-index.invariant.0 g k)
 
-pub unevaluated::add_accepting-loop-schema-preserved : goal.unevaluated::add_accepting-loop-schema-preserved
-unevaluated::add_accepting-loop-schema-preserved t c = (
+pub unevaluated::add_accepting-listed_part-part-requires : goal.unevaluated::add_accepting-listed_part-part-requires
+unevaluated::add_accepting-listed_part-part-requires t c =
+    ap (λ ts. nth ts c.loop-index.index) (sym c.requires)
+    ∙ nth_item c.args.schemas.now c.loop-index.index c.index-schemas-index.result c.loop-index-test.true c.index-schemas-index.is
+
+pub unevaluated::add_accepting-loop-index-preserved : goal.unevaluated::add_accepting-loop-index-preserved
+unevaluated::add_accepting-loop-index-preserved t c = (
   λ g k. adds_turn (λ ys. accepting_evaluate (answers_in c.args.walk g) (items_view ys) (tree_of c.args.value.now) k) c.args.schemas.now
-      c.loop-schema.schema-index c.schema-item.result _ _ _ _ c.loop-schema-test.true c.schema-item.is refl
-      (c.in_ok-add_if_accepting.ensures.evaluated g k) (c.loop-schema.invariant.0 g k),
-  λ n h k. c.in_ok-add_if_accepting.ensures.within n h (c.loop-schema.invariant.1 n h k),
+      c.loop-index.index c.index-schemas-index.result _ _ _ _ c.loop-index-test.true c.index-schemas-index.is refl
+      (subst (λ s. Adds c.args.walk (λ a k. a.accepts s (tree_of c.args.value.now) && a.evaluates s (tree_of c.args.value.now) k)
+      c.loop-index.sources.items c.add_if_accepting.new.sources.items) c.listed_part-part.ensures
+      c.in_ok-add_if_accepting.ensures.evaluated g k) (c.loop-index.invariant.0 g k),
+  λ n h k. c.in_ok-add_if_accepting.ensures.within n h (c.loop-index.invariant.1 n h k),
   λ root s n lead q. c.in_ok-add_if_accepting.ensures.reached root s n
       (λ h. lead (
-        c.loop-schema.schema-index,
-        view c.schema-item.result,
-        nth_item c.args.schemas.now c.loop-schema.schema-index c.schema-item.result c.loop-schema-test.true c.schema-item.is,
-        h,
+        c.loop-index.index,
+        view c.index-schemas-index.result,
+        nth_item c.args.schemas.now c.loop-index.index c.index-schemas-index.result c.loop-index-test.true c.index-schemas-index.is,
+        subst (λ x. Descends c.args.walk x (tree_of c.args.value.now)) c.listed_part-part.ensures h,
       ))
-      (c.loop-schema.invariant.2 root s n lead q),
+      (c.loop-index.invariant.2 root s n lead q),
 )
 
 pub unevaluated::add_accepting-returns-clause-evaluated : goal.unevaluated::add_accepting-returns-clause-evaluated
 unevaluated::add_accepting-returns-clause-evaluated t c g k =
     adds_end (λ ys. accepting_evaluate (answers_in c.args.walk g) (items_view ys) (tree_of c.args.value.now) k) c.args.schemas.now
-    c.loop-schema.schema-index _ _ c.loop-schema-test.false refl (c.loop-schema.invariant.0 g k)
+    c.loop-index.index _ _ c.loop-index-test.false refl (c.loop-index.invariant.0 g k)
 
 pub unevaluated::add_if_accepting-returns-then-not-accepted-clause-accepted
     : goal.unevaluated::add_if_accepting-returns-then-not-accepted-clause-accepted
@@ -1126,7 +1199,7 @@ unevaluated::add_if_accepting-returns-then-not-accepted-clause-accepted t c g = 
 pub unevaluated::add_if_accepting-returns-then-not-accepted-clause-evaluated
     : goal.unevaluated::add_if_accepting-returns-then-not-accepted-clause-evaluated
 unevaluated::add_if_accepting-returns-then-not-accepted-clause-evaluated t c =
-    let s = view c.args.schema.now in
+    let s = view c.args.part.now.schema.now in
     let v = tree_of c.args.value.now in
     adds_none c.args.walk (λ a k. a.accepts s v && a.evaluates s v k) _
     (λ g k. ap (λ b. b && (answers_in c.args.walk g).evaluates s v k) (sym (c.in_ok-accepted.ensures g) ∙ c.if-not-accepted.true))
@@ -1136,7 +1209,7 @@ unevaluated::add_if_accepting-returns-clause-accepted t c g = sym c.if-not-accep
 
 pub unevaluated::add_if_accepting-returns-clause-evaluated : goal.unevaluated::add_if_accepting-returns-clause-evaluated
 unevaluated::add_if_accepting-returns-clause-evaluated t c =
-    let s = view c.args.schema.now in
+    let s = view c.args.part.now.schema.now in
     let v = tree_of c.args.value.now in
     adds_as c.args.walk (λ a k. a.evaluates s v k) (λ a k. a.accepts s v && a.evaluates s v k) _ _
     (λ g k. sym (ap (λ b. b && (answers_in c.args.walk g).evaluates s v k) (sym (c.in_ok-accepted.ensures g) ∙ c.if-not-accepted.false)))
@@ -1149,35 +1222,49 @@ unevaluated::add_branch-returns-in_default-clause-evaluated t c =
     adds_none c.args.walk (λ a k. branch_evaluates a s v k) _
     (λ g k. no_branch_added (answers_in c.args.walk g) s v k c.in_default.ensures)
 
-pub unevaluated::add_branch-returns-in_default-schema_at-clause-evaluated
-    : goal.unevaluated::add_branch-returns-in_default-schema_at-clause-evaluated
-unevaluated::add_branch-returns-in_default-schema_at-clause-evaluated t c =
+pub unevaluated::add_branch-returns-in_default-part-clause-evaluated
+    : goal.unevaluated::add_branch-returns-in_default-part-clause-evaluated
+unevaluated::add_branch-returns-in_default-part-clause-evaluated t c =
     let w = c.args.walk in
     let s = view c.args.here.now.schema.now in
     let v = tree_of c.args.value.now in
-    let r = view c.in-Some.test.now in
+    let r = view c.in-Some.test.schema.now in
     let b = c.in_ok-accepted.accepted in
     adds_as w (λ a k. a.accepts r v && a.evaluates r v k) (λ a k. branch_evaluates a s v k) _ _
     (branch_none w s v r c.in-Some.ensures b c.in_ok-accepted.ensures.accepted
-    (c.in_default-schema_at.ensures ∙ ap (schema_at s) c.branch-chosen.ensures)) c.in_ok-accepted.ensures.evaluated
+    (c.in_default-part.ensures ∙ ap (schema_at s) c.branch-chosen.ensures)) c.in_ok-accepted.ensures.evaluated
 
 pub unevaluated::add_branch-returns-clause-evaluated : goal.unevaluated::add_branch-returns-clause-evaluated
 unevaluated::add_branch-returns-clause-evaluated t c =
     let w = c.args.walk in
     let s = view c.args.here.now.schema.now in
     let v = tree_of c.args.value.now in
-    let r = view c.in-Some.test.now in
-    let u = view c.in-Some-schema_at.part.now in
+    let r = view c.in-Some.test.schema.now in
+    let u = view c.in-Some-part.part.schema.now in
     let b = c.in_ok-accepted.accepted in
     adds_as w (λ a k. (a.accepts r v && a.evaluates r v k) || a.evaluates u v k) (λ a k. branch_evaluates a s v k) _ _
     (branch_some w s v r c.in-Some.ensures b c.in_ok-accepted.ensures.accepted u
-    (c.in-Some-schema_at.ensures ∙ ap (schema_at s) c.branch-chosen.ensures))
+    (c.in-Some-part.ensures ∙ ap (schema_at s) c.branch-chosen.ensures))
     (adds_both w (λ a k. a.accepts r v && a.evaluates r v k) (λ a k. a.evaluates u v k) c.args.sources.now.items
     c.add_if_accepting.new.sources.items c.add_schema.new.sources.items c.in_ok-accepted.ensures.evaluated
     c.in_ok-add_schema.ensures.evaluated)
 
 pub unevaluated::add_branch-returns-clause-within : goal.unevaluated::add_branch-returns-clause-within
 unevaluated::add_branch-returns-clause-within t c n h k = c.in_ok-add_schema.ensures.within n h (c.in_ok-accepted.ensures.within n h k)
+
+pub unevaluated::add_dependents-keyed_part-applied-requires : goal.unevaluated::add_dependents-keyed_part-applied-requires
+unevaluated::add_dependents-keyed_part-applied-requires t c =
+    let s = view c.args.here.now.schema.now in
+    let ps = c.as_slice-dependents.result.now in
+    let p = c.loop-key-item.result in
+    let k = text p.0.now in
+    let r = view p.1.now in
+    let sorted = subst (λ xs. IsSorted (members_listed xs)) (sym c.as_slice-dependents.ensures.value) c.in_ok-listed.ensures.sorted in
+    let at : find k (schema_map_at s kw.DependentSchemas) ≡ Some r
+    = ap (find k) (sym (ap members_listed c.as_slice-dependents.ensures.value ∙ c.in_ok-listed.ensures.listed))
+    ∙ listed_found ps c.loop-key.key-index p sorted c.loop-key-test.true c.loop-key-item.is in
+    subst (λ bs. keyed s kw.DependentSchemas (chars bs) ≡ Some r) (sym c.as_str-name.ensures.value)
+    (key_there s kw.DependentSchemas k r at)
 
 pub unevaluated::add_dependents-loop-key-preserved : goal.unevaluated::add_dependents-loop-key-preserved
 unevaluated::add_dependents-loop-key-preserved t c =
@@ -1194,11 +1281,14 @@ unevaluated::add_dependents-loop-key-preserved t c =
     ∙ listed_found ps i p sorted c.loop-key-test.true c.loop-key-item.is in (
       λ g k. adds_turn (λ ys. dependents_evaluate (answers_in w g) (members_listed ys) v k) ps i p _ _ _ _ c.loop-key-test.true
           c.loop-key-item.is (ap (λ bs. (is_some (tree_at_key v (chars bs)) && (answers_in w g).evaluates r v k)
-          || dependents_evaluate (answers_in w g) (members_listed (drop (i + 1) ps)) v k) (sym c.as_str.ensures.value))
-          (c.in_ok-add_dependent.ensures.evaluated g k) (c.loop-key.invariant.0 g k),
+          || dependents_evaluate (answers_in w g) (members_listed (drop (i + 1) ps)) v k) (sym c.as_str-name.ensures.value))
+          (subst (λ x. Adds w (λ a k. is_some (tree_at_key v (chars c.as_str-name.result.now)) && a.evaluates x v k)
+          c.loop-key.sources.items c.add_dependent.new.sources.items) c.keyed_part-applied.ensures
+          c.in_ok-add_dependent.ensures.evaluated g k) (c.loop-key.invariant.0 g k),
       λ n h k. c.in_ok-add_dependent.ensures.within n h (c.loop-key.invariant.1 n h k),
       λ root x n lead q. c.in_ok-add_dependent.ensures.reached root x n
-          (λ h. let y = subst (λ bs. DescendsForKey w (chars bs) r v) c.as_str.ensures.value h in
+          (λ h. let y = subst (λ bs. DescendsForKey w (chars bs) r v) c.as_str-name.ensures.value
+          (subst (λ x. DescendsForKey w (chars c.as_str-name.result.now) x v) c.keyed_part-applied.ensures h) in
           lead (within (by_key (text p.0.now) y.0 at) y.1)) (c.loop-key.invariant.2 root x n lead q),
     )
 
@@ -1213,7 +1303,7 @@ unevaluated::add_dependents-returns-clause-evaluated t c g k =
 pub unevaluated::add_dependent-returns-then-not-has_key-clause-evaluated
     : goal.unevaluated::add_dependent-returns-then-not-has_key-clause-evaluated
 unevaluated::add_dependent-returns-then-not-has_key-clause-evaluated t c =
-    let s = view c.args.schema.now in
+    let s = view c.args.part.now.schema.now in
     let v = tree_of c.args.value.now in
     let here = is_some (tree_at_key v (chars c.args.key.now)) in
     adds_none c.args.walk (λ a k. here && a.evaluates s v k) _
@@ -1221,7 +1311,7 @@ unevaluated::add_dependent-returns-then-not-has_key-clause-evaluated t c =
 
 pub unevaluated::add_dependent-returns-clause-evaluated : goal.unevaluated::add_dependent-returns-clause-evaluated
 unevaluated::add_dependent-returns-clause-evaluated t c =
-    let s = view c.args.schema.now in
+    let s = view c.args.part.now.schema.now in
     let v = tree_of c.args.value.now in
     let here = is_some (tree_at_key v (chars c.args.key.now)) in
     adds_as c.args.walk (λ a k. a.evaluates s v k) (λ a k. here && a.evaluates s v k) _ _
@@ -1324,12 +1414,6 @@ pub is_accepted-returns-in_err-found : goal.is_accepted-returns-in_err-found
 is_accepted-returns-in_err-found t c =
     raised _ _ c.in_err-found.field-0.0 c.from_residual.result c.from_residual.ensures.1 c.in_err-found.ensures
 
-pub is_accepted_by-returns-in_err-found : goal.is_accepted_by-returns-in_err-found
-is_accepted_by-returns-in_err-found t c =
-    let v = tree_of c.args.value.now in
-    raised _ _ c.in_err-found.field-0.0 c.from_residual.result c.from_residual.ensures.1
-    (subst (λ s. IfDeep c.in_err-found.field-0.0 (Descends c.args.walk s v)) c.by-part.ensures c.in_err-found.ensures)
-
 pub in_all_of-returns-in_err-found : goal.in_all_of-returns-in_err-found
 in_all_of-returns-in_err-found t c =
     let w = c.args.walk in
@@ -1342,7 +1426,7 @@ in_all_of-returns-in_err-found t c =
     = ap (λ ts. nth ts i) (sym c.schemas_at-parts.ensures) ∙ nth_item vs i x c.loop-index-test.true c.index-parts-index.is in
     at_error (Finds w (λ f. applies f kw.AllOf s v) s v) c.in_err-found.field-0.0 c.from_residual.result c.from_residual.ensures.1
     (if_deep c.in_err-found.field-0.0
-    (λ h. within (by_list kw.AllOf i refl at) h)
+    (λ h. within (by_list kw.AllOf i refl at) (subst (λ r. Descends w r v) c.listed_part-applied.ensures h))
     c.in_err-found.ensures)
 
 pub in_all_of-returns-in_err-enter_listed : goal.in_all_of-returns-in_err-enter_listed
@@ -1371,7 +1455,7 @@ in_branch-returns-in_err-found t c =
     at_error (Finds w (λ f. applies f kw.If s v) s v) c.in_err-found.field-0.0 c.from_residual-in_err-found.result c.from_residual-in_err-found.ensures.1
     (if_deep c.in_err-found.field-0.0
     (λ h. within (by_branch c.in_ok-accepted.accepted (ap is_some (sym c.in-Some.ensures))
-    (sym (c.in-Some-schema_at.ensures ∙ ap (schema_at s) c.branch-chosen.ensures))) h)
+    (sym (c.in-Some-part.ensures ∙ ap (schema_at s) c.branch-chosen.ensures))) h)
     c.in_err-found.ensures)
 
 pub in_branch-returns-in_err-enter_keyword : goal.in_branch-returns-in_err-enter_keyword
@@ -1400,7 +1484,7 @@ in_dependents-returns-in_err-found t c =
     let p = c.loop-key-item.result in
     let r = view p.1.now in
     let k = text p.0.now in
-    let here : is_some (tree_at_key v k) ≡ true = ap (λ bs. is_some (tree_at_key v (chars bs))) (sym c.as_str.ensures.value)
+    let here : is_some (tree_at_key v k) ≡ true = ap (λ bs. is_some (tree_at_key v (chars bs))) (sym c.as_str-name.ensures.value)
     ∙ (sym c.has_key.ensures ∙ c.if-has_key.true) in
     let sorted = subst (λ xs. IsSorted (members_listed xs)) (sym c.as_slice-dependents.ensures.value) c.in_ok-listed.ensures.sorted in
     let at : find k (schema_map_at s kw.DependentSchemas) ≡ Some r
@@ -1408,7 +1492,7 @@ in_dependents-returns-in_err-found t c =
     ∙ listed_found ps i p sorted c.loop-key-test.true c.loop-key-item.is in
     at_error (Finds w (λ f. applies f kw.DependentSchemas s v) s v) c.in_err-found.field-0.0 c.from_residual-in_err-found.result c.from_residual-in_err-found.ensures.1
     (if_deep c.in_err-found.field-0.0
-    (λ h. within (by_key k here at) h)
+    (λ h. within (by_key k here at) (subst (λ x. Descends w x v) c.keyed_part-applied.ensures h))
     c.in_err-found.ensures)
 
 pub in_dependents-returns-in_err-enter_keyed : goal.in_dependents-returns-in_err-enter_keyed
@@ -1443,7 +1527,8 @@ in_patterned-returns-in_err-found t c =
     ∙ listed_found ps i p sorted c.loop-pattern-test.true c.loop-pattern-item.is in
     at_error (Finds w (λ f. applies f kw.PatternProperties s v) s v) c.in_err-found.field-0.0 c.from_residual-in_err-found.result c.from_residual-in_err-found.ensures.1
     (if_deep c.in_err-found.field-0.0
-    (λ h. let y = subst (λ bs. DescendsAtFound w (chars bs) r (members_in v)) c.as_str.ensures.value h in
+    (λ h. let y = subst (λ bs. DescendsAtFound w (chars bs) r (members_in v)) c.as_str-text.ensures.value
+    (subst (λ x. DescendsAtFound w (chars c.as_str-text.result.now) x (members_in v)) c.keyed_part-applied.ensures h) in
     within (by_pattern k y.0 at y.2 y.3) y.4)
     c.in_err-found.ensures)
 
@@ -1458,7 +1543,7 @@ in_patterned-returns-in_err-enter_keyed t c =
 pub in_found-returns-in_err-listed : goal.in_found-returns-in_err-listed
 in_found-returns-in_err-listed t c =
     let w = c.args.walk in
-    let r = view c.args.schema.now in
+    let r = view c.args.part.now.schema.now in
     let v = tree_of c.args.value.now in
     at_error (FindsFound w (chars c.args.pattern.now) r (members_in v)) OutOfMemory
     c.from_residual.result c.from_residual.ensures.1 tt
@@ -1466,15 +1551,16 @@ in_found-returns-in_err-listed t c =
 pub in_found-returns-in_err-is_found : goal.in_found-returns-in_err-is_found
 in_found-returns-in_err-is_found t c =
     let w = c.args.walk in
-    let r = view c.args.schema.now in
+    let r = view c.args.part.now.schema.now in
     let v = tree_of c.args.value.now in
     at_error (FindsFound w (chars c.args.pattern.now) r (members_in v)) c.in_err-is_found.field-0.0
-    c.from_residual-in_err-is_found.result c.from_residual-in_err-is_found.ensures.1 (not_deep _ c.in_err-is_found.field-0.0 c.in_err-is_found.ensures)
+    c.from_residual-in_err-is_found.result c.from_residual-in_err-is_found.ensures.1
+    (not_deep _ c.in_err-is_found.field-0.0 c.in_err-is_found.ensures)
 
 pub in_found-returns-in_err-found : goal.in_found-returns-in_err-found
 in_found-returns-in_err-found t c =
     let w = c.args.walk in
-    let r = view c.args.schema.now in
+    let r = view c.args.part.now.schema.now in
     let v = tree_of c.args.value.now in
     let ps = c.as_slice-members.result.now in
     let i = c.loop-member.member-index in
@@ -1492,7 +1578,7 @@ in_found-returns-in_err-found t c =
 pub in_found-returns-in_err-enter_value : goal.in_found-returns-in_err-enter_value
 in_found-returns-in_err-enter_value t c =
     let w = c.args.walk in
-    let r = view c.args.schema.now in
+    let r = view c.args.part.now.schema.now in
     let v = tree_of c.args.value.now in
     at_error (FindsFound w (chars c.args.pattern.now) r (members_in v)) OutOfMemory
     c.from_residual-in_err-enter_value.result c.from_residual-in_err-enter_value.ensures.1 tt
@@ -1660,7 +1746,12 @@ tested::is_some_met-returns-in_err-accepted t c =
     let x = c.index-schemas-index.result in
     raised _ _ c.in_err-accepted.field-0.0 c.from_residual.result c.from_residual.ensures.1
     (if_deep c.in_err-accepted.field-0.0
-    (λ h. (i, view x, nth_item vs i x c.loop-index-test.true c.index-schemas-index.is, h))
+    (λ h. (
+      i,
+      view x,
+      nth_item vs i x c.loop-index-test.true c.index-schemas-index.is,
+      subst (λ s. Descends c.args.walk s (tree_of c.args.value.now)) c.listed_part-part.ensures h,
+    ))
     c.in_err-accepted.ensures)
 
 pub tested::is_one_met-returns-in_err-count : goal.tested::is_one_met-returns-in_err-count
@@ -1676,7 +1767,12 @@ tested::count_accepting-returns-in_err-accepted t c =
     let x = c.index-schemas-index.result in
     raised _ _ c.in_err-accepted.field-0.0 c.from_residual.result c.from_residual.ensures.1
     (if_deep c.in_err-accepted.field-0.0
-    (λ h. (i, view x, nth_item vs i x c.loop-index-test.true c.index-schemas-index.is, h))
+    (λ h. (
+      i,
+      view x,
+      nth_item vs i x c.loop-index-test.true c.index-schemas-index.is,
+      subst (λ s. Descends c.args.walk s (tree_of c.args.value.now)) c.listed_part-part.ensures h,
+    ))
     c.in_err-accepted.ensures)
 
 pub tested::is_not_met-returns-in_err-accepted-in-Some : goal.tested::is_not_met-returns-in_err-accepted-in-Some
@@ -1706,7 +1802,7 @@ tested::are_keys_met-returns-in_err-name t c =
 pub tested::are_keys_met-returns-in_err-accepted : goal.tested::are_keys_met-returns-in_err-accepted
 tested::are_keys_met-returns-in_err-accepted t c =
     let w = c.args.walk in
-    let s = view c.args.schema.now in
+    let s = view c.args.part.now.schema.now in
     let ps = c.args.members.now in
     let i = c.loop-member.member-index in
     let p = c.member-item.result in
@@ -1739,43 +1835,43 @@ tested::count_passing-returns-in_err-accepted t c =
     (λ h. (i, tree_of x, nth_tree vs i x c.loop-item-test.true c.item-item.is, h))
     c.in_err-accepted.ensures)
 
-pub unevaluated::in_rest-returns-in_err-sources-in-Object : goal.unevaluated::in_rest-returns-in_err-sources-in-Object
-unevaluated::in_rest-returns-in_err-sources-in-Object t c =
+pub unevaluated::in_members_rest-returns-in_err-sources : goal.unevaluated::in_members_rest-returns-in_err-sources
+unevaluated::in_members_rest-returns-in_err-sources t c =
     let w = c.args.walk in
     let s = view c.args.here.now.schema.now in
     let v = tree_of c.args.value.now in
-    at_error (FindsRest w s v) c.in_err-sources-in-Object.field-0.0
-    c.from_residual.result c.from_residual.ensures.1 c.in_err-sources-in-Object.ensures.deep
+    at_error (FindsRest w s v) c.in_err-sources.field-0.0
+    c.from_residual.result c.from_residual.ensures.1 c.in_err-sources.ensures.deep
 
-pub unevaluated::in_rest-returns-in_err-members-in-Object : goal.unevaluated::in_rest-returns-in_err-members-in-Object
-unevaluated::in_rest-returns-in_err-members-in-Object t c =
+pub unevaluated::in_members_rest-returns-in_err-members : goal.unevaluated::in_members_rest-returns-in_err-members
+unevaluated::in_members_rest-returns-in_err-members t c =
     let w = c.args.walk in
     let s = view c.args.here.now.schema.now in
     let v = tree_of c.args.value.now in
     at_error (FindsRest w s v) OutOfMemory
-    c.from_residual-in_err-members-in-Object.result c.from_residual-in_err-members-in-Object.ensures.1 tt
+    c.from_residual-in_err-members.result c.from_residual-in_err-members.ensures.1 tt
 
-pub unevaluated::in_rest-returns-in_err-sources-in-Array : goal.unevaluated::in_rest-returns-in_err-sources-in-Array
-unevaluated::in_rest-returns-in_err-sources-in-Array t c =
+pub unevaluated::in_items_rest-returns-in_err-sources : goal.unevaluated::in_items_rest-returns-in_err-sources
+unevaluated::in_items_rest-returns-in_err-sources t c =
     let w = c.args.walk in
     let s = view c.args.here.now.schema.now in
     let v = tree_of c.args.value.now in
-    at_error (FindsRest w s v) c.in_err-sources-in-Array.field-0.0
-    c.from_residual-in_err-sources-in-Array.result c.from_residual-in_err-sources-in-Array.ensures.1 c.in_err-sources-in-Array.ensures.deep
+    at_error (FindsRest w s v) c.in_err-sources.field-0.0
+    c.from_residual.result c.from_residual.ensures.1 c.in_err-sources.ensures.deep
 
-pub unevaluated::in_rest-returns-in_err-items-in-Array : goal.unevaluated::in_rest-returns-in_err-items-in-Array
-unevaluated::in_rest-returns-in_err-items-in-Array t c =
+pub unevaluated::in_items_rest-returns-in_err-items : goal.unevaluated::in_items_rest-returns-in_err-items
+unevaluated::in_items_rest-returns-in_err-items t c =
     let w = c.args.walk in
     let s = view c.args.here.now.schema.now in
     let v = tree_of c.args.value.now in
     at_error (FindsRest w s v) OutOfMemory
-    c.from_residual-in_err-items-in-Array.result c.from_residual-in_err-items-in-Array.ensures.1 tt
+    c.from_residual-in_err-items.result c.from_residual-in_err-items.ensures.1 tt
 
 pub unevaluated::in_members_left-returns-in_err-evaluated : goal.unevaluated::in_members_left-returns-in_err-evaluated
 unevaluated::in_members_left-returns-in_err-evaluated t c =
     let w = c.args.walk in
     let xs = c.args.sources.now in
-    let r = view c.args.rest.now in
+    let r = view c.args.rest.now.schema.now in
     let ps = c.args.members.now in
     at_error (FindsLeft w kw.UnevaluatedProperties xs r (object (members_of ps)))
     c.in_err-evaluated.field-0.0
@@ -1785,7 +1881,7 @@ pub unevaluated::in_members_left-returns-in_err-found : goal.unevaluated::in_mem
 unevaluated::in_members_left-returns-in_err-found t c =
     let w = c.args.walk in
     let xs = c.args.sources.now in
-    let r = view c.args.rest.now in
+    let r = view c.args.rest.now.schema.now in
     let ps = c.args.members.now in
     let p = c.member-item.result in
     at_error (FindsLeft w kw.UnevaluatedProperties xs r (object (members_of ps)))
@@ -1799,7 +1895,7 @@ pub unevaluated::in_members_left-returns-in_err-enter_member : goal.unevaluated:
 unevaluated::in_members_left-returns-in_err-enter_member t c =
     let w = c.args.walk in
     let xs = c.args.sources.now in
-    let r = view c.args.rest.now in
+    let r = view c.args.rest.now.schema.now in
     let ps = c.args.members.now in
     at_error (FindsLeft w kw.UnevaluatedProperties xs r (object (members_of ps)))
     OutOfMemory
@@ -1809,7 +1905,7 @@ pub unevaluated::in_items_left-returns-in_err-evaluated : goal.unevaluated::in_i
 unevaluated::in_items_left-returns-in_err-evaluated t c =
     let w = c.args.walk in
     let xs = c.args.sources.now in
-    let r = view c.args.rest.now in
+    let r = view c.args.rest.now.schema.now in
     let vs = c.args.items.now in
     let i = c.loop-index.index in
     let x = c.index-items-index.result in
@@ -1822,7 +1918,7 @@ pub unevaluated::in_items_left-returns-in_err-found : goal.unevaluated::in_items
 unevaluated::in_items_left-returns-in_err-found t c =
     let w = c.args.walk in
     let xs = c.args.sources.now in
-    let r = view c.args.rest.now in
+    let r = view c.args.rest.now.schema.now in
     let vs = c.args.items.now in
     let i = c.loop-index.index in
     let x = c.index-items-index.result in
@@ -1835,7 +1931,7 @@ pub unevaluated::in_items_left-returns-in_err-enter_item : goal.unevaluated::in_
 unevaluated::in_items_left-returns-in_err-enter_item t c =
     let w = c.args.walk in
     let xs = c.args.sources.now in
-    let r = view c.args.rest.now in
+    let r = view c.args.rest.now.schema.now in
     let vs = c.args.items.now in
     at_error (FindsLeft w kw.UnevaluatedItems xs r (array (trees_of vs))) OutOfMemory
     c.from_residual-in_err-enter_item.result c.from_residual-in_err-enter_item.ensures.1 tt
@@ -1869,7 +1965,7 @@ unevaluated::sources_of-returns-in_err-add_inner-clause-deep t c =
 pub unevaluated::add_schema-returns-in_err-inner-clause-deep : goal.unevaluated::add_schema-returns-in_err-inner-clause-deep
 unevaluated::add_schema-returns-in_err-inner-clause-deep t c =
     let w = c.args.walk in
-    let r = view c.args.schema.now in
+    let r = view c.args.part.now.schema.now in
     let v = tree_of c.args.value.now in
     raised_alone _ c.in_err-inner.field-0.0 c.from_residual.result c.from_residual.ensures.1
     (if_deep c.in_err-inner.field-0.0
@@ -1883,7 +1979,7 @@ unevaluated::add_schema-returns-in_err-push-clause-deep t c =
 pub unevaluated::add_schema-returns-in_err-add_inner-clause-deep : goal.unevaluated::add_schema-returns-in_err-add_inner-clause-deep
 unevaluated::add_schema-returns-in_err-add_inner-clause-deep t c =
     let w = c.args.walk in
-    let r = view c.args.schema.now in
+    let r = view c.args.part.now.schema.now in
     let v = tree_of c.args.value.now in
     raised_alone _ c.in_err-add_inner.field-0.0 c.from_residual-in_err-add_inner.result c.from_residual-in_err-add_inner.ensures.1
     (if_deep c.in_err-add_inner.field-0.0
@@ -1938,21 +2034,31 @@ unevaluated::add_inner-returns-in_err-add_reference-clause-deep t c =
 pub unevaluated::add_listed-returns-in_err-add_schema-clause-deep : goal.unevaluated::add_listed-returns-in_err-add_schema-clause-deep
 unevaluated::add_listed-returns-in_err-add_schema-clause-deep t c =
     let vs = c.args.schemas.now in
-    let i = c.loop-schema.schema-index in
-    let x = c.schema-item.result in
+    let i = c.loop-index.index in
+    let x = c.index-schemas-index.result in
     raised_alone _ c.in_err-add_schema.field-0.0 c.from_residual.result c.from_residual.ensures.1
     (if_deep c.in_err-add_schema.field-0.0
-    (λ h. (i, view x, nth_item vs i x c.loop-schema-test.true c.schema-item.is, h))
+    (λ h. (
+      i,
+      view x,
+      nth_item vs i x c.loop-index-test.true c.index-schemas-index.is,
+      subst (λ s. Descends c.args.walk s (tree_of c.args.value.now)) c.listed_part-part.ensures h,
+    ))
     c.in_err-add_schema.ensures.deep)
 
 pub unevaluated::add_accepting-returns-in_err-add_if_accepting-clause-deep : goal.unevaluated::add_accepting-returns-in_err-add_if_accepting-clause-deep
 unevaluated::add_accepting-returns-in_err-add_if_accepting-clause-deep t c =
     let vs = c.args.schemas.now in
-    let i = c.loop-schema.schema-index in
-    let x = c.schema-item.result in
+    let i = c.loop-index.index in
+    let x = c.index-schemas-index.result in
     raised_alone _ c.in_err-add_if_accepting.field-0.0 c.from_residual.result c.from_residual.ensures.1
     (if_deep c.in_err-add_if_accepting.field-0.0
-    (λ h. (i, view x, nth_item vs i x c.loop-schema-test.true c.schema-item.is, h))
+    (λ h. (
+      i,
+      view x,
+      nth_item vs i x c.loop-index-test.true c.index-schemas-index.is,
+      subst (λ s. Descends c.args.walk s (tree_of c.args.value.now)) c.listed_part-part.ensures h,
+    ))
     c.in_err-add_if_accepting.ensures.deep)
 
 pub unevaluated::add_if_accepting-returns-in_err-accepted-clause-deep : goal.unevaluated::add_if_accepting-returns-in_err-accepted-clause-deep
@@ -1978,7 +2084,7 @@ unevaluated::add_branch-returns-in_err-add_schema-clause-deep t c =
     raised_alone _ c.in_err-add_schema.field-0.0 c.from_residual-in_err-add_schema.result c.from_residual-in_err-add_schema.ensures.1
     (if_deep c.in_err-add_schema.field-0.0
     (λ h. within (by_branch c.in_ok-accepted.accepted (ap is_some (sym c.in-Some.ensures))
-    (sym (c.in-Some-schema_at.ensures ∙ ap (schema_at s) c.branch-chosen.ensures))) h)
+    (sym (c.in-Some-part.ensures ∙ ap (schema_at s) c.branch-chosen.ensures))) h)
     c.in_err-add_schema.ensures.deep)
 
 pub unevaluated::add_dependents-returns-in_err-listed-clause-deep : goal.unevaluated::add_dependents-returns-in_err-listed-clause-deep
@@ -2001,7 +2107,8 @@ unevaluated::add_dependents-returns-in_err-add_dependent-clause-deep t c =
     ∙ listed_found ps i p sorted c.loop-key-test.true c.loop-key-item.is in
     raised_alone _ c.in_err-add_dependent.field-0.0 c.from_residual-in_err-add_dependent.result c.from_residual-in_err-add_dependent.ensures.1
     (if_deep c.in_err-add_dependent.field-0.0
-    (λ h. let y = subst (λ bs. DescendsForKey w (chars bs) r v) c.as_str.ensures.value h in within (by_key k y.0 at) y.1)
+    (λ h. let y = subst (λ bs. DescendsForKey w (chars bs) r v) c.as_str-name.ensures.value
+    (subst (λ x. DescendsForKey w (chars c.as_str-name.result.now) x v) c.keyed_part-applied.ensures h) in within (by_key k y.0 at) y.1)
     c.in_err-add_dependent.ensures.deep)
 
 pub unevaluated::add_dependent-returns-in_err-add_schema-clause-deep : goal.unevaluated::add_dependent-returns-in_err-add_schema-clause-deep
@@ -2059,7 +2166,7 @@ unevaluated::sources_of-returns-clause-reached t c =
 pub unevaluated::add_schema-returns-clause-reached : goal.unevaluated::add_schema-returns-clause-reached
 unevaluated::add_schema-returns-clause-reached t c =
     let w = c.args.walk in
-    let r = view c.args.schema.now in
+    let r = view c.args.part.now.schema.now in
     let v = tree_of c.args.value.now in
     let inner = c.in_ok-inner.inner in
     let d = c.in_ok-inner.ensures in
@@ -2081,8 +2188,8 @@ unevaluated::add_inner-returns-clause-reached t c =
     (c.in_ok-add_listed.ensures.reached root x n
     (λ h. lead (of_list w s v kw.AllOf (items_view c.schemas_at-all.result.now) refl c.schemas_at-all.ensures h)) q)))))
 
-pub unevaluated::add_branch-returns-in_default-schema_at-clause-reached : goal.unevaluated::add_branch-returns-in_default-schema_at-clause-reached
-unevaluated::add_branch-returns-in_default-schema_at-clause-reached t c =
+pub unevaluated::add_branch-returns-in_default-part-clause-reached : goal.unevaluated::add_branch-returns-in_default-part-clause-reached
+unevaluated::add_branch-returns-in_default-part-clause-reached t c =
     let w = c.args.walk in
     let s = view c.args.here.now.schema.now in
     let v = tree_of c.args.value.now in
@@ -2095,13 +2202,13 @@ unevaluated::add_branch-returns-clause-reached t c =
     let v = tree_of c.args.value.now in
     λ root x n lead q. c.in_ok-add_schema.ensures.reached root x n
     (λ h. lead (within (by_branch c.in_ok-accepted.accepted (ap is_some (sym c.in-Some.ensures))
-    (sym (c.in-Some-schema_at.ensures ∙ ap (schema_at s) c.branch-chosen.ensures))) h))
+    (sym (c.in-Some-part.ensures ∙ ap (schema_at s) c.branch-chosen.ensures))) h))
     (c.in_ok-accepted.ensures.reached root x n (λ h. lead (within (by_if (sym c.in-Some.ensures)) h)) q)
 
 pub unevaluated::add_dependent-returns-clause-reached : goal.unevaluated::add_dependent-returns-clause-reached
 unevaluated::add_dependent-returns-clause-reached t c =
     let w = c.args.walk in
-    let r = view c.args.schema.now in
+    let r = view c.args.part.now.schema.now in
     let v = tree_of c.args.value.now in
     let k = chars c.args.key.now in
     let here : is_some (tree_at_key v k) ≡ true = sym c.has_key.ensures ∙ c.if-not-has_key.false in
@@ -2121,15 +2228,16 @@ unevaluated::add_target-returns-clause-reached t c =
     let s = view c.args.here.now.schema.now in
     let v = tree_of c.args.value.now in
     let r = view c.in-Some.part.schema.now in
-    λ root x n lead q. c.in_ok-add_schema.ensures.reached root x n (λ h. lead (r, sym (ap (option_map (λ x. view x.schema.now)) (sym c.in-Some.is) ∙ c.in_ok-part.ensures), h)) q
+    λ root x n lead q. c.in_ok-add_schema.ensures.reached root x n
+    (λ h. lead (r, sym (ap (option_map (λ x. view x.schema.now)) (sym c.in-Some.is) ∙ c.in_ok-part.ensures), h)) q
 
 pub unevaluated::add_listed-returns-clause-reached : goal.unevaluated::add_listed-returns-clause-reached
 unevaluated::add_listed-returns-clause-reached t c =
-    c.loop-schema.invariant.2
+    c.loop-index.invariant.2
 
 pub unevaluated::add_accepting-returns-clause-reached : goal.unevaluated::add_accepting-returns-clause-reached
 unevaluated::add_accepting-returns-clause-reached t c =
-    c.loop-schema.invariant.2
+    c.loop-index.invariant.2
 
 pub unevaluated::add_dependents-returns-clause-reached : goal.unevaluated::add_dependents-returns-clause-reached
 unevaluated::add_dependents-returns-clause-reached t c =

@@ -12,17 +12,11 @@ use Rattle.tinyjson_schema.specs.Sources.{sources_evaluate, StaysWithin, StaysRe
 use Rattle.tinyjson_schema.specs.Valid.{says, answers_in}
 use Rattle.tinyjson_schema.proofs.validate.+validate.Given as goal
 
-abbrev pub decreases-violation_in : goal.decreases-violation_in
-decreases-violation_in l = 16 * l.walk.steps + 7
-
 abbrev pub decreases-violation_of : goal.decreases-violation_of
 decreases-violation_of l = 16 * l.walk.steps + 6
 
 abbrev pub decreases-is_accepted : goal.decreases-is_accepted
 decreases-is_accepted l = 16 * l.walk.steps + 8
-
-abbrev pub decreases-is_accepted_by : goal.decreases-is_accepted_by
-decreases-is_accepted_by l = 16 * l.walk.steps + 8
 
 abbrev pub decreases-tested::unmet_test : goal.decreases-tested::unmet_test
 decreases-tested::unmet_test l = 16 * l.walk.steps + 15
@@ -102,13 +96,13 @@ invariant-tested::count_accepting-loop-index l = (l.count ≤ l.index)
 
 abbrev pub invariant-tested::are_keys_met-loop-member : goal.invariant-tested::are_keys_met-loop-member
 invariant-tested::are_keys_met-loop-member l = (g : Answers) →
-    keys_pass (says l.walk g (view l.schema)) (members_of (drop l.member-index l.members))
-    ≡ keys_pass (says l.walk g (view l.schema)) (members_of l.members)
+    keys_pass (says l.walk g (view l.part.schema.now)) (members_of (drop l.member-index l.members))
+    ≡ keys_pass (says l.walk g (view l.part.schema.now)) (members_of l.members)
 
 abbrev pub invariant-tested::count_passing-loop-item : goal.invariant-tested::count_passing-loop-item
 invariant-tested::count_passing-loop-item l = (l.count ≤ l.item-index)
-    × ((g : Answers) → l.count + passing (says l.walk g (view l.schema)) (trees_of (drop l.item-index l.items))
-    ≡ passing (says l.walk g (view l.schema)) (trees_of l.items))
+    × ((g : Answers) → l.count + passing (says l.walk g (view l.part.schema.now)) (trees_of (drop l.item-index l.items))
+    ≡ passing (says l.walk g (view l.part.schema.now)) (trees_of l.items))
 
 abbrev pub invariant-in_all_of-loop-index : goal.invariant-in_all_of-loop-index
 invariant-in_all_of-loop-index l = (g : Answers) → all_accept (says l.walk g) (items_view (drop l.index l.parts)) (tree_of l.value)
@@ -126,8 +120,8 @@ invariant-in_patterned-loop-pattern l = (g : Answers) →
 
 abbrev pub invariant-in_found-loop-member : goal.invariant-in_found-loop-member
 invariant-in_found-loop-member l = (g : Answers) →
-    found_pass (says l.walk g (view l.schema)) (chars l.pattern) (members_of (drop l.member-index l.members))
-    ≡ found_pass (says l.walk g (view l.schema)) (chars l.pattern) (members_of l.members)
+    found_pass (says l.walk g (view l.part.schema.now)) (chars l.pattern) (members_of (drop l.member-index l.members))
+    ≡ found_pass (says l.walk g (view l.part.schema.now)) (chars l.pattern) (members_of l.members)
 
 abbrev pub invariant-in_members-loop-near : goal.invariant-in_members-loop-near
 invariant-in_members-loop-near l = (g : Answers) →
@@ -142,7 +136,13 @@ invariant-in_items-loop-index l = (g : Answers) →
 -- ---- what is not evaluated
 
 abbrev pub decreases-unevaluated::in_rest : goal.decreases-unevaluated::in_rest
-decreases-unevaluated::in_rest l = 16 * l.walk.steps + 14
+decreases-unevaluated::in_rest l = 16 * l.walk.steps + 15
+
+abbrev pub decreases-unevaluated::in_members_rest : goal.decreases-unevaluated::in_members_rest
+decreases-unevaluated::in_members_rest l = 16 * l.walk.steps + 14
+
+abbrev pub decreases-unevaluated::in_items_rest : goal.decreases-unevaluated::in_items_rest
+decreases-unevaluated::in_items_rest l = 16 * l.walk.steps + 14
 
 abbrev pub decreases-unevaluated::in_members_left : goal.decreases-unevaluated::in_members_left
 decreases-unevaluated::in_members_left l = 16 * l.walk.steps + 13
@@ -191,34 +191,34 @@ decreases-unevaluated::add_schema l = 16 * l.walk.steps + 7
 
 abbrev pub invariant-unevaluated::in_members_left-loop-member : goal.invariant-unevaluated::in_members_left-loop-member
 invariant-unevaluated::in_members_left-loop-member l = (g : Answers) →
-    members_pass (λ c. sources_evaluate g l.sources c || says l.walk g (view l.rest) (value_of c))
+    members_pass (λ c. sources_evaluate g l.sources c || says l.walk g (view l.rest.schema.now) (value_of c))
     (members_of (drop l.member-index l.members))
-    ≡ members_pass (λ c. sources_evaluate g l.sources c || says l.walk g (view l.rest) (value_of c)) (members_of l.members)
+    ≡ members_pass (λ c. sources_evaluate g l.sources c || says l.walk g (view l.rest.schema.now) (value_of c)) (members_of l.members)
 
 abbrev pub invariant-unevaluated::in_items_left-loop-index : goal.invariant-unevaluated::in_items_left-loop-index
 invariant-unevaluated::in_items_left-loop-index l = (g : Answers) →
-    items_pass (λ c. sources_evaluate g l.sources c || says l.walk g (view l.rest) (value_of c)) l.index
+    items_pass (λ c. sources_evaluate g l.sources c || says l.walk g (view l.rest.schema.now) (value_of c)) l.index
     (trees_of (drop l.index l.items))
-    ≡ items_pass (λ c. sources_evaluate g l.sources c || says l.walk g (view l.rest) (value_of c)) 0 (trees_of l.items)
+    ≡ items_pass (λ c. sources_evaluate g l.sources c || says l.walk g (view l.rest.schema.now) (value_of c)) 0 (trees_of l.items)
 
 abbrev pub invariant-unevaluated::is_item_evaluated-loop-source : goal.invariant-unevaluated::is_item_evaluated-loop-source
 invariant-unevaluated::is_item_evaluated-loop-source l = (g : Answers) →
     sources_evaluate g (drop l.source-index l.sources) (item_at l.index (tree_of l.item))
     ≡ sources_evaluate g l.sources (item_at l.index (tree_of l.item))
 
-abbrev pub invariant-unevaluated::add_listed-loop-schema : goal.invariant-unevaluated::add_listed-loop-schema
-invariant-unevaluated::add_listed-loop-schema l = ((g : Answers) (c : Child) →
+abbrev pub invariant-unevaluated::add_listed-loop-index : goal.invariant-unevaluated::add_listed-loop-index
+invariant-unevaluated::add_listed-loop-index l = ((g : Answers) (c : Child) →
     (sources_evaluate g l.sources.items c
-    || some_evaluate (answers_in l.walk g) (items_view (drop l.schema-index l.schemas)) (tree_of l.value) c)
+    || some_evaluate (answers_in l.walk g) (items_view (drop l.index l.schemas)) (tree_of l.value) c)
     ≡ (sources_evaluate g l.initial.sources.items c
     || some_evaluate (answers_in l.walk g) (items_view l.schemas) (tree_of l.value) c))
     × StaysWithin l.walk l.initial.sources.items l.sources.items
     × StaysReached (DescendsAmong l.walk (items_view l.schemas) (tree_of l.value)) (tree_of l.value) l.initial.sources.items l.sources.items
 
-abbrev pub invariant-unevaluated::add_accepting-loop-schema : goal.invariant-unevaluated::add_accepting-loop-schema
-invariant-unevaluated::add_accepting-loop-schema l = ((g : Answers) (c : Child) →
+abbrev pub invariant-unevaluated::add_accepting-loop-index : goal.invariant-unevaluated::add_accepting-loop-index
+invariant-unevaluated::add_accepting-loop-index l = ((g : Answers) (c : Child) →
     (sources_evaluate g l.sources.items c
-    || accepting_evaluate (answers_in l.walk g) (items_view (drop l.schema-index l.schemas)) (tree_of l.value) c)
+    || accepting_evaluate (answers_in l.walk g) (items_view (drop l.index l.schemas)) (tree_of l.value) c)
     ≡ (sources_evaluate g l.initial.sources.items c
     || accepting_evaluate (answers_in l.walk g) (items_view l.schemas) (tree_of l.value) c))
     × StaysWithin l.walk l.initial.sources.items l.sources.items

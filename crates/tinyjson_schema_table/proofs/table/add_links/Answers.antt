@@ -3,7 +3,7 @@ use Rattle.std.proofs.lemmas.Grind.{common_steps}
 use Rattle.std.proofs.lemmas.Option.{slice_get_cases}
 use Rattle.tinyjson.specs.View.{view}
 use Rattle.tinyjson_schema_table.specs.Links.{AddsLinks}
-use Rattle.tinyjson_schema_table.proofs.Links.{none_added, next_added, both_added, tree_got}
+use Rattle.tinyjson_schema_table.proofs.Links.{none_added, next_added, tree_got}
 use Rattle.tinyjson_schema_table.proofs.table.add_links.Goals as goal
 
 pub returns-in_default : goal.returns-in_default
@@ -18,9 +18,8 @@ returns c =
     let i = c.len.result in
     let last : i ≡ length lss = omega (arith, c.args.links.now.ok.0, c.len.ensures) in
     let some : slice_get c.deref.result.now i ≡ Some x = grind (arith, common_steps, slice_get_cases c.deref.result.now i) in
-    next_added xs c.add_listed-2.new.shapes.items lss _ c.add_listed-2.new.links s
+    next_added xs c.add_all.new.shapes.items lss _ c.add_all.new.links s
     (tree_got xs (length lss) x (sym (ap (λ ys. slice_get ys (length lss)) (sym c.deref.ensures.value)
     ∙ subst (λ j. slice_get c.deref.result.now j ≡ Some x) last some)))
-    (subst (λ ns. AddsLinks s xs c.add_listed-2.new.shapes.items ns c.add_listed-2.new.links.items) c.new-found.ensures.items
-    (both_added s xs _ _ _ _ _ (both_added s xs _ _ _ _ _ (both_added s xs _ _ _ _ _ c.in_ok-add_items.ensures c.in_ok-add_properties.ensures)
-    c.in_ok-add_listed.ensures) c.in_ok-add_listed-2.ensures)) c.in_ok-push.ensures.items
+    (subst (λ ns. AddsLinks s xs c.add_all.new.shapes.items ns c.add_all.new.links.items) c.new-found.ensures.items c.in_ok-add_all.ensures)
+    c.in_ok-push.ensures.items

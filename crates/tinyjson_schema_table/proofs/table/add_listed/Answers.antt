@@ -16,5 +16,5 @@ loop-index-preserved c =
     let v = c.index-listed-index.result in
     let there : slice_get vs i ≡ Some v = got_at vs i v c.loop-index-test.true ∙ ap (λ x. Some x) (sym c.index-listed-index.is) in
     both_added s c.args.shapes.now.items c.loop-index.shapes.items _ c.args.links.now.items c.loop-index.links.items _ c.loop-index.invariant
-    (c.in_ok-add_link.ensures s (c.in-Some.ensures s ∙ (ap (λ ts. nth ts i) (sym c.schemas_at-listed.ensures)
-    ∙ (nth_items_view vs i ∙ ap (option_map view) there))))
+    (c.in_ok-add_link.ensures s (ap (λ ts. nth ts i) (sym c.schemas_at-listed.ensures)
+    ∙ (nth_items_view vs i ∙ ap (option_map view) there)))

@@ -4,5 +4,6 @@ use Rattle.tinyjson_schema_keywords.specs.Applied.{schema_at}
 use Rattle.tinyjson_schema_table.proofs.values.values_of.Given as goal
 
 abbrev pub invariant-loop-keyword : goal.invariant-loop-keyword
-invariant-loop-keyword l = map (option_map (λ x. view x.now)) l.values.items ++ map (schema_at (view l.schema)) (drop l.keyword-index l.keywords)
+invariant-loop-keyword l = map (option_map (λ x. view x.now)) l.values.items ++ map (schema_at (view l.schema))
+    (drop l.keyword-index l.keywords)
     ≡ map (schema_at (view l.schema)) l.keywords

@@ -12,7 +12,8 @@ loop-schema-init c =
 
 pub returns-in_default-3 : goal.returns-in_default-3
 returns-in_default-3 c =
-    near_nowhere (λ r. gap (view c.args.walk.whole.now.root.now) c.args.walk.steps r (tree_of c.args.value.now)) _ c.loop-schema.schema-index
+    near_nowhere (λ r. gap (view c.args.walk.whole.now.root.now) c.args.walk.steps r
+    (tree_of c.args.value.now)) _ c.loop-schema.schema-index
     (gap_of c.loop-schema.best) _ c.schema-item.result c.loop-schema-test.true c.schema-item.is
     (ap (option_map gap_of) (sym c.in_default-3.is) ∙ c.in_ok-next.ensures) c.loop-schema.invariant
 

@@ -5,13 +5,13 @@ use Rattle.tinyjson_view.specs.Views.{tree_of}
 use Rattle.tinyjson_schema_assertions.specs.Assertions.{meets, assertions}
 use Rattle.tinyjson_schema.specs.Applicators.{applies, tests}
 use Rattle.tinyjson_schema.specs.Every.{here, at_keyword, failing, own, Use, under, spread, uses, every}
-use Rattle.tinyjson_schema.specs.Steps.{placed, use_of}
+use Rattle.tinyjson_schema.specs.Steps.{placed, use_of, AddsEvery}
 use Rattle.tinyjson_schema.specs.Valid.{root_of, answers_in, says}
 use Rattle.tinyjson_schema.proofs.Adding.{first_both, first_as, first_next, first_end, first_enough, every_before, map_map}
 use Rattle.std.proofs.Common.{subst, true}
-use Rattle.tinyjson_schema.specs.Deep.{root_tree}
+use Rattle.tinyjson_schema.specs.Deep.{root_tree, Descends}
 use Rattle.tinyjson_schema.specs.Evaluated.{Answers}
-use Rattle.tinyjson_schema.specs.Nested.{within}
+use Rattle.tinyjson_schema.specs.Nested.{within, IfDeep}
 use Rattle.tinyjson_schema.specs.Steps.{AreApplied}
 use Rattle.tinyjson_schema.specs.declared.walk.CheckError.TheVariants.{OutOfMemory}
 use Rattle.tinyjson_schema.proofs.Applying.{applied_by, pending_applied}
@@ -25,7 +25,7 @@ add_violations-add_further-requires t c =
 
 pub add_violations-returns-then-refuses_all : goal.add_violations-returns-then-refuses_all
 add_violations-returns-then-refuses_all t c g =
-    let s = view c.args.schema.now in
+    let s = view c.args.here.now.schema.now in
     let v = tree_of c.args.value.now in
     let w = c.args.walk in
     let inner = c.in_ok-inner.inner in
@@ -38,7 +38,7 @@ add_violations-returns-then-refuses_all t c g =
 
 pub add_violations-returns : goal.add_violations-returns
 add_violations-returns t c g =
-    let s = view c.args.schema.now in
+    let s = view c.args.here.now.schema.now in
     let v = tree_of c.args.value.now in
     let w = c.args.walk in
     let inner = c.in_ok-inner.inner in
@@ -75,6 +75,9 @@ add_further-returns-then-as_slice-limit t c g =
     (spread (λ u. every (root_of w) w.steps g u.schema u.value) (map use_of ps)))
     c.args.pending.now c.loop-used.used-index _ vs enough (c.loop-used.invariant g)
 
+pub add_further-by-part-requires : goal.add_further-by-part-requires
+add_further-by-part-requires t c = c.used-item.result.same
+
 pub add_further-loop-used-preserved : goal.add_further-loop-used-preserved
 add_further-loop-used-preserved t c g =
     let w = c.args.walk in
@@ -88,7 +91,8 @@ add_further-loop-used-preserved t c g =
     first_next c.args.limit (λ ps. map p (spread f (map use_of ps))) c.args.pending.now c.loop-used.used-index _ x _ _ e
     c.loop-used-test.true c.used-item.is (map-append p (map (under (use_of x)) (f (use_of x))) _)
     (first_as c.args.limit _ _ _ _ (ap (λ ps. map (placed ps) (f (use_of x))) further ∙ sym (map_map p (under (use_of x)) (f (use_of x))))
-    (c.in_ok-add_violations.ensures g)) (c.loop-used.invariant g)
+    (subst (λ s. AddsEvery c.args.limit w c.as_slice-in-loop-used.result.now s (tree_of x.value) c.loop-used.found.items
+    c.add_violations.new.found.items) c.by-part.ensures c.in_ok-add_violations.ensures g)) (c.loop-used.invariant g)
 
 pub add_further-returns : goal.add_further-returns
 add_further-returns t c g =
@@ -100,7 +104,7 @@ add_further-returns t c g =
 pub add_violations-returns-in_err-inner : goal.add_violations-returns-in_err-inner
 add_violations-returns-in_err-inner t c =
     let w = c.args.walk in
-    let s = view c.args.schema.now in
+    let s = view c.args.here.now.schema.now in
     let v = tree_of c.args.value.now in
     raised _ _ c.in_err-inner.field-0.0 c.from_residual.result c.from_residual.ensures.1
     (if_deep c.in_err-inner.field-0.0
@@ -122,7 +126,7 @@ add_violations-returns-in_err-add_places t c =
 pub add_violations-returns-in_err-add_tests : goal.add_violations-returns-in_err-add_tests
 add_violations-returns-in_err-add_tests t c =
     let w = c.args.walk in
-    let s = view c.args.schema.now in
+    let s = view c.args.here.now.schema.now in
     let v = tree_of c.args.value.now in
     raised _ _ c.in_err-add_tests.field-0.0 c.from_residual-in_err-add_tests.result c.from_residual-in_err-add_tests.ensures.1
     (if_deep c.in_err-add_tests.field-0.0
@@ -132,7 +136,7 @@ add_violations-returns-in_err-add_tests t c =
 pub add_violations-returns-in_err-uses : goal.add_violations-returns-in_err-uses
 add_violations-returns-in_err-uses t c =
     let w = c.args.walk in
-    let s = view c.args.schema.now in
+    let s = view c.args.here.now.schema.now in
     let v = tree_of c.args.value.now in
     raised _ _ c.in_err-uses.field-0.0 c.from_residual-in_err-uses.result c.from_residual-in_err-uses.ensures.1
     (if_deep c.in_err-uses.field-0.0
@@ -142,13 +146,13 @@ add_violations-returns-in_err-uses t c =
 pub add_violations-returns-in_err-add_further : goal.add_violations-returns-in_err-add_further
 add_violations-returns-in_err-add_further t c =
     let w = c.args.walk in
-    let s = view c.args.schema.now in
+    let s = view c.args.here.now.schema.now in
     let v = tree_of c.args.value.now in
     let inner = c.in_ok-inner.inner in
     let g : Answers = record { accepts = λ r u. true; evaluates = λ r u k. true } in
     let applied : AreApplied (root_tree inner) s v (map use_of c.as_slice-2.result.now)
     = subst (AreApplied (root_tree inner) s v) (sym (ap (map use_of) c.as_slice-2.ensures.value ∙ c.in_ok-uses.ensures g))
-    (applied_by (root_tree inner) c.args.schema.now c.args.value.now (answers_in inner g)) in
+    (applied_by (root_tree inner) c.args.here.now.schema.now c.args.value.now (answers_in inner g)) in
     raised _ _ c.in_err-add_further.field-0.0 c.from_residual-in_err-add_further.result c.from_residual-in_err-add_further.ensures.1
     (if_deep c.in_err-add_further.field-0.0
     (λ h. one_deeper w inner c.in_ok-inner.ensures s v (h s v applied))
@@ -165,8 +169,10 @@ add_further-returns-in_err-extend_from_slice t c =
 pub add_further-returns-in_err-add_violations : goal.add_further-returns-in_err-add_violations
 add_further-returns-in_err-add_violations t c =
     let w = c.args.walk in
+    let x = c.used-item.result in
     raised _ _ c.in_err-add_violations.field-0.0 c.from_residual-in_err-add_violations.result c.from_residual-in_err-add_violations.ensures.1
     (if_deep c.in_err-add_violations.field-0.0
     (λ h s v a. within (pending_applied (root_tree w) s v c.args.pending.now c.loop-used.used-index c.used-item.result a
     c.loop-used-test.true c.used-item.is) h)
-    c.in_err-add_violations.ensures)
+    (subst (λ s. IfDeep c.in_err-add_violations.field-0.0 (Descends w s (tree_of x.value))) c.by-part.ensures
+    c.in_err-add_violations.ensures))

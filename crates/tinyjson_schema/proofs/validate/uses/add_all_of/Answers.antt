@@ -5,7 +5,18 @@ use Rattle.tinyjson_view.specs.Views.{tree_of}
 use Rattle.tinyjson_schema.specs.Every.{index, word, same, all_uses}
 use Rattle.tinyjson_schema.specs.Steps.{use_of}
 use Rattle.tinyjson_schema.proofs.Adding.{indexed_next, indexed_end}
+use Rattle.tinyjson_schema.proofs.Alternatives.{alternative_known}
 use Rattle.tinyjson_schema.proofs.validate.uses.add_all_of.Goals as goal
+
+pub invariant_of-one : goal.invariant_of-one
+invariant_of-one c =
+    let here = c.args.here.now in
+    let s = view here.schema.now in
+    record {
+      same = alternative_known s kw.AllOf c.schemas_at-parts.result.now c.loop-index.index c.index-parts-index.result
+          c.known_part-known.result c.schemas_at-parts.ensures c.loop-index-test.true c.index-parts-index.is
+          (c.known_part-known.ensures s here.same);
+    }
 
 pub loop-index-preserved : goal.loop-index-preserved
 loop-index-preserved c =

@@ -12,6 +12,9 @@ use Rattle.tinyjson_schema.specs.Nested.{within, by_if}
 use Rattle.tinyjson_schema.proofs.Deep.{if_deep, raised}
 use Rattle.tinyjson_schema.proofs.validate.uses.add_branch.Goals as goal
 
+pub invariant_of-one : goal.invariant_of-one
+invariant_of-one c = record { same = c.in-Some-part.part.same }
+
 pub returns-in_default : goal.returns-in_default
 returns-in_default c g =
     let f = says c.args.walk g in
@@ -19,14 +22,14 @@ returns-in_default c g =
     let v = tree_of c.args.value.now in
     uses_as [] (branch_uses f s v) _ _ (ap (λ o. option_map_or (λ r. uses_at (branch (f r v)) s v) o []) c.in_default.ensures) (uses_none _)
 
-pub returns-in_default-schema_at : goal.returns-in_default-schema_at
-returns-in_default-schema_at c g =
+pub returns-in_default-part : goal.returns-in_default-part
+returns-in_default-part c g =
     let f = says c.args.walk g in
     let s = view c.args.here.now.schema.now in
     let v = tree_of c.args.value.now in
     let k = c.branch-chosen.result in
     uses_as [] (branch_uses f s v) _ _
-    (ap (λ o. option_map_or (λ r. same (word k ∷ []) r v ∷ []) o []) c.in_default-schema_at.ensures
+    (ap (λ o. option_map_or (λ r. same (word k ∷ []) r v ∷ []) o []) c.in_default-part.ensures
     ∙ (ap (λ l. uses_at l s v) (c.branch-chosen.ensures ∙ ap branch (c.in_ok-accepted.ensures g))
     ∙ ap (λ o. option_map_or (λ r. uses_at (branch (f r v)) s v) o []) c.in-Some.ensures)) (uses_none _)
 
@@ -37,7 +40,7 @@ returns c g =
     let v = tree_of c.args.value.now in
     let k = c.branch-chosen.result in
     uses_as _ (branch_uses f s v) _ _
-    (ap (λ o. option_map_or (λ r. same (word k ∷ []) r v ∷ []) o []) c.in-Some-schema_at.ensures
+    (ap (λ o. option_map_or (λ r. same (word k ∷ []) r v ∷ []) o []) c.in-Some-part.ensures
     ∙ (ap (λ l. uses_at l s v) (c.branch-chosen.ensures ∙ ap branch (c.in_ok-accepted.ensures g))
     ∙ ap (λ o. option_map_or (λ r. uses_at (branch (f r v)) s v) o []) c.in-Some.ensures)) c.in_ok-add_if.ensures
 

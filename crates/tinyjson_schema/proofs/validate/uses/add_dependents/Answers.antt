@@ -9,7 +9,33 @@ use Rattle.tinyjson_schema.specs.Steps.{use_of}
 use Rattle.tinyjson_schema.proofs.Adding.{gather_next, gather_end, uses_as}
 use Rattle.tinyjson_schema.specs.declared.walk.CheckError.TheVariants.{OutOfMemory}
 use Rattle.tinyjson_schema.proofs.Deep.{raised}
+use Rattle.std.proofs.Common.{◌≡◌, Some, sym, subst}
+use Rattle.tinyjson.specs.Soundness.{IsSorted}
+use Rattle.tinyjson.specs.Tree.{find}
+use Rattle.tinyjson_schema_keywords.proofs.Callers.{listed_found}
+use Rattle.tinyjson_schema_keywords.specs.Applied.{schema_map_at}
+use Rattle.tinyjson_schema_table.specs.Links.{keyed}
+use Rattle.tinyjson_schema_table.specs.Places.{LeadsTo}
+use Rattle.tinyjson_schema.proofs.Alternatives.{key_known}
 use Rattle.tinyjson_schema.proofs.validate.uses.add_dependents.Goals as goal
+
+pub invariant_of-one : goal.invariant_of-one
+invariant_of-one c =
+    let here = c.args.here.now in
+    let s = view here.schema.now in
+    let ps = c.as_slice-dependents.result.now in
+    let p = c.loop-key-item.result in
+    let k = text p.0.now in
+    let r = view p.1.now in
+    let n = c.known_part-known.result in
+    let sorted = subst (λ xs. IsSorted (members_listed xs)) (sym c.as_slice-dependents.ensures.value) c.in_ok-listed.ensures.sorted in
+    let at : find k (schema_map_at s kw.DependentSchemas) ≡ Some r
+    = ap (find k) (sym (ap members_listed c.as_slice-dependents.ensures.value ∙ c.in_ok-listed.ensures.listed))
+    ∙ listed_found ps c.loop-key.key-index p sorted c.loop-key-test.true c.loop-key-item.is in
+    let leads : LeadsTo (keyed s kw.DependentSchemas k) n
+    = subst (λ bs. LeadsTo (keyed s kw.DependentSchemas (chars bs)) n) c.as_str-name.ensures.value
+    (c.known_part-known.ensures s here.same) in
+    record { same = key_known s kw.DependentSchemas k r n at leads }
 
 pub loop-key-preserved : goal.loop-key-preserved
 loop-key-preserved c =

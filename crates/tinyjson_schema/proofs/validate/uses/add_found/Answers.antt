@@ -10,6 +10,9 @@ use Rattle.tinyjson_schema.specs.declared.walk.CheckError.TheVariants.{OutOfMemo
 use Rattle.tinyjson_schema.proofs.Deep.{raised}
 use Rattle.tinyjson_schema.proofs.validate.uses.add_found.Goals as goal
 
+pub invariant_of-one : goal.invariant_of-one
+invariant_of-one c = record { same = c.requires }
+
 pub loop-member-preserved : goal.loop-member-preserved
 loop-member-preserved c =
     let q = chars c.args.pattern.now in

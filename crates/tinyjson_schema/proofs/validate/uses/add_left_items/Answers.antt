@@ -13,10 +13,13 @@ use Rattle.tinyjson_view.proofs.Callers.{nth_tree}
 use Rattle.tinyjson_schema.proofs.Deep.{if_deep, raised}
 use Rattle.tinyjson_schema.proofs.validate.uses.add_left_items.Goals as goal
 
+pub invariant_of-one : goal.invariant_of-one
+invariant_of-one c = record { same = c.args.rest.now.same }
+
 pub loop-index-preserved : goal.loop-index-preserved
 loop-index-preserved c g =
     let q = sources_evaluate g c.args.sources.now in
-    let r = view c.args.rest.now in
+    let r = view c.args.rest.now.schema.now in
     let i = c.loop-index.index in
     let x = c.index-items-index.result in
     let one = by kw.UnevaluatedItems (index i) r (tree_of x) ∷ [] in
@@ -25,7 +28,7 @@ loop-index-preserved c g =
     (uses_as _ _ _ _ (ap (λ b. cond (not b) one []) (c.in_ok-evaluated.ensures g)) c.in_ok-add_if.ensures) (c.loop-index.invariant g)
 
 pub returns : goal.returns
-returns c g = indexed_end (λ n xs. left_items (sources_evaluate g c.args.sources.now) (view c.args.rest.now) n (trees_of xs))
+returns c g = indexed_end (λ n xs. left_items (sources_evaluate g c.args.sources.now) (view c.args.rest.now.schema.now) n (trees_of xs))
     c.args.items.now c.loop-index.index _ _ c.loop-index-test.false refl (c.loop-index.invariant g)
 
 pub returns-in_err-evaluated : goal.returns-in_err-evaluated

@@ -9,5 +9,6 @@ use Rattle.tinyjson_schema.proofs.validate.uses.add_left_items.Given as goal
 
 abbrev pub invariant-loop-index : goal.invariant-loop-index
 invariant-loop-index l = (g : Answers) →
-    map use_of l.pending.items ++ left_items (sources_evaluate g l.sources) (view l.rest) l.index (trees_of (drop l.index l.items))
-    ≡ map use_of l.initial.pending.items ++ left_items (sources_evaluate g l.sources) (view l.rest) 0 (trees_of l.items)
+    map use_of l.pending.items ++ left_items (sources_evaluate g l.sources) (view l.rest.schema.now)
+    l.index (trees_of (drop l.index l.items))
+    ≡ map use_of l.initial.pending.items ++ left_items (sources_evaluate g l.sources) (view l.rest.schema.now) 0 (trees_of l.items)

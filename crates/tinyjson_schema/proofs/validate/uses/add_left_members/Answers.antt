@@ -11,10 +11,13 @@ use Rattle.tinyjson_schema.specs.declared.walk.CheckError.TheVariants.{OutOfMemo
 use Rattle.tinyjson_schema.proofs.Deep.{raised}
 use Rattle.tinyjson_schema.proofs.validate.uses.add_left_members.Goals as goal
 
+pub invariant_of-one : goal.invariant_of-one
+invariant_of-one c = record { same = c.args.rest.now.same }
+
 pub loop-member-preserved : goal.loop-member-preserved
 loop-member-preserved c g =
     let q = sources_evaluate g c.args.sources.now in
-    let r = view c.args.rest.now in
+    let r = view c.args.rest.now.schema.now in
     let p = c.member-item.result in
     let k = chars p.key.now in
     let u = tree_of p.value in
@@ -24,7 +27,7 @@ loop-member-preserved c g =
     (uses_as _ _ _ _ (ap (λ b. cond (not b) one []) (c.in_ok-evaluated.ensures g u)) c.in_ok-add_if.ensures) (c.loop-member.invariant g)
 
 pub returns : goal.returns
-returns c g = gather_end (λ xs. left_members (sources_evaluate g c.args.sources.now) (view c.args.rest.now) (members_of xs))
+returns c g = gather_end (λ xs. left_members (sources_evaluate g c.args.sources.now) (view c.args.rest.now.schema.now) (members_of xs))
     c.args.members.now c.loop-member.member-index _ _ c.loop-member-test.false refl (c.loop-member.invariant g)
 
 pub returns-in_err-evaluated : goal.returns-in_err-evaluated

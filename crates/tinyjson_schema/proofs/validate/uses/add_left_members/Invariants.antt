@@ -9,5 +9,6 @@ use Rattle.tinyjson_schema.proofs.validate.uses.add_left_members.Given as goal
 
 abbrev pub invariant-loop-member : goal.invariant-loop-member
 invariant-loop-member l = (g : Answers) →
-    map use_of l.pending.items ++ left_members (sources_evaluate g l.sources) (view l.rest) (members_of (drop l.member-index l.members))
-    ≡ map use_of l.initial.pending.items ++ left_members (sources_evaluate g l.sources) (view l.rest) (members_of l.members)
+    map use_of l.pending.items ++ left_members (sources_evaluate g l.sources) (view l.rest.schema.now)
+    (members_of (drop l.member-index l.members))
+    ≡ map use_of l.initial.pending.items ++ left_members (sources_evaluate g l.sources) (view l.rest.schema.now) (members_of l.members)

@@ -7,7 +7,34 @@ use Rattle.tinyjson_schema.specs.Steps.{use_of}
 use Rattle.tinyjson_schema.proofs.Adding.{gather_next, gather_end, uses_as}
 use Rattle.tinyjson_schema.specs.declared.walk.CheckError.TheVariants.{OutOfMemory}
 use Rattle.tinyjson_schema.proofs.Deep.{raised}
+use Rattle.std.proofs.Common.{◌≡◌, Some, sym, subst}
+use Rattle.tinyjson.specs.Soundness.{IsSorted}
+use Rattle.tinyjson.specs.Tree.{find}
+use Rattle.tinyjson_schema_keywords.proofs.Callers.{listed_found}
+use Rattle.tinyjson_schema_keywords.specs.Applied.{schema_map_at}
+use Rattle.tinyjson_schema_table.specs.Links.{keyed}
+use Rattle.tinyjson_schema_table.specs.Places.{LeadsTo}
+use Rattle.tinyjson_schema.proofs.Alternatives.{key_known}
+use Rattle.tinyjson_schema_keywords.specs.declared.keyword.Keyword.TheVariants as kw
 use Rattle.tinyjson_schema.proofs.validate.uses.add_patterned.Goals as goal
+
+pub add_found-requires : goal.add_found-requires
+add_found-requires c =
+    let here = c.args.here.now in
+    let s = view here.schema.now in
+    let ps = c.as_slice-patterns.result.now in
+    let p = c.loop-pattern-item.result in
+    let k = text p.0.now in
+    let r = view p.1.now in
+    let n = c.known_part-known.result in
+    let sorted = subst (λ xs. IsSorted (members_listed xs)) (sym c.as_slice-patterns.ensures.value) c.in_ok-listed.ensures.sorted in
+    let at : find k (schema_map_at s kw.PatternProperties) ≡ Some r
+    = ap (find k) (sym (ap members_listed c.as_slice-patterns.ensures.value ∙ c.in_ok-listed.ensures.listed))
+    ∙ listed_found ps c.loop-pattern.pattern-index p sorted c.loop-pattern-test.true c.loop-pattern-item.is in
+    let leads : LeadsTo (keyed s kw.PatternProperties k) n
+    = subst (λ bs. LeadsTo (keyed s kw.PatternProperties (chars bs)) n) c.as_str-text.ensures.value
+    (c.known_part-known.ensures s here.same) in
+    key_known s kw.PatternProperties k r n at leads
 
 pub loop-pattern-preserved : goal.loop-pattern-preserved
 loop-pattern-preserved c =

@@ -28,7 +28,7 @@ pub returns : goal.returns
 returns c g =
     let s = view c.args.here.now.schema.now in
     let v = tree_of c.args.value.now in
-    let r = view c.in-Some.rest.now in
+    let r = view c.in-Some.rest.schema.now in
     let q = others_evaluate (view c.args.walk.ground.now.whole.now.root.now) (answers_in c.args.walk g) s v in
     let told : (k : Child) → sources_evaluate g c.as_slice.result.now k ≡ q k
     = λ k. ap (λ xs. sources_evaluate g xs k) c.as_slice.ensures.value ∙ c.in_ok-sources.ensures.evaluated g k in

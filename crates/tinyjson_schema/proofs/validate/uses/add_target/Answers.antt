@@ -6,6 +6,9 @@ use Rattle.tinyjson_schema.specs.Every.{word, same, target_uses}
 use Rattle.tinyjson_schema.proofs.Adding.{uses_none, uses_as}
 use Rattle.tinyjson_schema.proofs.validate.uses.add_target.Goals as goal
 
+pub invariant_of-one : goal.invariant_of-one
+invariant_of-one c = record { same = c.in-Some.part.same }
+
 pub returns-in_default : goal.returns-in_default
 returns-in_default c =
     let v = tree_of c.args.value.now in

@@ -3,7 +3,8 @@ use Rattle.tinyjson.specs.View.{view}
 use Rattle.tinyjson_view.specs.Views.{tree_of, trees_of, members_of}
 use Rattle.tinyjson_schema_keywords.specs.Applied.{schemas_at, schema_map_at, members_in, items_in}
 use Rattle.tinyjson_schema_keywords.specs.declared.keyword.Keyword.TheVariants as kw
-use Rattle.tinyjson_schema.specs.Every.{all_uses, branch_uses, dependent_uses, pattern_uses, target_uses, member_uses, item_uses, rest_members, rest_items, uses}
+use Rattle.tinyjson_schema.specs.Every.{all_uses, branch_uses, dependent_uses, pattern_uses, target_uses, member_uses}
+use Rattle.tinyjson_schema.specs.Every.{item_uses, rest_members, rest_items, uses}
 use Rattle.tinyjson_schema.specs.Steps.{use_of}
 use Rattle.tinyjson_schema.specs.Valid.{answers_in, says}
 use Rattle.tinyjson_schema.specs.Evaluated.{others_evaluate}
@@ -73,7 +74,8 @@ returns-in_err-add_target-2 c =
 
 pub returns-in_err-add_members : goal.returns-in_err-add_members
 returns-in_err-add_members c =
-    raised _ _ c.in_err-add_members.field-0.0 c.from_residual-in_err-add_members.result c.from_residual-in_err-add_members.ensures.1 (not_deep _ c.in_err-add_members.field-0.0 c.in_err-add_members.ensures)
+    raised _ _ c.in_err-add_members.field-0.0 c.from_residual-in_err-add_members.result c.from_residual-in_err-add_members.ensures.1
+    (not_deep _ c.in_err-add_members.field-0.0 c.in_err-add_members.ensures)
 
 pub returns-in_err-listed : goal.returns-in_err-listed
 returns-in_err-listed c =

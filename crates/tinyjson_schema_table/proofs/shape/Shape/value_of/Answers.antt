@@ -17,6 +17,7 @@ returns-in-Some-get c =
       slice_get_cases
           c.deref.result.now i,
     ) in
-    let there : slice_get self.values.items i ≡ Some c.in-Some-get.value.now = ap (λ xs. slice_get xs i) (sym c.deref.ensures.value) ∙ got in
+    let there : slice_get self.values.items i ≡ Some c.in-Some-get.value.now = ap (λ xs. slice_get xs i) (sym c.deref.ensures.value)
+    ∙ got in
     same_at (option_map (λ x. view x.now)) (schema_at (view self.schema.now)) self.values.items held i c.in-Some-get.value.now c.args.keyword
     self.held there c.in-Some.ensures

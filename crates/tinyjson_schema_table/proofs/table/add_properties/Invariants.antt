@@ -1,6 +1,0 @@
-use Rattle.tinyjson.specs.View.{view}
-use Rattle.tinyjson_schema_table.specs.Links.{AddsLinks}
-use Rattle.tinyjson_schema_table.proofs.table.add_properties.Given as goal
-
-abbrev pub invariant-loop-key : goal.invariant-loop-key
-invariant-loop-key l = AddsLinks (view l.schema) l.initial.shapes.items l.shapes.items l.initial.links.items l.links.items

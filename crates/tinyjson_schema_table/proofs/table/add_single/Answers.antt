@@ -1,0 +1,10 @@
+use Rattle.std.proofs.Common.{sym}
+use Rattle.tinyjson.specs.View.{view}
+use Rattle.tinyjson_schema_table.proofs.Links.{nothing_added}
+use Rattle.tinyjson_schema_table.proofs.table.add_single.Goals as goal
+
+pub returns-in_default : goal.returns-in_default
+returns-in_default c = nothing_added (view c.args.schema.now) c.args.shapes.now.items c.args.links.now.items
+
+pub returns : goal.returns
+returns c = c.in_ok-add_link.ensures (view c.args.schema.now) (sym c.in-Some.ensures)
