@@ -1098,7 +1098,7 @@ REASONS = [
           ("(?:(?=a))", "a look-ahead", 3), ("[(?=]\\((?=a)", "a look-ahead", 7),
       )),
     ([], '{"pattern":"%s"}' % ("(" * 201 + "a" + ")" * 201), "/pattern", 'must be a pattern, is "%s...: more than 200 nested groups at character 200' % ("(" * 59)),
-    ([], '{"pattern":"ba{10001}"}', "/pattern", 'must be a pattern, is "ba{10001}": more than 10,000 parts at character 2'),
+    ([], '{"pattern":"ba{10101}"}', "/pattern", 'must be a pattern, is "ba{10101}": more than 10,100 parts at character 2'),
     ([], '{"patternProperties":{"a(?i)":5}}', "/patternProperties/a(?i)", 'must be a pattern, is "a(?i)": a flag at character 1'),
     ([], '{"patternProperties":{"a":5}}', "/patternProperties/a", "must be an object or a boolean, is 5"),
     # Of an older draft: the place is that in 2020-12, and a keyword that the draft does not have is not applied.
@@ -1179,20 +1179,20 @@ def grouped(depth):
     return "(" * depth + "a" + ")" * depth
 
 
-# Patterns above the limits of `i_regexp`, which are 200 groups open at once and a size of 10,000; also as keys.
+# Patterns above the limits of `i_regexp`, which are 200 groups open at once and a size of 10,100; also as keys.
 LARGE_PATTERNS = [
     ('{"pattern":"%s"}' % grouped(201), "/pattern"),
     ('{"properties":{"a":{"pattern":"%s"}}}' % grouped(201), "/properties/a/pattern"),
-    ('{"pattern":"a{10001}"}', "/pattern"),
-    ('{"allOf":[true,{"pattern":"^a{10000}b$"}]}', "/allOf/1/pattern"),
+    ('{"pattern":"a{10101}"}', "/pattern"),
+    ('{"allOf":[true,{"pattern":"^a{10100}b$"}]}', "/allOf/1/pattern"),
     ('{"items":{"not":{"pattern":"x|(ab){4000}"}}}', "/items/not/pattern"),
     ('{"$defs":{"a/b":{"pattern":"(a{101}){101}"}}}', "/$defs/a~1b/pattern"),
-    ('{"patternProperties":{"a":true,"a{10001}":true}}', "/patternProperties/a{10001}"),
+    ('{"patternProperties":{"a":true,"a{10101}":true}}', "/patternProperties/a{10101}"),
     ('{"patternProperties":{"%s":5}}' % grouped(201), "/patternProperties/%s" % grouped(201)),
-    ('{"prefixItems":[{"patternProperties":{"a{9999}/~":{}}}]}', "/prefixItems/0/patternProperties/a{9999}~1~0"),
+    ('{"prefixItems":[{"patternProperties":{"a{10099}/~":{}}}]}', "/prefixItems/0/patternProperties/a{10099}~1~0"),
     # The first place that is refused is told.
-    ('{"pattern":"a{10001}","type":"any"}', "/pattern"),
-    ('{"patternProperties":{"a{10001}":true,"b(":true}}', "/patternProperties/a{10001}"),
+    ('{"pattern":"a{10101}","type":"any"}', "/pattern"),
+    ('{"patternProperties":{"a{10101}":true,"b(":true}}', "/patternProperties/a{10101}"),
 ]
 
 TOO_MANY = reported(3, "json_schema", "schemas are nested too deep")
@@ -1315,8 +1315,8 @@ LONG_SCHEMAS = [
     ('{"pattern":"^(x+x+)+y"}', '"' + "x" * 20_000 + '"', judged(("", "/pattern"))),
     # At the limits of patterns.
     ('{"pattern":"^%s$"}' % grouped(200), '"a"', judged(None)),
-    ('{"pattern":"^a{9998}$"}', '"%s"' % ("a" * 9_998), judged(None)),
-    ('{"patternProperties":{"%s":true,"a{9999}b":true},"additionalProperties":false}' % grouped(200), '{"a":1,"b":1}', judged(("/b", "/additionalProperties"))),
+    ('{"pattern":"^a{10000}$"}', '"%s"' % ("a" * 10_000), judged(None)),
+    ('{"patternProperties":{"%s":true,"a{10099}b":true},"additionalProperties":false}' % grouped(200), '{"a":1,"b":1}', judged(("/b", "/additionalProperties"))),
     ('{"items":' * (LEVELS - 1) + '{"pattern":"%s"}' % grouped(200) + "}" * (LEVELS - 1), "[" * (LEVELS - 1) + '"b"' + "]" * (LEVELS - 1), judged(("/0" * (LEVELS - 1), "/items" * (LEVELS - 1) + "/pattern"))),
     ('{"items":' * (LEVELS - 1) + '{"pattern":"%s"}' % grouped(201) + "}" * (LEVELS - 1), "1", reported(2, "json_schema", NOT_APPLIED % ("/items" * (LEVELS - 1) + "/pattern"))),
     ('{"patternProperties":{"^k":true,"9$":{"maximum":0}},"additionalProperties":false}', "{%s}" % ",".join(f'"k{i}":0' for i in range(20_000)), judged(None)),

@@ -37,7 +37,18 @@ star_matches_nothing : Matches (repetition a 0 None) []
 star_matches_nothing = (0, omega arith, tt, refl)
 
 star_matches_two : Matches (repetition a 0 None) (codes "aa")
-star_matches_two = (2, omega arith, tt, (codes "a", codes "a", refl, matches_a None (Some 97), (codes "a", [], refl, matches_a (Some 97) None, refl)))
+star_matches_two = (
+  2,
+  omega arith,
+  tt,
+  (
+    codes "a",
+    codes "a",
+    refl,
+    matches_a None (Some 97),
+    (codes "a", [], refl, matches_a (Some 97) None, refl),
+  ),
+)
 
 second_branch_matches : Matches (alternation empty a) (codes "a")
 second_branch_matches = inr (matches_a None None)

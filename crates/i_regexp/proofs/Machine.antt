@@ -2,7 +2,8 @@
 use Rattle.std.proofs.Common.{◌≡◌, ℕ, List, [], ◌∷◌, ◌++◌, Option, Some, None, refl, sym, ap, ◌∙◌, append_assoc, append-nil}
 use Rattle.std.specs.Prelude.{option_and_then}
 use Rattle.i_regexp.specs.Grammar.{Token, characters, opened, closed, bar, quantifier, asserted, Regexp, last, branches, Branch}
-use Rattle.i_regexp.specs.Grammar.{nothing, pieces, Piece, once, times, asserts, Atom, character, group, regexp_tokens, branch_tokens, piece_tokens, atom_tokens}
+use Rattle.i_regexp.specs.Grammar.{nothing, pieces, Piece, once, times, asserts, Atom, character, group, regexp_tokens, branch_tokens}
+use Rattle.i_regexp.specs.Grammar.{piece_tokens, atom_tokens}
 use Rattle.i_regexp.specs.Levels.{Level, level, State, fresh, settled, with_atom, branch_of, regexp_from, barred, regexp_of, quantified}
 use Rattle.i_regexp.specs.Levels.{in_state, close, advance, run, with_assertion}
 use Rattle.marked_regexp.specs.declared.assertion.Assertion.{Assertion}

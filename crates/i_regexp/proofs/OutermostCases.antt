@@ -142,7 +142,8 @@ case_ended old new n done l c k i here s a out none =
     let alone = a.proper.alone out in
     let fixed : s.here.fixed ≡ has_looks s.looks = a.proper.behind (ap is_some out) in
     let first : MeansWhole (expression_of n.root) (form_at s.here.fixed (part_in s.here)) =
-    subst (λ qs. MeansWhole (expression_of n.root) (disjunction_form s.here.fixed (record { before = qs; last = part_in s.here }))) alone f.0 in
+    subst (λ qs. MeansWhole (expression_of n.root) (disjunction_form s.here.fixed (record { before = qs; last = part_in s.here }))) alone
+    f.0 in
     let small = subst (λ qs. AreSmall (qs ++ part_in s.here ∷ [])) alone f.1 in
     record {
       cases = subst (λ v. CasesMean v (s.cases ++ case_in s ∷ [])) (sym c) (cases_mean_push old.cases.items s.cases n (case_in s) a.cases

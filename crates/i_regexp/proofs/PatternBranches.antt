@@ -14,8 +14,8 @@ use Rattle.i_regexp.specs.Levels.{Level, level, State, fresh, regexp_of, advance
 use Rattle.i_regexp.specs.Patterns.{token}
 use Rattle.i_regexp.specs.PatternMachine.{PartsState, initial, no_levels, is_blank, is_unread, is_single, is_bar, is_start_token}
 use Rattle.i_regexp.specs.PatternMachine.{is_end_token, starts_at, starts_in, ends_in, ends_at, is_before, branch_in, part_in, next_part}
-use Rattle.i_regexp.specs.PatternMachine.{outermost as outer_level, with_state, advance_mark, no_done, is_bare, open_form, form_at, AgreesAt}
-use Rattle.i_regexp.specs.PatternMachine.{without_first, without_last, AllMeanWhole, TakesMark, EndsPart, Finishes}
+use Rattle.i_regexp.specs.PatternMachine.{outermost as outer_level, with_state, advance_mark, no_done, is_bare, open_form, form_at}
+use Rattle.i_regexp.specs.PatternMachine.{AgreesAt, without_first, without_last, AllMeanWhole, TakesMark, EndsPart, Finishes}
 use Rattle.i_regexp.proofs.Levels.{outer_none}
 use Rattle.i_regexp.proofs.PatternCuts.{left_of, left_done, cut_agree, whole_as, all_whole_map_push, all_same, choice_agree}
 use Rattle.i_regexp.proofs.PatternEnds.{advance_starts, advance_ends}
@@ -217,4 +217,5 @@ pub finished : (old : Branches) (qs : List Expression) (n : Expression) (ps : Li
 finished old qs n ps ended e means s a none =
     let k = ended s a none in
     let fs = map (form_at s.fixed) (s.parts ++ part_in s ∷ []) in
-    (whole_as n (choice fs) _ (choice_agree ps fs (subst (λ ns. AllMeanWhole ns fs) (sym e) k.0)) (means (map form_of ps) (all_same ps)), k.1)
+    let all = choice_agree ps fs (subst (λ ns. AllMeanWhole ns fs) (sym e) k.0) in
+    (whole_as n (choice fs) _ all (means (map form_of ps) (all_same ps)), k.1)

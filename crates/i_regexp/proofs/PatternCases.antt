@@ -1,12 +1,12 @@
 -- The machine takes the marks of a pattern, and no others, to the pattern.
-use Rattle.std.proofs.Common.{◌≡◌, inl, inr, ◌≤◌, Bool, true, false, not, ◌&&◌, ◌||◌, cond, List, [], ◌∷◌, ◌++◌, map}
+use Rattle.std.proofs.Common.{◌≡◌, inl, inr, ◌≤◌, Bool, true, false, not, ◌&&◌, cond, List, [], ◌∷◌, ◌++◌}
 use Rattle.std.proofs.Common.{Option, Some, None, option_map, is_some, refl, sym, ap, ◌∙◌, subst, arith, append_assoc, append-nil}
 use Rattle.std.proofs.Common.{true≢false}
 use Rattle.std.proofs.lemmas.Bool.{cond-true, cond-false, and_parts}
 use Rattle.std.specs.Prelude.{option_and_then}
 use Rattle.marked_regexp.specs.declared.assertion.Assertion.TheVariants.{Start}
-use Rattle.i_regexp.specs.Grammar.{Token, characters, opened, closed, bar, quantifier, asserted, asserts, Branch, branch_tokens}
-use Rattle.i_regexp.specs.Levels.{Level, level, State, fresh, advance, state_size}
+use Rattle.i_regexp.specs.Grammar.{Token, characters, opened, closed, bar, quantifier, asserted, asserts, Branch}
+use Rattle.i_regexp.specs.Levels.{level, State, fresh, advance, state_size}
 use Rattle.i_regexp.specs.Limits.{size_limit, branch_size}
 use Rattle.i_regexp.specs.Patterns.{Mark, look, token, Disjunction, Look, Case, Pattern, branch_marks, barred_marks}
 use Rattle.i_regexp.specs.Patterns.{disjunction_marks, looks_marks, guard_marks, case_marks, cases_marks, pattern_marks, has_looks}
@@ -492,7 +492,8 @@ pattern_complete p =
       last = case_end p.before p.last;
       runs = runs_cases p.before [] (case_marks p.last)
           ∙ (ap (run_cases (behind p.before [] false)) (sym (append-nil (case_marks p.last))) ∙ runs_case p.before p.last []);
-      whole = ap (λ q. let w : Pattern = record { before = p.before; last = record { looks = p.last.looks; branch = q.last } } in w) d.whole;
+      whole = ap (λ q. let w : Pattern = record { before = p.before; last = record { looks = p.last.looks; branch = q.last } } in w)
+          d.whole;
       closed = d.closed;
       fine = λ small.
           let s = cases_split p.before p.last small in

@@ -1,6 +1,6 @@
 -- A branch with any text before and after it matches the same texts where `^` and `$` are left out at its ends, and such a text too.
-use Rattle.std.proofs.Common.{◌≡◌, ◌≤◌, inl, inr, ℕ, ◌||◌, Bool, true, false, cond, List, [], ◌∷◌, ◌++◌, map, Option, Some, None, refl, sym, ap, ◌∙◌}
-use Rattle.std.proofs.Common.{subst, arith, true≢false}
+use Rattle.std.proofs.Common.{◌≡◌, inl, inr, ℕ, ◌||◌, Bool, true, false, cond, List, [], ◌∷◌, ◌++◌, map, Option, Some, None}
+use Rattle.std.proofs.Common.{refl, sym, ap, ◌∙◌, subst, arith, true≢false}
 use Rattle.std.specs.Prelude.{is_none}
 use Rattle.std.proofs.lemmas.List.{map-append}
 use Rattle.marked_regexp.specs.declared.assertion.Assertion.TheVariants.{Start, End}
@@ -32,8 +32,8 @@ last_place (y ∷ ys) h = absurd (true≢false (sym h))
 abbrev pieces_form : List Piece → Form
 pieces_form ps = branch_form (branch_of ps)
 
-end_to : (ps : List Piece) (before : Option ℕ) (cs : List ℕ) (after : Option ℕ) → MatchesIn (pieces_form (ps ++ asserts End ∷ [])) before cs after
-    → MatchesIn (pieces_form ps) before cs after × (is_none after ≡ true)
+end_to : (ps : List Piece) (before : Option ℕ) (cs : List ℕ) (after : Option ℕ)
+    → MatchesIn (pieces_form (ps ++ asserts End ∷ [])) before cs after → MatchesIn (pieces_form ps) before cs after × (is_none after ≡ true)
 end_to [] before cs after m =
     let rest : m.1 ≡ [] = m.4 in
     let none : m.0 ≡ [] = m.3.0 in
@@ -148,7 +148,8 @@ start_agree fixed (p ∷ ps) z true h = by z
   where
     one : (qs : List Piece) → Agree (form_at fixed (branch_of (p ∷ qs))) (between (fixed || true) (pieces_form qs) false)
     one qs =
-        subst (λ q. Agree (form_at fixed (branch_of (q ∷ qs))) (between (fixed || true) (pieces_form qs) false)) (sym (start_piece p (sym h)))
+        subst (λ q. Agree (form_at fixed (branch_of (q ∷ qs))) (between (fixed || true) (pieces_form qs) false))
+        (sym (start_piece p (sym h)))
         (subst (λ c. Agree (form_at fixed (branch_of (asserts Start ∷ qs))) (between c (pieces_form qs) false)) (or_true fixed)
         (start_cut fixed (pieces_form qs)))
 

@@ -4,7 +4,7 @@ use Rattle.std.proofs.Common.{true≢false}
 use Rattle.marked_regexp.specs.declared.assertion.Assertion.{Assertion}
 use Rattle.marked_regexp.specs.declared.assertion.Assertion.TheVariants.{Start, End, WordBoundary, NotWordBoundary}
 use Rattle.i_regexp.specs.Grammar as regexp
-use Rattle.i_regexp.specs.Grammar.{Token, characters, opened, closed, bar, quantifier, asserted, Branch, Piece, once, times, asserts, Atom}
+use Rattle.i_regexp.specs.Grammar.{Token, characters, opened, closed, bar, quantifier, asserted, Piece, once, times, asserts, Atom}
 use Rattle.i_regexp.specs.Levels.{Level, level, State, fresh, settled, with_atom, with_assertion, regexp_of, quantified, in_state, advance}
 use Rattle.i_regexp.specs.PatternMachine.{no_levels, is_blank, is_single, is_bar, is_start, is_end, is_start_token, is_end_token}
 use Rattle.i_regexp.specs.PatternMachine.{is_start_piece, is_end_piece, first_starts, last_ends, starts_at, ends_at, outermost, starts_in}
@@ -39,7 +39,8 @@ starts_quantified (level bs ps None) k least most e = none_some e
 starts_quantified (level [] ps (Some a)) k least most e = ap starts_at (sym (some_same e)) ∙ first_push ps (times a least most) refl
 starts_quantified (level (b ∷ bs) ps (Some a)) k least most e = ap starts_at (sym (some_same e))
 
-starts_asserted : (l : Level) (kind : Assertion) → starts_at (with_assertion l kind) ≡ (starts_at l || ((is_blank l && true) && is_start kind))
+starts_asserted : (l : Level) (kind : Assertion)
+    → starts_at (with_assertion l kind) ≡ (starts_at l || ((is_blank l && true) && is_start kind))
 starts_asserted (level [] [] None) kind = refl
 starts_asserted (level [] [] (Some a)) kind = refl
 starts_asserted (level [] (p ∷ ps) None) kind = sym (or_false (is_start_piece p) false)

@@ -1,7 +1,7 @@
 -- The machine takes the marks of branches, and no others, to the branches.
 use Rattle.std.proofs.Common.{◌≡◌, inl, inr, ℕ, ◌≤◌, Bool, true, false, ◌&&◌, List, [], ◌∷◌, ◌++◌, map}
 use Rattle.std.proofs.Common.{Option, Some, None, option_map, refl, sym, ap, ◌∙◌, subst, arith, append_assoc, append-nil, true≢false}
-use Rattle.std.proofs.lemmas.Bool.{cond-true, cond-false, and_parts}
+use Rattle.std.proofs.lemmas.Bool.{cond-false, and_parts}
 use Rattle.std.proofs.lemmas.List.{map-append}
 use Rattle.std.specs.Prelude.{option_and_then}
 use Rattle.i_regexp.specs.Grammar as regexp
@@ -14,7 +14,7 @@ use Rattle.i_regexp.specs.Limits.{size_limit, branch_size}
 use Rattle.i_regexp.specs.Patterns.{Mark, look, token, Disjunction, branch_marks, barred_marks}
 use Rattle.i_regexp.specs.Patterns.{disjunction_marks, AreSmall}
 use Rattle.i_regexp.specs.PatternMachine.{PartsState, initial, no_levels, is_bar, branch_in, part_in, disjunction_in}
-use Rattle.i_regexp.specs.PatternMachine.{next_part, with_state, take_token, advance_mark, run_marks, no_done, is_bare}
+use Rattle.i_regexp.specs.PatternMachine.{next_part, with_state, advance_mark, run_marks, no_done, is_bare}
 use Rattle.i_regexp.proofs.Lexing.{cond_cases, map_cases, none_some, some_same}
 use Rattle.i_regexp.proofs.Machine.{machine_sound, machine_complete}
 use Rattle.i_regexp.proofs.Reading.{run_append}

@@ -43,11 +43,13 @@ guard_from (n ∷ ns) (k ∷ ks) f g cs means from m = (
 
 case_to : (n : CaseTree) (c : Case) (cs : List ℕ) → CaseMeans n c → Matches (case_text n) cs → Matches (case_form c) cs
 case_to n c cs means m =
-    guard_to n.looks.items c.looks (form_of (expression_of n.root)) (form_at (has_looks c.looks) c.branch) cs means.looks (means.root.sound cs) m
+    guard_to n.looks.items c.looks (form_of (expression_of n.root)) (form_at (has_looks c.looks) c.branch) cs means.looks
+    (means.root.sound cs) m
 
 case_from : (n : CaseTree) (c : Case) (cs : List ℕ) → CaseMeans n c → Matches (case_form c) cs → Matches (case_text n) cs
 case_from n c cs means m =
-    guard_from n.looks.items c.looks (form_of (expression_of n.root)) (form_at (has_looks c.looks) c.branch) cs means.looks (means.root.complete cs) m
+    guard_from n.looks.items c.looks (form_of (expression_of n.root)) (form_at (has_looks c.looks) c.branch) cs means.looks
+    (means.root.complete cs) m
 
 cases_to : (n : CaseTree) (ns : List CaseTree) (c : Case) (rest : List Case) (cs : List ℕ) → CasesMean (n ∷ ns) (c ∷ rest)
     → Matches (choice_from (case_text n) (map case_text ns)) cs → Matches (choice_from (case_form c) (map case_form rest)) cs

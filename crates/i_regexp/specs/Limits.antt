@@ -32,7 +32,7 @@ ended_groups (t ∷ ts) = ends_group t + ended_groups ts
 
 -- the greatest size of a regular expression
 abbrev pub size_limit : ℕ
-size_limit = 10000
+size_limit = 10100
 
 -- how often a repeated part is written out in addition
 abbrev pub repeated : ℕ → Option ℕ → ℕ

@@ -20,8 +20,8 @@ pub enum IRegexpErrorKind {
     Invalid,
     /// More than 200 groups are nested.
     TooDeep,
-    /// With each repetition written out, it has more than 10,000 characters, classes, groups and
-    /// bars. Or a count is greater than 10,000.
+    /// With each repetition written out, it has more than 10,100 characters, classes, groups and
+    /// bars. Or a count is greater than 10,100.
     TooLarge,
     /// An allocation failed.
     OutOfMemory,

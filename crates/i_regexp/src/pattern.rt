@@ -12,8 +12,9 @@ use crate::search::any_found;
 use std::alloc::Global;
 
 /// A pattern of JSON Schema, in the dialect that the standard recommends (Core 2020-12, 6.4), with
-/// the escapes and the assertions `^`, `$`, `\b` and `\B` of ECMA-262. Matching borrows it mutably: it remembers, within a bound, what the
-/// characters of ASCII lead to, so that further texts take less time.
+/// the escapes and the assertions `^`, `$`, `\b` and `\B` of ECMA-262. Matching borrows it mutably:
+/// it remembers, within a bound, what the characters of ASCII lead to, so that further texts take
+/// less time.
 ///
 /// ```
 /// let mut code = SchemaPattern::parse(alloc, "^[A-Z]{2}\\d+$")?;
@@ -52,8 +53,8 @@ impl SchemaPattern {
 
     /// Whether the pattern matches a part of the text, and its look-aheads hold. `^` matches only at
     /// the beginning, and `$` only at the end; `\b` where a word of ASCII begins or ends, and `\B`
-    /// elsewhere. The time is at most proportional to the product of the two sizes. Where memory for what it
-    /// remembers is refused, it remembers less.
+    /// elsewhere. The time is at most proportional to the product of the two sizes. Where memory
+    /// for what it remembers is refused, it remembers less.
     ///
     /// ```
     /// let mut digits = SchemaPattern::parse(alloc, "\\d{3}")?;

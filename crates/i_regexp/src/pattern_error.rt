@@ -22,8 +22,8 @@ pub enum SchemaPatternErrorKind {
     Outside,
     /// More than 200 groups are nested.
     TooDeep,
-    /// With each repetition written out, a branch has more than 10,000 characters, classes,
-    /// assertions, groups and bars. Or a count is greater than 10,000.
+    /// With each repetition written out, a branch has more than 10,100 characters, classes,
+    /// assertions, groups and bars. Or a count is greater than 10,100.
     TooLarge,
     /// An allocation failed.
     OutOfMemory,

@@ -527,10 +527,10 @@ const REFUSED: &[(&str, SchemaPatternErrorKind, usize)] = &[
     ("\\u{g}", Invalid, 0),
     ("\\u004", Invalid, 0),
     ("a$)", Invalid, 2),
-    ("a{10001}", TooLarge, 1),
+    ("a{10101}", TooLarge, 1),
     ("(a{101}){101}", TooLarge, 8),
-    ("(\\b){5001}", TooLarge, 4),
-    ("(^){5001}", TooLarge, 3),
+    ("(\\b){5051}", TooLarge, 4),
+    ("(^){5051}", TooLarge, 3),
 ];
 
 #[test]

@@ -37,10 +37,10 @@ const ROWS: &[(&str, IRegexpErrorKind, usize)] = &[
     ("\\p{Lu }", Invalid, 0),
     ("a\\P{IsBasicLatin}", Invalid, 1),
     ("[a-\\p{L}]", Invalid, 0),
-    ("a{10001}", TooLarge, 1),
+    ("a{10101}", TooLarge, 1),
     ("(a{101}){101}", TooLarge, 8),
     // the first token with which it is too large
-    ("a{10000}b|", TooLarge, 8),
+    ("a{10100}b|", TooLarge, 8),
 ];
 
 #[test]

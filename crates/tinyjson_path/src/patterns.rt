@@ -24,7 +24,7 @@ use tinyjson_view::ValueView;
 pub enum PatternLimit {
     /// More than 200 groups are nested.
     TooDeep,
-    /// It has more than 10,000 characters, classes, groups and bars, when each repetition is written out.
+    /// It has more than 10,100 characters, classes, groups and bars, when each repetition is written out.
     TooLarge,
 }
 

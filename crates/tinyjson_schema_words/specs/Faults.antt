@@ -54,7 +54,7 @@ construct bs = cond (begins (codes "(?") bs) (in_group bs) (cond (begins (codes 
 
 abbrev pub construct_of : SchemaPatternErrorKind → List ℕ → List ℕ
 construct_of TooDeep bs = codes "more than 200 nested groups"
-construct_of TooLarge bs = codes "more than 10,000 parts"
+construct_of TooLarge bs = codes "more than 10,100 parts"
 construct_of _ bs = construct bs
 
 -- `must be a pattern, is "a(?=b)": a look-ahead at character 1`

@@ -65,7 +65,7 @@ fn construct_of(kind: SchemaPatternErrorKind, rest: &str) -> &'static str
 {
     match kind {
         SchemaPatternErrorKind::TooDeep => "more than 200 nested groups",
-        SchemaPatternErrorKind::TooLarge => "more than 10,000 parts",
+        SchemaPatternErrorKind::TooLarge => "more than 10,100 parts",
         _ => construct(rest),
     }
 }

@@ -10,5 +10,6 @@ returns c =
     c.is_blank.ensures
     (tested_as _ _ (length c.args.self.now.outer.items) c.is_empty-out.ensures (omega (arith, c.args.self.now.outer.ok.0)))
     c.is_start.ensures c.is_end.ensures refl refl
-    (next_test _ _ _ _ _ (tested_as _ _ (length c.args.self.now.outer.items) c.is_empty-out.ensures (omega (arith, c.args.self.now.outer.ok.0)))
+    (next_test _ _ _ _ _
+    (tested_as _ _ (length c.args.self.now.outer.items) c.is_empty-out.ensures (omega (arith, c.args.self.now.outer.ok.0)))
     c.is_bar.ensures c.if-next.false) c.take.ensures

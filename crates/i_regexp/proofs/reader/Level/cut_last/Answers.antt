@@ -7,4 +7,5 @@ returns-then-not-last c = λ l s. uncut_last c.args.self.now l c.args.last c.if-
 
 pub returns : goal.returns
 returns c = λ l s.
-    last_cut c.args.self.now _ l c.args.last _ c.if-not-last.false (omega (arith, c.args.self.now.pieces.ok.0)) refl c.pop.ensures.rest refl s
+    last_cut c.args.self.now _ l c.args.last _ c.if-not-last.false (omega (arith, c.args.self.now.pieces.ok.0)) refl c.pop.ensures.rest
+    refl s
