@@ -1198,18 +1198,34 @@ LARGE_PATTERNS = [
 TOO_MANY = reported(3, "json_schema", "schemas are nested too deep")
 TOO_MUCH = reported(3, "json_schema", "the check takes too many steps")
 
+
+def referring(keyword, count):
+    """A schema of so many that refer to the next one twice each, so that there are very many ways to the last one."""
+    twice = {f"d{i}": {keyword: [{"$ref": f"#/$defs/d{i + 1}"}] * 2} for i in range(count)}
+    return json.dumps({"$ref": "#/$defs/d0", "$defs": {**twice, f"d{count}": {"type": "integer"}}})
+
+
 # Checks that would take minutes, and like ones that are short: five million steps are allowed, and four more for each byte.
 HOSTILE = [
     # Each level is judged twice by each of two schemas.
     ('{"allOf":[{"items":{"$ref":"#"}},{"items":{"$ref":"#"}}]}', "[" * 25 + "]" * 25, TOO_MUCH),
     ('{"allOf":[{"items":{"$ref":"#"}},{"items":{"$ref":"#"}}]}', "[" * 12 + "]" * 12, judged(None)),
     ('{"anyOf":[{"additionalProperties":{"$ref":"#"}}],"unevaluatedProperties":false}', '{"a":' * 40 + "{}" + "}" * 40, TOO_MUCH),
+    # A schema is read soon, however many ways there are through its references.
+    (referring("allOf", 24), "1", TOO_MUCH),
+    (referring("anyOf", 24), "1", judged(None)),
+    (referring("anyOf", 24), '"a"', TOO_MUCH),
+    (referring("allOf", 12), "1", judged(None)),
     # Each value is compared with each of a list, each item is judged by each schema, and each pattern is sought in each key.
     ('{"items":{"enum":%s}}' % list(range(20_000)), json.dumps([19_999] * 10_000), TOO_MUCH),
     ('{"items":{"enum":%s}}' % list(range(1_000)), json.dumps([999] * 1_000), judged(None)),
     ('{"items":{"oneOf":[%s]}}' % ",".join(f'{{"const":{i}}}' for i in range(3_000)), json.dumps([1] * 3_000), TOO_MUCH),
     ('{"items":{"oneOf":[%s]}}' % ",".join(f'{{"const":{i}}}' for i in range(300)), json.dumps([1] * 300), judged(None)),
     ('{"patternProperties":{%s}}' % ",".join(f'"^{i}$":{{}}' for i in range(2_000)), json.dumps({f"a{i}": 0 for i in range(4_000)}), TOO_MUCH),
+    # Each of 150 patterns is parsed again for each item, since 100 are kept; for the members of an object it is parsed once.
+    ('{"items":{"anyOf":[%s]}}' % ",".join(f'{{"pattern":"^{i}$"}}' for i in range(150)), json.dumps(["149"] * 10_000), TOO_MUCH),
+    ('{"items":{"anyOf":[%s]}}' % ",".join(f'{{"pattern":"^{i}$"}}' for i in range(150)), json.dumps(["149"] * 100), judged(None)),
+    ('{"patternProperties":{%s}}' % ",".join(f'"^{i}$":{{}}' for i in range(300)), json.dumps({f"a{i}": 0 for i in range(10_000)}), judged(None)),
     # Each member is looked up in each schema.
     ('{"allOf":[%s],"unevaluatedProperties":{"type":"integer"}}' % ",".join(f'{{"properties":{{"a{i}":{{}}}}}}' for i in range(3_000)), json.dumps({f"b{i}": 0 for i in range(3_000)}), TOO_MUCH),
     # Each number is divided by one of 904 digits.

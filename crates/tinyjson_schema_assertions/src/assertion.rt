@@ -257,12 +257,13 @@ fn has_pattern(
     let Some(text) = value.string() else {
         return Ok(true);
     };
-    walk.whole
+    let whole = walk.whole;
+    whole
         .budget
         .charge(pattern.len().saturating_add(text.len()) / 32);
-    walk.whole
+    whole
         .patterns
-        .is_found(pattern.as_str(), text, walk.alloc)
+        .is_found(pattern.as_str(), text, &whole.budget, walk.alloc)
 }
 
 /// Whether the string has the format with that name; true for other values, and if the name is not known.

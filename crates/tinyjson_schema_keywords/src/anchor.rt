@@ -13,6 +13,7 @@ use crate::subschemas::{SchemaMember, schema_members};
 use std::alloc::{AllocError, Global};
 use std::collections::BTreeSet;
 use tinyjson::JsonValue;
+use tinyjson_bytes::are_equal;
 
 /// A name by `$anchor` or `$dynamicAnchor`, and the schema that has it.
 #[derive(Clone, Copy)]
@@ -112,7 +113,7 @@ pub fn anchored<'s>(anchors: &[Anchor<'s>], name: &str) -> Option<&'s JsonValue>
     ensures { option_map (λ x. view x.now) result ≡ anchored (all_named anchors.now) name.now }
 {
     for anchor in anchors {
-        if anchor.name.as_str() == name {
+        if are_equal(anchor.name.as_bytes(), name.as_bytes()) {
             return Some(anchor.schema);
         }
     }

@@ -5,6 +5,7 @@ ghost use Rattle.tinyjson.specs.View.{text};
 ghost use Rattle.i_regexp.specs.PatternDeciding.{is_pattern, is_found};
 ghost use Rattle.tinyjson_schema_keywords.specs.Patterns.{answer_of, IsPatternError};
 
+use crate::budget::Budget;
 use i_regexp::{SchemaPattern, SchemaPatternErrorKind};
 use std::alloc::{AllocError, Global};
 use std::cell::RefCell;
@@ -13,6 +14,9 @@ use tinyjson_bytes::are_equal;
 
 /// How many parsed patterns are kept.
 const KEPT: usize = 100;
+
+/// The greatest size that is counted.
+const LARGEST: usize = 10_000;
 
 /// Why a pattern is not parsed.
 #[derive(Clone, Copy)]
@@ -57,7 +61,7 @@ impl Pattern {
     }
 }
 
-/// Parsed patterns in the order of their first uses.
+/// Parsed patterns in the order of their first uses. Behind them is the last one for which there was no room.
 #[derive(Drop)]
 struct Patterns {
     parsed: Vec<Pattern>,
@@ -68,8 +72,15 @@ struct Patterns {
 
 impl Patterns {
     /// Whether the pattern matches somewhere in the text. Values that are checked one after another use the same
-    /// patterns in the same order, so the one after the last is tried first.
-    fn is_found(&mut self, pattern: &str, text: &str, alloc: Global) -> Result<bool, AllocError>
+    /// patterns in the same order, so the one after the last is tried first. The members of an object use the same
+    /// pattern, so the last one is tried next.
+    fn is_found(
+        &mut self,
+        pattern: &str,
+        text: &str,
+        budget: &Budget,
+        alloc: Global,
+    ) -> Result<bool, AllocError>
         ensures { IfOk result (λ is. is ≡ is_found (chars pattern.now) (chars text.now)) }
     {
         let next = if self.next < self.parsed.len() {
@@ -80,11 +91,16 @@ impl Patterns {
         if let Some(is_found) = self.found_at(next, pattern, text) {
             return Ok(is_found);
         }
+        let last = self.next.saturating_sub(1);
+        if let Some(is_found) = self.found_at(last, pattern, text) {
+            return Ok(is_found);
+        }
         if let Some(place) = self.places.get(pattern).copied() {
             if let Some(is_found) = self.found_at(place, pattern, text) {
                 return Ok(is_found);
             }
         }
+        budget.charge(parsing_steps(pattern));
         self.found_anew(pattern, text, alloc)
     }
 
@@ -100,19 +116,25 @@ impl Patterns {
         Some(known.is_found_in(text))
     }
 
-    /// Whether the pattern, which is parsed now, matches somewhere in the text. It is kept if there is room.
+    /// Whether the pattern, which is parsed now, matches somewhere in the text. It is kept, without room in place of
+    /// the last one.
     fn found_anew(&mut self, pattern: &str, text: &str, alloc: Global) -> Result<bool, AllocError>
         ensures { IfOk result (λ is. is ≡ is_found (chars pattern.now) (chars text.now)) }
     {
         let mut parsed = Pattern::read(alloc, pattern)?;
         let is_found = parsed.is_found_in(text);
         let place = self.parsed.len();
+        if let Some(last) = self.parsed.get_mut(KEPT) {
+            *last = parsed;
+            self.next = KEPT + 1;
+            return Ok(is_found);
+        }
+        self.parsed.push(parsed)?;
         if place < KEPT {
-            self.parsed.push(parsed)?;
             self.places
                 .insert(String::from_str(alloc, pattern)?, place)?;
-            self.next = place + 1;
         }
+        self.next = place + 1;
         Ok(is_found)
     }
 }
@@ -136,16 +158,51 @@ impl KeptPatterns {
     }
 
     /// Whether the pattern matches somewhere in the text. One that is no pattern matches nothing. A checked schema has
-    /// no pattern that is too deep or too large; for such a one the error is out of memory.
+    /// no pattern that is too deep or too large; for such a one the error is out of memory. A pattern that is parsed
+    /// now takes ten steps of the budget, and more with its size.
     #[inline(never)]
-    pub fn is_found(&self, pattern: &str, text: &str, alloc: Global) -> Result<bool, AllocError>
+    pub fn is_found(
+        &self,
+        pattern: &str,
+        text: &str,
+        budget: &Budget,
+        alloc: Global,
+    ) -> Result<bool, AllocError>
         ensures { IfOk result (λ is. is ≡ is_found (chars pattern.now) (chars text.now)) }
     {
         let Ok(mut kept) = self.kept.try_borrow_mut() else {
             return Ok(Pattern::read(alloc, pattern)?.is_found_in(text));
         };
-        kept.is_found(pattern, text, alloc)
+        kept.is_found(pattern, text, budget, alloc)
     }
+}
+
+/// How many steps of a budget parsing the pattern takes.
+fn parsing_steps(pattern: &str) -> usize {
+    pattern_size(pattern) / 16 + 10
+}
+
+/// About how many parts the pattern has, with each counted repetition written out.
+fn pattern_size(pattern: &str) -> usize {
+    let mut size = pattern.len();
+    let mut count: usize = 0;
+    let mut greatest: usize = 1;
+    for byte in pattern.as_bytes() {
+        match *byte {
+            b'{' => {
+                count = 0;
+                greatest = 1;
+            }
+            b'0'..=b'9' => {
+                count = count.saturating_mul(10);
+                count = count.saturating_add((*byte - b'0') as usize);
+                greatest = greatest.max(count);
+            }
+            b'}' => size = size.saturating_mul(greatest),
+            _ => count = 0,
+        }
+    }
+    size.min(LARGEST)
 }
 
 /// The pattern that the text is, or `None` if it is none.

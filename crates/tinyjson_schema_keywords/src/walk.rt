@@ -70,7 +70,10 @@ impl<'d, 's> Walk<'d, 's> {
     {
         let bytes = pattern.len().saturating_add(text.len());
         self.whole.budget.spend(bytes / 32 + 1)?;
-        let is_found = self.whole.patterns.is_found(pattern, text, self.alloc)?;
+        let whole = self.whole;
+        let is_found = whole
+            .patterns
+            .is_found(pattern, text, &whole.budget, self.alloc)?;
         Ok(is_found)
     }
 }
