@@ -13,6 +13,7 @@ pub mod Operands
 pub mod Parts
 pub mod Places
 pub mod Refusals
+pub mod Remembering
 pub mod Settling
 pub mod Sourcing
 pub mod Validity

@@ -11,6 +11,7 @@ pub mod Places
 pub mod Reading
 pub mod Refused
 pub mod Schemas
+pub mod Settled
 pub mod Sources
 pub mod Steps
 pub mod Valid

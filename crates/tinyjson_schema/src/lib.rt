@@ -15,6 +15,7 @@ mod own_name;
 mod part;
 mod refused;
 mod schema;
+mod settled;
 mod validate;
 mod violation;
 mod walk;

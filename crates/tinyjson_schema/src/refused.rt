@@ -12,9 +12,11 @@ ghost use Rattle.tinyjson_schema.specs.Refused.{Refuses, RefusesWhole, IsWhole, 
 ghost use Rattle.tinyjson_schema.specs.Refused.{whole_for, whole_of, has_shape, is_applied};
 ghost use Rattle.tinyjson_schema.specs.Refused.{IsBefore};
 ghost use Rattle.tinyjson_schema.specs.Schemas.{is_schema};
+ghost use Rattle.tinyjson_schema.specs.Settled.{IsRight};
 
 use crate::circles::leads;
 use crate::own_name::is_own_name;
+use crate::settled::Settled;
 use std::alloc::{AllocError, Global};
 use tinyjson::{JsonValue, sorted_members};
 use tinyjson_pointer::Pointer;
@@ -55,7 +57,15 @@ pub fn refused_place(
     ensures { let root = whole_of document.entry in
         Refuses (is_schema root true root) root true form.Schema root result }
 {
-    refused_in(Form::Schema, document.whole.root, document, true, alloc)
+    let mut known = Settled::new(alloc);
+    refused_in(
+        Form::Schema,
+        document.whole.root,
+        document,
+        true,
+        &mut known,
+        alloc,
+    )
 }
 
 /// The place in a value that needs the form, which has not its own or whose part has not that of the part.
@@ -64,18 +74,23 @@ fn refused_in(
     value: &JsonValue,
     document: Document<'_, '_>,
     is_whole: bool,
+    known: &mut Settled,
     alloc: Global,
 ) -> Result<Option<RefusedPlace>, AllocError>
-    ensures { Refuses (is_applied (whole_of document.entry) is_whole form (view value.now))
+    requires { IsRight (whole_of document) known.old }
+    ensures place { Refuses (is_applied (whole_of document.entry) is_whole form (view value.now))
         (whole_of document.entry) is_whole form (view value.now) result }
+    ensures right { IsRight (whole_of document.entry) known.new }
 {
-    if let Some(place) = misfit(form, value, document, is_whole, alloc)? {
+    if let Some(place) = misfit(form, value, document, is_whole, known, alloc)? {
         return Ok(Some(place));
     }
     let parts = parts_of(form, value, alloc)?;
     for part in parts.as_slice() {
         let of_whole = whole_for(is_whole, part.form);
-        if let Some(mut place) = refused_in(part.form, part.value, document, of_whole, alloc)? {
+        if let Some(mut place) = refused_in(
+            part.form, part.value, document, of_whole, known, alloc,
+        )? {
             prepend(&mut place.pointer, part.token, alloc)?;
             return Ok(Some(place));
         }
@@ -111,10 +126,13 @@ fn misfit(
     value: &JsonValue,
     document: Document<'_, '_>,
     is_whole: bool,
+    known: &mut Settled,
     alloc: Global,
 ) -> Result<Option<RefusedPlace>, AllocError>
-    ensures { Refuses (has_shape (whole_of document.entry) is_whole form (view value.now))
+    requires { IsRight (whole_of document) known.old }
+    ensures place { Refuses (has_shape (whole_of document.entry) is_whole form (view value.now))
         (whole_of document.entry) is_whole form (view value.now) result }
+    ensures right { IsRight (whole_of document.entry) known.new }
 {
     match form {
         Form::Anything => Ok(None),
@@ -134,7 +152,7 @@ fn misfit(
         Form::SchemaMap => unless(is_object(value), alloc),
         Form::PatternMap => refused_pattern(value, alloc),
         Form::Base => unless(is_base(value, is_whole), alloc),
-        Form::Reference => unless(leads(value, document, alloc)?, alloc),
+        Form::Reference => unless(leads(value, document, known, alloc)?, alloc),
         Form::Anchor => unless(is_own_name(value, document), alloc),
     }
 }

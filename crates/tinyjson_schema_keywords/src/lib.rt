@@ -22,7 +22,9 @@ pub use budget::Budget;
 pub use document::{Document, Whole};
 pub use keyword::{Form, Keyword, form_at, form_by, keyword_of};
 pub use pattern::{KeptPatterns, PatternError, is_pattern};
-pub use reference::{at_pointer, percent_decoded, read_pointer, referenced, target};
+pub use reference::{
+    at_pointer, percent_decoded, read_pointer, read_reference, referenced, target,
+};
 pub use subschemas::{
     Part, SchemaMember, Token, branch, has_key, is_some_item, items_in, listed_members, name_of,
     operand, parts_of, schema_at, schema_map_at, schema_members, schemas_at,

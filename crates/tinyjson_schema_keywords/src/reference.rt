@@ -97,8 +97,8 @@ pub fn read_pointer(text: &str, alloc: Global) -> Result<Option<Pointer>, AllocE
     }
 }
 
-/// The bytes of a reference that is only a fragment; else `None`.
-fn read_reference(reference: &str, alloc: Global) -> Result<Option<Vec<u8>>, AllocError>
+/// The bytes of a reference that is only a fragment, decoded (RFC 3986, section 3.5); else `None`.
+pub fn read_reference(reference: &str, alloc: Global) -> Result<Option<Vec<u8>>, AllocError>
     ensures { IfOk result (λ d. option_map (λ v. v.items) d ≡ reference_bytes reference.now) }
 {
     let Some((first, fragment)) = reference.as_bytes().split_first() else {

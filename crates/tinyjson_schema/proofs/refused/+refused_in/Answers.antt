@@ -16,16 +16,16 @@ refused_in-requires t c =
     = part_depth c.args.form c.args.value.now _ c.loop-part.part-index p all c.loop-part-test.true c.part-item.is in
     search rules
 
-pub returns-in-Some : goal.returns-in-Some
-returns-in-Some t c =
+pub returns-in-Some-clause-place : goal.returns-in-Some-clause-place
+returns-in-Some-clause-place t c =
     let root = whole_of c.args.document in
     let w = view c.args.value.now in
     let at = subst (λ o. Refuses (has_shape root c.args.is_whole c.args.form w) root c.args.is_whole c.args.form w (Ok o)) c.in-Some.is
-    c.in_ok-place.ensures in
+    c.in_ok-place.ensures.place in
     refuses_more root w _ _ c.args.is_whole c.args.form _ _ (not_shaped root c.args.is_whole c.args.form w) at
 
-pub returns-in-Some-2 : goal.returns-in-Some-2
-returns-in-Some-2 t c =
+pub returns-in-Some-2-clause-place : goal.returns-in-Some-2-clause-place
+returns-in-Some-2-clause-place t c =
     let root = whole_of c.args.document in
     let whole = c.args.is_whole in
     let f = c.args.form in
@@ -38,10 +38,10 @@ returns-in-Some-2 t c =
     let others = parts_applied root whole (all_parts (drop (i + 1) ps)) in
     let at = subst (λ b. Refuses (is_applied root b p.form v) root b p.form v (Ok (Some c.in-Some-2.place))) c.whole_for-of_whole.ensures
     (subst (λ o. Refuses (is_applied root c.whole_for-of_whole.result p.form v) root c.whole_for-of_whole.result p.form v (Ok o))
-    c.in-Some-2.is c.in_ok-place-2.ensures) in
+    c.in-Some-2.is c.in_ok-place-2.ensures.place) in
     let none : is_applied root (whole_for whole p.form) p.form v ≡ false → is_applied root whole f w ≡ false
     = λ e. not_in_parts root whole f w ps all (sym (turn_stop (λ xs. parts_applied root whole (all_parts xs)) ps i false p
-    c.loop-part-test.true c.part-item.is (ap (λ b. b && others) e) c.loop-part.invariant)) in
+    c.loop-part-test.true c.part-item.is (ap (λ b. b && others) e) c.loop-part.invariant.0)) in
     in_part root _ _ whole f c.args.value.now ps i p _ _ _ all c.loop-part-test.true c.part-item.is c.in_ok-prepend.ensures none at
 
 pub loop-part-preserved : goal.loop-part-preserved
@@ -56,12 +56,14 @@ loop-part-preserved t c =
     let good : is_applied root (whole_for whole p.form) p.form v ≡ true
     = subst (λ b. Refuses (is_applied root b p.form v) root b p.form v (Ok None)) c.whole_for-of_whole.ensures
     (subst (λ o. Refuses (is_applied root c.whole_for-of_whole.result p.form v) root c.whole_for-of_whole.result p.form v (Ok o))
-    c.in_default-2.is c.in_ok-place-2.ensures) in
-    turn_next (λ xs. parts_applied root whole (all_parts xs)) ps i p c.loop-part-test.true c.part-item.is
-    (ap (λ b. b && others) good) c.loop-part.invariant
+    c.in_default-2.is c.in_ok-place-2.ensures.place) in (
+      turn_next (λ xs. parts_applied root whole (all_parts xs)) ps i p c.loop-part-test.true c.part-item.is
+          (ap (λ b. b && others) good) c.loop-part.invariant.0,
+      c.in_ok-place-2.ensures.right,
+    )
 
-pub returns : goal.returns
-returns t c =
+pub returns-clause-place : goal.returns-clause-place
+returns-clause-place t c =
     let root = whole_of c.args.document in
     let whole = c.args.is_whole in
     let f = c.args.form in
@@ -69,7 +71,7 @@ returns t c =
     let ps = c.as_slice-part-items.result.now in
     let all : all_parts ps ≡ parts_of f w = ap all_parts c.as_slice-part-items.ensures.value ∙ c.in_ok-parts.ensures in
     let shape : has_shape root whole f w ≡ true
-    = subst (λ o. Refuses (has_shape root whole f w) root whole f w (Ok o)) c.in_default.is c.in_ok-place.ensures in
+    = subst (λ o. Refuses (has_shape root whole f w) root whole f w (Ok o)) c.in_default.is c.in_ok-place.ensures.place in
     all_applied root whole f w ps all shape
     (turn_end (λ xs. parts_applied root whole (all_parts xs)) ps c.loop-part.part-index true c.loop-part-test.false refl
-    c.loop-part.invariant)
+    c.loop-part.invariant.0)
