@@ -900,6 +900,8 @@ FORMATS = [
     ("uuid", ["2EB8AA08-aa98-11EA-B4Aa-73B441D16380", "00000000-0000-0000-0000-000000000000"], ["2eb8aa08-aa98-11ea-b4aa-73b441d1638", "2eb8aa08aa9811eab4aa73b441d16380", "2eb8aa08-aa98-11ea-b4ga-73b441d16380"]),
     ("json-pointer", ["", "/foo/bar~0/baz~1/%a", "//", "/ "], ["/foo/bar~", "#", "a", "/~2", "0/a"]),
     ("relative-json-pointer", ["1", "0/foo/bar", "0#", "120/foo/bar"], ["/foo/bar", "-1/foo/bar", "01/a", "0##", "", "+1/a"]),
+    # ECMA-262, 22.2.1: more rows are in crates/text_vectors.
+    ("regex", ["([abc])+\\s+$", "", "^\\cC$", "(?<=a)b", "(?<x>a)\\k<x>", "\\p{Lu}[à-😀]"], ["^(abc]", "^\\S(|(.|\\n)*\\S)\\Z", "\\a", "\\c", "(?=a)*", "[b-a]", "\\1", "\\p{Foo}"]),
 ]
 
 # Where `format` is asserted: the schema, values that are valid, and values that are not, each with the place in it and the keyword's.
@@ -923,7 +925,7 @@ ASSERTED = [
 
 # Schemas, and the names of formats that are told: each once, in the order of bytes.
 UNKNOWN_FORMATS = [
-    ('{"format":"regex","items":{"format":"color"},"properties":{"a":{"format":"date"},"b":{"format":"color"}}}', ["color", "regex"]),
+    ('{"format":"regexp","items":{"format":"color"},"properties":{"a":{"format":"regex"},"b":{"format":"color"}}}', ["color", "regexp"]),
     ('{"format":"Date","if":{"format":""},"allOf":[{"format":"b\\n\\u001b"}]}', ["", "Date", "bU+000AU+001B"]),
     # What is no schema has none.
     ('{"enum":[{"format":"x"}],"properties":{"format":{"const":{"format":"y"}}},"default":{"format":"z"}}', []),

@@ -153,8 +153,8 @@ Options:
                     names, or else by that of --draft: not line by line
   -f, --assert-format  assert \"format\" of strings: date, time, date-time,
                     duration, email, hostname, ipv4, ipv6, uri, uri-reference,
-                    uri-template, uuid, json-pointer, relative-json-pointer;
-                    report others
+                    uri-template, uuid, json-pointer, relative-json-pointer,
+                    regex; report others
   -h, --help        print this page
   -V, --version     print the version
 

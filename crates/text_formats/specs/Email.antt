@@ -1,5 +1,5 @@
 -- Mailboxes (`Mailbox` of RFC 5321, section 4.1.2).
-use Rattle.std.specs.Prelude.{ℕ, Bool, true, false, ◌&&◌, ◌||◌, ◌==◌, nat_le, not, List, [], ◌∷◌, Option, Some, None, cond, codes}
+use Rattle.std.specs.Prelude.{ℕ, Bool, false, ◌&&◌, ◌||◌, ◌==◌, nat_le, not, List, [], ◌∷◌, Option, Some, None, cond, codes}
 use Rattle.std.specs.List.{list_all, slice_split}
 use Rattle.text_formats.specs.Host.{is_hostname}
 use Rattle.text_formats.specs.Ip.{is_ipv4, is_ipv6}

@@ -2,6 +2,7 @@
 use Rattle.std.specs.Prelude.{ℕ, Bool, List, [], ◌∷◌, Option, codes}
 use Rattle.std.specs.List.{find}
 use Rattle.std.specs.Str.{bytes_eq}
+use Rattle.ecma_regexp.specs.Regex.{is_regex}
 use Rattle.text_formats.specs.Date.{is_date, is_time, is_date_time}
 use Rattle.text_formats.specs.Duration.{is_duration}
 use Rattle.text_formats.specs.Email.{is_email}
@@ -29,6 +30,7 @@ name at.UriTemplate = codes "uri-template"
 name at.Uuid = codes "uuid"
 name at.JsonPointer = codes "json-pointer"
 name at.RelativeJsonPointer = codes "relative-json-pointer"
+name at.Regex = codes "regex"
 
 abbrev pub accepts : Format → List ℕ → Bool
 accepts at.DateTime = is_date_time
@@ -45,10 +47,11 @@ accepts at.UriTemplate = is_template
 accepts at.Uuid = is_uuid
 accepts at.JsonPointer = is_pointer
 accepts at.RelativeJsonPointer = is_relative_pointer
+accepts at.Regex = is_regex
 
 abbrev pub formats : List Format
 formats = at.DateTime ∷ at.Date ∷ at.Time ∷ at.Duration ∷ at.Email ∷ at.Hostname ∷ at.Ipv4 ∷ at.Ipv6 ∷ at.Uri ∷ at.UriReference
-    ∷ at.UriTemplate ∷ at.Uuid ∷ at.JsonPointer ∷ at.RelativeJsonPointer ∷ []
+    ∷ at.UriTemplate ∷ at.Uuid ∷ at.JsonPointer ∷ at.RelativeJsonPointer ∷ at.Regex ∷ []
 
 -- the format of the name
 abbrev pub format_named : List ℕ → Option Format

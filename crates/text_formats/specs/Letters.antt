@@ -1,25 +1,11 @@
 -- Letters, and texts of them. A test gets a byte and the bytes after it.
 use Rattle.std.specs.Prelude.{ℕ, Bool, true, false, ◌&&◌, ◌||◌, ◌==◌, not, List, [], ◌∷◌, codes}
-use Rattle.std.specs.Char.{is_ascii_digit, is_ascii_hexdigit, is_ascii_alphanumeric}
-use Rattle.std.specs.List.{list_any}
+use Rattle.std.specs.Char.{is_ascii_hexdigit, is_ascii_alphanumeric}
+pub use Rattle.ecma_regexp.specs.Letters.{is_empty, begins, is_among, is_not_digit, is_brace_end}
 
 abbrev pub each : (ℕ → List ℕ → Bool) → List ℕ → Bool
 each test [] = true
 each test (c ∷ cs) = test c cs && each test cs
-
-abbrev pub is_empty : List ℕ → Bool
-is_empty [] = true
-is_empty (c ∷ cs) = false
-
-abbrev pub begins : (ℕ → Bool) → List ℕ → Bool
-begins test [] = false
-begins test (c ∷ cs) = test c
-
-abbrev pub is_among : List ℕ → ℕ → Bool
-is_among letters c = list_any (λ d. d == c) letters
-
-abbrev pub is_not_digit : ℕ → Bool
-is_not_digit c = not (is_ascii_digit c)
 
 abbrev pub is_at_sign : ℕ → Bool
 is_at_sign c = c == 64
@@ -35,9 +21,6 @@ is_bracket_end c = c == 93
 
 abbrev pub is_brace : ℕ → Bool
 is_brace c = c == 123
-
-abbrev pub is_brace_end : ℕ → Bool
-is_brace_end c = c == 125
 
 abbrev pub is_modifier : ℕ → Bool
 is_modifier c = (c == 58) || (c == 42)

@@ -11,6 +11,7 @@ use crate::ip::{is_ipv4, is_ipv6};
 use crate::pointer::{is_json_pointer, is_relative_json_pointer};
 use crate::template::is_uri_template;
 use crate::uri::{is_uri, is_uri_reference};
+use ecma_regexp::is_regex;
 
 /// A format that this library checks.
 ///
@@ -47,6 +48,8 @@ pub enum Format {
     JsonPointer,
     /// A relative JSON Pointer.
     RelativeJsonPointer,
+    /// A regular expression (ECMA-262).
+    Regex,
 }
 
 impl Format {
@@ -74,6 +77,7 @@ impl Format {
             "uuid" => Some(Format::Uuid),
             "json-pointer" => Some(Format::JsonPointer),
             "relative-json-pointer" => Some(Format::RelativeJsonPointer),
+            "regex" => Some(Format::Regex),
             _ => None,
         }
     }
@@ -101,6 +105,7 @@ impl Format {
             Format::Uuid => "uuid",
             Format::JsonPointer => "json-pointer",
             Format::RelativeJsonPointer => "relative-json-pointer",
+            Format::Regex => "regex",
         }
     }
 
@@ -127,6 +132,7 @@ impl Format {
             Format::Uuid => is_uuid(text),
             Format::JsonPointer => is_json_pointer(text),
             Format::RelativeJsonPointer => is_relative_json_pointer(text),
+            Format::Regex => is_regex(text),
         }
     }
 }

@@ -9,7 +9,7 @@ use text_formats::{
 
 #[test]
 fn other_names(rt: HostRuntime) -> Result<(), Fail> {
-    assert!(rt; Format::from_name("regex").is_none());
+    assert!(rt; Format::from_name("regexp").is_none());
     assert!(rt; Format::from_name("").is_none());
     Ok(())
 }

@@ -18,3 +18,5 @@ mod patterns;
 mod references;
 #[cfg(test)]
 mod refusals;
+#[cfg(test)]
+mod regexes;

@@ -1,0 +1,4 @@
+pub mod Letters
+pub mod PropertyNames
+pub mod Regex
+pub mod Scan

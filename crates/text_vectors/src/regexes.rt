@@ -1,0 +1,366 @@
+//! Which texts are regular expressions, as ECMA-262 says (22.2.1 and 22.2.1.1).
+
+use ecma_regexp::is_regex;
+use std::test::Fail;
+use text_formats::Format;
+
+/// Regular expressions.
+const VALID: &[&str] = &[
+    // ECMA-262 and the tests of JSON Schema's `format`
+    "([abc])+\\s+$",
+    "^\\cC$",
+    "(?<=a)b",
+    "(a)\\1",
+    "(?<x>a)\\k<x>",
+    "\\p{Lu}",
+    // alternatives and terms (`Disjunction`, `Alternative`, `Term`)
+    "",
+    "|",
+    "a||b",
+    "()",
+    "(|)",
+    "(?:a)*",
+    "(a)?",
+    "^^$$",
+    "\\b\\B",
+    "a/b",
+    "a-b,<c>:=!",
+    "\u{e9}*\u{6f22}+",
+    "\u{1f600}?",
+    // quantifiers
+    "a*?",
+    "a+?b??",
+    "a{2}",
+    "a{2,}?",
+    "a{2,3}",
+    "a{0}",
+    "a{007,8}",
+    ".{2}",
+    "\\d{2}",
+    "[a]{2}",
+    "a{18446744073709551616,18446744073709551617}",
+    "a{00000000000000000000000003,3}",
+    // assertions
+    "(?=a)",
+    "(?!a)b",
+    "(?<!a)",
+    "(?<=a*)",
+    "(?=(a))\\1",
+    // escapes
+    "\\^\\$\\\\\\.\\*\\+\\?\\(\\)\\[\\]\\{\\}\\|\\/",
+    "\\f\\n\\r\\t\\v",
+    "\\0",
+    "\\0a",
+    "\\x41\\xaF",
+    "\\u0041",
+    "\\u{41}",
+    "\\u{10FFFF}",
+    "\\u{0000000000000041}",
+    "\\ud83d\\ude00",
+    "\\ud83d",
+    "\\ude00",
+    "\\cz",
+    "\\d\\D\\s\\S\\w\\W",
+    // numbers of groups, also of those that come later, or are around
+    "\\1(a)",
+    "(\\1)",
+    "(a)(?:b)(?=c)(?<d>e)\\2",
+    "((((((((((a))))))))))\\10",
+    // names
+    "\\k<x>(?<x>a)",
+    "(?<$>a)(?<_>b)(?<a1>c)",
+    "(?<\u{e9}>a)\\k<\u{e9}>",
+    "(?<\u{6f22}>a)",
+    "(?<a\u{301}>a)",
+    "(?<a\u{200d}>a)",
+    "(?<toString>a)",
+    "[(?<a>]",
+    "\\(?<a>",
+    "(?<x>[(?<x>])",
+    // properties
+    "\\p{L}\\P{Letter}",
+    "\\p{gc=Lu}",
+    "\\p{General_Category=Uppercase_Letter}",
+    "\\p{sc=Grek}",
+    "\\p{Script=Greek}",
+    "\\p{scx=Latn}",
+    "\\p{Script_Extensions=Latin}",
+    "\\p{Alphabetic}\\p{Alpha}",
+    "\\p{ASCII}\\p{Any}\\p{Assigned}",
+    "\\p{LC}\\p{punct}\\p{digit}",
+    "\\p{Emoji}",
+    "[\\p{L}\\P{Nd}]",
+    // classes
+    "[]",
+    "[^]",
+    "[^^]",
+    "[a-z]",
+    "[a-a]",
+    "[-a]",
+    "[a-]",
+    "[--a]",
+    "[---]",
+    "[a-b-c]",
+    "[a-b--]",
+    "[\\d-]",
+    "[-\\d]",
+    "[\\b]",
+    "[\\-]",
+    "[a\\-z]",
+    "[.*+?(){}|^$/[]",
+    "[\\]]",
+    "[\\x41-\\u0042]",
+    "[\\cA-\\cB]",
+    "[\\0-\\x01]",
+    "[\\u{1F600}-\\u{1F601}]",
+    "[\\ud83d\\ude00-\\ud83d\\ude01]",
+    "[\\ud83d\\ude00-\u{1f601}]",
+    "[\u{e0}-\u{e9}]",
+    "[\u{e9}-\u{6f22}]",
+    "[\u{6f22}-\u{1f600}]",
+    "[\\uFFFF-\\ud800\\udc00]",
+];
+
+/// Other texts.
+const INVALID: &[&str] = &[
+    // ECMA-262 and the tests of JSON Schema's `format`
+    "^(abc]",
+    "^\\S(|(.|\\n)*\\S)\\Z",
+    "\\a",
+    "\\c",
+    "(?=a)*",
+    "a{2,1}",
+    "[b-a]",
+    "\\1",
+    "\\k<x>",
+    "\\p{Foo}",
+    "\\u{110000}",
+    "{",
+    "]",
+    "a**",
+    // alternatives and terms
+    "}",
+    ")",
+    "(",
+    "(a",
+    "a)",
+    "(()",
+    "())",
+    "(?",
+    "(?a)",
+    "(?<",
+    "(?>a)",
+    "(?#a)",
+    "(?P<a>b)",
+    // quantifiers
+    "*",
+    "+",
+    "?",
+    "|*",
+    "(*)",
+    "(?:*)",
+    "^*",
+    "$?",
+    "\\b+",
+    "\\B{2}",
+    "a+*",
+    "a???",
+    "a{",
+    "a{,3}",
+    "a{2",
+    "a{2,",
+    "a{}",
+    "a{b}",
+    "a{2}{3}",
+    "{2}",
+    "a{-1}",
+    "a{1,2",
+    "a{10,9}",
+    "a{18446744073709551617,18446744073709551616}",
+    // assertions
+    "(?!a)?",
+    "(?<=a)+",
+    "(?<!a){2}",
+    "(?=a){2,3}",
+    // escapes
+    "\\",
+    "\\e",
+    "\\-",
+    "\\_",
+    "\\ ",
+    "\\,",
+    "\\\u{e9}",
+    "\\x4",
+    "\\xg1",
+    "\\u",
+    "\\u004",
+    "\\u{}",
+    "\\u{41",
+    "\\u{g}",
+    "\\u{110000}",
+    "\\c1",
+    "\\c\u{e9}",
+    "\\00",
+    "\\01",
+    "\\8",
+    // numbers of groups
+    "(a)\\2",
+    "\\1(?:a)",
+    "(?=a)\\1",
+    "[(]\\1",
+    "\\(\\1",
+    "(a)\\18446744073709551617",
+    "(a)\\11",
+    // names
+    "(?<>a)",
+    "(?<1>a)",
+    "(?<a-b>c)",
+    "(?<a",
+    "(?<a)",
+    "(?<a b>c)",
+    "(?<x>a)(?<x>b)",
+    "(?<x>(?<x>b))",
+    "(?<\u{e9}>a)(?<\u{e9}>b)",
+    "\\k",
+    "\\k<",
+    "\\kx",
+    "(?<x>a)\\k<y>",
+    "(?<x>a)\\k<xx>",
+    "(?<x>a)\\k<x",
+    "(?<x>a)\\k<>",
+    "(?<\u{1f600}>a)",
+    "(?<\u{301}>a)",
+    "[(?<x>a]\\k<x>",
+    // properties
+    "\\p",
+    "\\pL",
+    "\\p{",
+    "\\p{L",
+    "\\p{}",
+    "\\p{=}",
+    "\\p{L=}",
+    "\\p{=L}",
+    "\\p{lu}",
+    "\\p{ Lu}",
+    "\\p{gc=Greek}",
+    "\\p{sc=Lu}",
+    "\\p{Greek}",
+    "\\p{gc}",
+    "\\p{Script}",
+    "\\p{alpha}",
+    "\\p{Alphabetic=Yes}",
+    "\\p{Lu Ll}",
+    "\\p{sc=}",
+    "\\p{Block=ASCII}",
+    "[\\p{Foo}]",
+    // classes
+    "[",
+    "[a",
+    "[a-",
+    "[^",
+    "[\\]",
+    "[a-\\d]",
+    "[\\d-a]",
+    "[\\p{L}-z]",
+    "[a--]",
+    "[\\B]",
+    "[\\1]",
+    "[\\k<a>]",
+    "[\\00]",
+    "[\\c]",
+    "[\\a]",
+    "[\\ud83d\\ude01-\\ud83d\\ude00]",
+    "[\u{e9}-\u{e0}]",
+    "[\u{6f22}-\u{e9}]",
+    "[\u{1f600}-\u{6f22}]",
+    "[\\u{41}-\\x40]",
+    "[\\ud800\\udc00-\\uFFFF]",
+];
+
+#[test]
+fn the_examples(rt: HostRuntime) -> Result<(), Fail> {
+    assert!(rt; is_regex("[0-9]{4}(?=-)"));
+    assert!(rt; is_regex(r"(?<year>\d{4})-\k<year>"));
+    assert!(rt; !is_regex(r"^\S\Z"));
+    Ok(())
+}
+
+#[test]
+fn the_rows(rt: HostRuntime) -> Result<(), Fail> {
+    for text in VALID {
+        assert!(rt; is_regex(text), "{text}");
+        assert!(rt; Format::Regex.accepts(text), "{text}");
+    }
+    for text in INVALID {
+        assert!(rt; !is_regex(text), "{text}");
+        assert!(rt; !Format::Regex.accepts(text), "{text}");
+    }
+    Ok(())
+}
+
+#[test]
+fn groups_are_nested_128_deep(rt: HostRuntime) -> Result<(), Fail> {
+    let mut text = "(".repeat(rt.alloc(), 128)?;
+    let ends = ")".repeat(rt.alloc(), 128)?;
+    text.push_str(ends.as_str())?;
+    assert!(rt; is_regex(text.as_str()));
+    let mut text = "(?:".repeat(rt.alloc(), 129)?;
+    text.push_str(ends.as_str())?;
+    text.push_str(")")?;
+    assert!(rt; !is_regex(text.as_str()));
+    Ok(())
+}
+
+/// The first letters of 128 names of two letters each.
+const LETTERS: &str = "abcdefghijklmnopqrstuvwxyzABCDEF";
+
+/// Adds a group for each of the names.
+fn push_names(text: &mut String) -> Result<(), Fail> {
+    for first in LETTERS.chars() {
+        for second in "abcd".chars() {
+            text.push_str("(?<")?;
+            text.push(first)?;
+            text.push(second)?;
+            text.push_str(">a)")?;
+        }
+    }
+    Ok(())
+}
+
+#[test]
+fn up_to_128_groups_have_names(rt: HostRuntime) -> Result<(), Fail> {
+    let mut text = String::new(rt.alloc());
+    push_names(&mut text)?;
+    assert!(rt; is_regex(text.as_str()));
+    text.push_str("(a)\\k<Fd>\\129")?;
+    assert!(rt; is_regex(text.as_str()));
+    text.push_str("(?<a>a)")?;
+    assert!(rt; !is_regex(text.as_str()));
+    Ok(())
+}
+
+#[test]
+fn the_last_of_128_names_is_there_twice(rt: HostRuntime) -> Result<(), Fail> {
+    let mut text = String::new(rt.alloc());
+    push_names(&mut text)?;
+    let text = text.as_str().replace(rt.alloc(), "<Fc>", "<Fd>")?;
+    assert!(rt; !is_regex(text.as_str()));
+    Ok(())
+}
+
+#[test]
+fn a_long_text_takes_little_time(rt: HostRuntime) -> Result<(), Fail> {
+    let mut text = "(a|[b-c]{1,2})\\1".repeat(rt.alloc(), 20_000)?;
+    assert!(rt; is_regex(text.as_str()));
+    text.push_str(")")?;
+    assert!(rt; !is_regex(text.as_str()));
+    Ok(())
+}
+
+#[test]
+fn many_references_take_little_time(rt: HostRuntime) -> Result<(), Fail> {
+    let mut text = "\\k<Fd>".repeat(rt.alloc(), 5_000)?;
+    push_names(&mut text)?;
+    assert!(rt; is_regex(text.as_str()));
+    Ok(())
+}
