@@ -1695,6 +1695,11 @@ DOCUMENTS = [
     ({"schema": '{"$ref":"http://a/b#/$defs/x"}', "common.json": '{"$id":"http://a/b",' + X[1:]}, ["-r", "common.json"], ["1"], [('"a"', "", "/$ref/type")]),
     ({"schema": '{"$ref":"d/b#/$defs/x"}', "d/common.json": '{"$id":"b",' + X[1:]}, ["-r", "d/common.json"], ["1"], [('"a"', "", "/$ref/type")]),
     ({"schema": '{"$ref":"http://a/b#/$defs/x"}', "common.json": '{"$id":"b",' + X[1:]}, ["-r", "http://a/c=common.json"], ["1"], [('"a"', "", "/$ref/type")]),
+    # Also by where it was found, if it has another URI of its own; in each draft.
+    *(({"schema": '{%s"$ref":"http://a/c"}' % draft, "common.json": '{"%s":"%s","type":"null"}' % (word, own)}, ["-r", "http://a/c=common.json"], ["null"], [("1", "", place)])
+      for draft, word in (("", "$id"), (NAMED_7 + ",", "$id"), ('"$schema":"http://json-schema.org/draft-04/schema#",', "id"))
+      for own, place in (("b", "/$ref/$ref/type"), ("http://b/d#", "/$ref/$ref/type"), ("c", "/$ref/type"), ("http://a/c#", "/$ref/type"))),
+    ({"schema": '{"$ref":"http://a/f/c.json"}', "f/c.json": '{"$id":"urn:x","type":"null"}'}, ["-r", "http://a/f=f"], ["null"], [("1", "", "/$ref/$ref/type")]),
     # Several of them, which refer to one another and to the schema; names, and resources within.
     ({"schema": '{"$ref":"a","$defs":{"n":{"type":"null"}}}', "a": '{"items":{"$ref":"b#b"}}', "b": '{"$defs":{"b":{"$anchor":"b","anyOf":[{"$ref":"schema#/$defs/n"},{"type":"array","$ref":"a"}]}}}'},
      ["-r", "a", "-r", "b"], ["[null,[]]", "1"], [("[1]", "/0", "/$ref/items/$ref/anyOf")]),

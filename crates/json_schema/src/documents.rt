@@ -10,13 +10,16 @@ use crate::names::{joined, located, plain, reference};
 use crate::tell_unknown;
 use crate::verdict::DEPTH_LIMIT;
 use std::alloc::{AllocError, Global};
+use std::collections::HashMap;
 use std::fs;
 use std::os::unix::fs::MetadataExt;
 use tinyjson::JsonValue;
 use tinyjson_cli::{Failure, Text, read_named};
 use tinyjson_schema_documents::{found_at, has_definition};
 use tinyjson_schema_drafts::Draft;
+use tinyjson_schema_keywords::{Keyword, schema_at};
 use tinyjson_schema_references::{Compound, embed};
+use uri_reference::{resolve, without_fragment};
 
 /// The schema of this file with the documents that the texts of `-r` name. A document that names no draft is read in the
 /// schema's. The schema was found at `/` and its file's name, so that they can refer to it.
@@ -54,6 +57,8 @@ struct Document {
     uri: String,
     /// The name of its file.
     file: String,
+    /// Whether the arguments say where it was found.
+    is_located: bool,
 }
 
 /// The document in this file: found at this URI, or else where the schema's file leads to it.
@@ -67,9 +72,14 @@ fn document_of(
     ensures uri { IfOk result (λ d. string_bytes d.uri
         ≡ document_uri schema.now (option_map (λ u. u.now) uri.entry) file.now) }
 {
+    let is_located = uri.is_some();
     let uri = document_uri(alloc, schema, uri, file)?;
     let file = String::from_str(alloc, file)?;
-    Ok(Document { uri, file })
+    Ok(Document {
+        uri,
+        file,
+        is_located,
+    })
 }
 
 fn document_uri(
@@ -124,6 +134,7 @@ fn add_files(
             Some(uri) => Document {
                 uri: joined(alloc, uri, name.as_str())?,
                 file,
+                is_located: true,
             },
             None => document_of(alloc, schema, None, file.as_str())?,
         };
@@ -158,7 +169,60 @@ fn with_file(
     }
     let tree = document_tree(rt, document.file.as_str())?;
     tell_unknown(rt, &tree)?;
-    Ok(embed(compound, uri, tree, default, rt.alloc())?)
+    let compound = embed(compound, uri, tree, default, rt.alloc())?;
+    if !document.is_located {
+        return Ok(compound);
+    }
+    match other_uri(rt.alloc(), &compound.tree, uri)? {
+        Some(own) => Ok(with_way(rt.alloc(), compound, uri, own)?),
+        None => Ok(compound),
+    }
+}
+
+/// The URI of the document that was found at this one, if it gives itself another by `$id` (Core, 8.2.1).
+fn other_uri(alloc: Global, schema: &JsonValue, uri: &str) -> Result<Option<String>, AllocError> {
+    let found = resolve(alloc, id_of(schema), uri)?;
+    let own = without_fragment(document_id(schema, uri));
+    if own.is_empty() || own == without_fragment(found.as_str()) {
+        return Ok(None);
+    }
+    Ok(Some(String::from_str(alloc, own)?))
+}
+
+/// The `$id` of the document that was found at this URI.
+fn document_id<'s>(schema: &'s JsonValue, uri: &str) -> &'s str {
+    let Some(JsonValue::Object(documents)) = schema_at(schema, Keyword::Defs) else {
+        return "";
+    };
+    match documents.get(uri) {
+        Some(document) => id_of(document),
+        None => "",
+    }
+}
+
+fn id_of(schema: &JsonValue) -> &str {
+    match schema_at(schema, Keyword::Id) {
+        Some(JsonValue::String(id)) => id.as_str(),
+        _ => "",
+    }
+}
+
+/// The schema with a resource at this URI that refers to the other one.
+fn with_way(
+    alloc: Global,
+    compound: Compound,
+    uri: &str,
+    other: String,
+) -> Result<Compound, AllocError> {
+    let mut key = String::from_str(alloc, uri)?;
+    key.push('#')?;
+    let mut way = HashMap::new(alloc);
+    let empty = JsonValue::String(String::new(alloc));
+    way.insert(String::from_str(alloc, Keyword::Id.name())?, empty)?;
+    let other = JsonValue::String(other);
+    way.insert(String::from_str(alloc, Keyword::Ref.name())?, other)?;
+    let way = JsonValue::Object(way);
+    embed(compound, key.as_str(), way, Draft::Draft202012, alloc)
 }
 
 /// Parses a document's file. Not inlined, so that a later check has all of the stack.
