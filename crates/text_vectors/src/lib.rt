@@ -1,7 +1,9 @@
-//! Tests of `i_regexp`, `marked_regexp`, `general_category`, `uri_reference` and `text_formats`: the
-//! examples of their documentation, and what none of their contracts says.
+//! Tests of `i_regexp`, `marked_regexp`, `ecma_regexp`, `general_category`, `uri_reference` and
+//! `text_formats`: the examples of their documentation, and what none of their contracts says.
 #![tactic(auto)]
 
+#[cfg(test)]
+mod assertions;
 #[cfg(test)]
 mod building;
 #[cfg(test)]

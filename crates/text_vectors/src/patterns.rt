@@ -243,164 +243,12 @@ const ROWS: &[(&str, &str, bool)] = &[
     ("^.$", "\u{85}", true),
 ];
 
-/// Patterns with look-aheads, and with assertions elsewhere than at their ends.
-const ASSERTIONS: &[(&str, &str, bool)] = &[
-    // look-aheads behind a `^`
-    ("^(?!aws:).+$", "aws:x", false),
-    ("^(?!aws:).+$", "xaws:x", true),
-    ("^(?!aws:).+$", "", false),
-    ("^(?!\\s*$).+$", "  ", false),
-    ("^(?!\\s*$).+$", " a", true),
-    (
-        "^(?!servicenetwork-)(?![-])(?!.*[-]$)(?!.*[-]{2})[a-z0-9-]+$",
-        "a-b",
-        true,
-    ),
-    (
-        "^(?!servicenetwork-)(?![-])(?!.*[-]$)(?!.*[-]{2})[a-z0-9-]+$",
-        "servicenetwork-a",
-        false,
-    ),
-    (
-        "^(?!servicenetwork-)(?![-])(?!.*[-]$)(?!.*[-]{2})[a-z0-9-]+$",
-        "-a",
-        false,
-    ),
-    (
-        "^(?!servicenetwork-)(?![-])(?!.*[-]$)(?!.*[-]{2})[a-z0-9-]+$",
-        "a-",
-        false,
-    ),
-    (
-        "^(?!servicenetwork-)(?![-])(?!.*[-]$)(?!.*[-]{2})[a-z0-9-]+$",
-        "a--b",
-        false,
-    ),
-    ("^(?=.*\\d)(?=.*[a-z]).{8,}$", "abcdefg1", true),
-    ("^(?=.*\\d)(?=.*[a-z]).{8,}$", "abcdefgh", false),
-    ("^(?=.*\\d)(?=.*[a-z]).{8,}$", "12345678", false),
-    ("^(?=.*\\d)(?=.*[a-z]).{8,}$", "abc1", false),
-    ("^(?=a$|b)", "a", true),
-    ("^(?=a$|b)", "ac", false),
-    ("^(?=a$|b)", "bc", true),
-    ("^(?=a$|b)", "cb", false),
-    ("^(?!a$|b)", "a", false),
-    ("^(?!a$|b)", "ac", true),
-    ("^(?!a$|b)", "bc", false),
-    ("^(?!^[0-9]+$)[a-z0-9]+$", "12", false),
-    ("^(?!^[0-9]+$)[a-z0-9]+$", "1a", true),
-    ("^(?!a)^b", "b", true),
-    ("^(?!a)^b", "ab", false),
-    ("^(?!a)", "b", true),
-    ("^(?!a)", "a", false),
-    ("^(?!a)", "", true),
-    ("^(?!)", "a", false),
-    ("^(?=)", "a", true),
-    ("^(?=(a|b)+$)a", "abb", true),
-    ("^(?=(a|b)+$)a", "abc", false),
-    ("^(?!x)a|b", "xb", true),
-    ("^(?!x)a|^(?!y)b", "b", true),
-    ("^(?!x)a|^(?!y)b", "ab", true),
-    ("^(?!x)a|^(?!y)b", "xa", false),
-    ("b|^(?=a)", "ca", false),
-    ("b|^(?=a)", "ac", true),
-    ("^(?=a)b", "ab", false),
-    ("^(?!a$)a", "a", false),
-    ("^(?!a$)a", "ab", true),
-    ("^(?=a\\n)", "a\n", true),
-    ("^(?!a$)", "a\n", true),
-    ("^(?![\\)])\\(", "(", true),
-    ("^(?=[)])", "x)", false),
-    ("^(?=[)])", ")x", true),
-    // assertions inside of groups, and elsewhere than at the ends of branches (ECMA-262, 22.2.2.4)
-    ("(^a|b$)", "ab", true),
-    ("(^a|b$)", "xab", true),
-    ("(^a|b$)", "xax", false),
-    ("(?:^a|b)$", "a", true),
-    ("(?:^a|b)$", "xa", false),
-    ("(?:^a|b)$", "xb", true),
-    ("(?:^a|b)$", "bx", false),
-    ("(^|,)x(,|$)", "x", true),
-    ("(^|,)x(,|$)", "a,x", true),
-    ("(^|,)x(,|$)", "x,b", true),
-    ("(^|,)x(,|$)", "ax", false),
-    ("(^|,)x(,|$)", "xb", false),
-    ("(^)a|b", "xa", false),
-    ("(^)a|b", "xb", true),
-    ("a(b|$)", "a", true),
-    ("a(b|$)", "ac", false),
-    ("((^))a", "a", true),
-    ("((^))a", "ba", false),
-    ("a^b", "ab", false),
-    ("a^b", "a", false),
-    ("a|c^b", "xa", true),
-    ("a$b", "ab", false),
-    ("a$b|c", "xc", true),
-    ("a$|b", "bc", true),
-    ("a$|b", "ac", false),
-    ("^^a$$", "a", true),
-    ("^^a", "ba", false),
-    ("a$$", "ab", false),
-    ("$^", "", true),
-    ("$^", "a", false),
-    ("^$a", "a", false),
-    ("^a?$b?", "a", true),
-    ("^a?$b?", "ab", false),
-    ("(^a)?b", "xb", true),
-    ("(^a)*b", "ab", true),
-    ("(^a){2}b", "aab", false),
-    ("(?:^|a)+b", "aab", true),
-    ("(a|^)(b|^)c", "c", true),
-    ("(a|^)(b|^)c", "bc", true),
-    ("(a|^)(b|^)c", "xc", false),
-    ("x*(^|y)z", "xz", false),
-    ("x*(^|y)z", "xyz", true),
-    ("x*(^|y)z", "az", false),
-    // words begin and end
-    ("\\bfoo\\b", "a foo!", true),
-    ("\\bfoo\\b", "foo", true),
-    ("\\bfoo\\b", "afoo", false),
-    ("\\bfoo\\b", "foob", false),
-    ("\\bfoo\\b", "foo_", false),
-    ("\\bfoo\\b", "foo9", false),
-    ("\\bfoo\\b", "\u{e9}foo\u{e9}", true),
-    ("\\Boo", "foo", true),
-    ("\\Boo", "oo", false),
-    ("\\Boo", " oo", false),
-    ("^\\B$", "", true),
-    ("^\\b$", "", false),
-    ("\\b", "", false),
-    ("\\b", " ", false),
-    ("\\b", " a", true),
-    ("\\B", "a", false),
-    ("\\B", "ab", true),
-    ("a\\b", "a", true),
-    ("a\\b", "ab", false),
-    ("a\\B", "ab", true),
-    ("a\\B", "a", false),
-    ("a\\bb", "ab", false),
-    ("a\\b\\b-\\B", "a-", true),
-    ("^(?:\\b|-)a", "a", true),
-    ("^(?:\\b|-)a", "-a", true),
-    ("^(?:\\b|-)a", "_a", false),
-    ("^(\\w+\\b ?)+$", "ab cd", true),
-    ("(\\b)*a", "ba", true),
-    ("[A-Z]\\b", "Z1", false),
-    ("[A-Z]\\b", "Z", true),
-    // in look-aheads, and behind them
-    ("^(?=a$b)c", "ab", false),
-    ("^(?=(a|^)b)b", "b", true),
-    ("^(?!\\w+\\b-)", "ab-", false),
-    ("^(?!\\w+\\b-)", "ab", true),
-    ("^(?!(^a|b$))", "ab", false),
-    ("^(?!(^a|b$))", "cb", true),
-    ("^(?=a)a\\b", "a-", true),
-    ("^(?=a)a\\b", "ab", false),
-    ("^(?=a)(^|x)a", "a", true),
-];
-
 /// Whether the pattern is found in the text; `None` if another answer comes when it is asked again.
-fn found_in(alloc: Global, pattern: &str, text: &str) -> Result<Option<bool>, SchemaPatternError> {
+pub fn found_in(
+    alloc: Global,
+    pattern: &str,
+    text: &str,
+) -> Result<Option<bool>, SchemaPatternError> {
     let mut pattern = SchemaPattern::parse(alloc, pattern)?;
     let found = pattern.is_found_in(text);
     Ok((pattern.is_found_in(text) == found).then_some(found))
@@ -409,15 +257,6 @@ fn found_in(alloc: Global, pattern: &str, text: &str) -> Result<Option<bool>, Sc
 #[test]
 fn rows(rt: HostRuntime) -> Result<(), Fail> {
     for &(pattern, text, found) in ROWS {
-        let answer = found_in(rt.alloc(), pattern, text)?;
-        assert!(rt; answer == Some(found), "{pattern} in {text}");
-    }
-    Ok(())
-}
-
-#[test]
-fn assertions(rt: HostRuntime) -> Result<(), Fail> {
-    for &(pattern, text, found) in ASSERTIONS {
         let answer = found_in(rt.alloc(), pattern, text)?;
         assert!(rt; answer == Some(found), "{pattern} in {text}");
     }
