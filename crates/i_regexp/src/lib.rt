@@ -25,6 +25,7 @@ mod search;
 mod token;
 
 pub use error::{IRegexpError, IRegexpErrorKind};
+pub use marked_regexp::Work;
 pub use pattern::SchemaPattern;
 pub use pattern_error::{SchemaPatternError, SchemaPatternErrorKind};
 pub use regexp::IRegexp;

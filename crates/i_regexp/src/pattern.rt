@@ -1,7 +1,8 @@
 //! A parsed pattern of JSON Schema.
-ghost use Rattle.std.specs.Prelude.{◌≡◌, ◌↔◌, IsTrue};
+ghost use Rattle.std.specs.Prelude.{◌≡◌, ◌↔◌, IsTrue, IfSome};
 ghost use Rattle.std.specs.Str.{chars};
 ghost use Rattle.marked_regexp.specs.Forms.{Matches};
+ghost use Rattle.marked_regexp.specs.Work.{Spends};
 
 use crate::cases::Case;
 use crate::outermost::read_pattern;
@@ -9,6 +10,7 @@ use crate::pattern_error::{SchemaPatternError, SchemaPatternErrorKind};
 use crate::refusal::refusal;
 use crate::regexp::characters;
 use crate::search::any_found;
+use marked_regexp::Work;
 use std::alloc::Global;
 
 /// A pattern of JSON Schema, in the dialect that the standard recommends (Core 2020-12, 6.4), with
@@ -67,6 +69,24 @@ impl SchemaPattern {
         ensures found { IsTrue result ↔ Matches (texts_of self.old) (chars text.now) }
         ensures same { texts_of self.new ≡ texts_of self.old }
     {
-        any_found(self.cases.as_mut_slice(), text)
+        self.is_found_within(text, &mut Work::Unlimited)
+            .unwrap_or(false)
+    }
+
+    /// Whether the pattern matches a part of the text, as `is_found_in` does; `None` if that takes
+    /// more work than is left. What it takes is taken from the work; without an answer, all is.
+    ///
+    /// ```
+    /// let mut digits = SchemaPattern::parse(alloc, "\\d{3}")?;
+    /// assert!(rt; digits.is_found_within("no 404", &mut Work::AtMost(9_000)) == Some(true));
+    /// assert!(rt; digits.is_found_within("no 405", &mut Work::AtMost(0)).is_none());
+    /// ```
+    pub fn is_found_within(&mut self, text: &str, work: &mut Work) -> Option<bool>
+        ensures found { IfSome result
+            (λ b. IsTrue b ↔ Matches (texts_of self.old) (chars text.now)) }
+        ensures same { texts_of self.new ≡ texts_of self.old }
+        ensures work { Spends work.old result work.new }
+    {
+        any_found(self.cases.as_mut_slice(), text, work)
     }
 }

@@ -6,3 +6,4 @@ pub mod Callers
 pub mod Rereading
 pub mod Automata
 pub mod Placing
+pub mod Works

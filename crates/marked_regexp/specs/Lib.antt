@@ -3,3 +3,4 @@ pub mod Marked
 pub mod Building
 pub mod Automata
 pub mod Automaton
+pub mod Work

@@ -6,10 +6,13 @@ ghost use Rattle.marked_regexp.specs.Automata.{Knows, LeadsTo, row_reads};
 ghost use Rattle.marked_regexp.specs.Building.{form_of};
 ghost use Rattle.marked_regexp.specs.Forms.{Matches};
 ghost use Rattle.marked_regexp.specs.Marked.{is_plain, placed, reads};
+ghost use Rattle.marked_regexp.specs.Work.{Spends};
+ghost use Rattle.marked_regexp.specs.declared.work.Work.{Work};
 
 use crate::expression::Expression;
 use crate::run::matches_whole;
 use crate::state::State;
+use crate::work::Work;
 use std::alloc::Global;
 use std::collections::HashMap;
 
@@ -82,26 +85,45 @@ impl Automaton {
         ensures matched { IsTrue result ↔ Matches (form_of self.old.expression) (chars text.now) }
         ensures same { form_of self.new.expression ≡ form_of self.old.expression }
     {
+        self.matches_within(text, &mut Work::Unlimited)
+            .unwrap_or(false)
+    }
+
+    /// Whether it matches the whole text; `None` if that takes more work than is left. Steps that it remembers take no
+    /// work. What it takes is taken from the work; without an answer, all is.
+    ///
+    /// ```
+    /// let mut word = Automaton::new(alloc, Expression::star(alloc, letter)?);
+    /// assert!(rt; word.matches_within("abba", &mut Work::AtMost(1_000)) == Some(true));
+    /// assert!(rt; word.matches_within("cabbage", &mut Work::AtMost(0)).is_none());
+    /// ```
+    pub fn matches_within(&mut self, text: &str, work: &mut Work) -> Option<bool>
+        ensures matched { IfSome result
+            (λ b. IsTrue b ↔ Matches (form_of self.old.expression) (chars text.now)) }
+        ensures same { form_of self.new.expression ≡ form_of self.old.expression }
+        ensures work { Spends work.old result work.new }
+    {
         let plain = self.expression.plain;
         if !plain {
-            return matches_whole(&mut self.expression.root, plain, text);
+            return matches_whole(&mut self.expression.root, plain, text, work);
         }
-        match self.judge(text) {
-            Some(matches) => matches,
-            None => matches_whole(&mut self.expression.root, plain, text),
+        match self.judge(text, work) {
+            Some(matches) => Some(matches),
+            None => matches_whole(&mut self.expression.root, plain, text, work),
         }
     }
 
     /// Whether it matches the whole text, as far as the steps lead.
-    fn judge(&mut self, text: &str) -> Option<bool>
+    fn judge(&mut self, text: &str, work: &mut Work) -> Option<bool>
         requires plain { is_plain self.old.expression.root ≡ true }
         ensures matched { IfSome result (λ b. b
             ≡ reads true self.old.expression.root (chars text.now)) }
         ensures same { self.new.expression.root ≡ self.old.expression.root }
+        ensures unlimited { work.old ≡ Work.Unlimited → work.new ≡ Work.Unlimited }
     {
         let mut row = 0;
         for c in text.chars() {
-            row = self.step(row, c)?;
+            row = self.step(row, c, work)?;
             if let Some(matches) = self.verdict(row) {
                 return Some(matches);
             }
@@ -137,9 +159,10 @@ impl Automaton {
 
     /// The row after the character.
     #[inline(always)]
-    fn step(&mut self, row: usize, c: char) -> Option<usize>
+    fn step(&mut self, row: usize, c: char, work: &mut Work) -> Option<usize>
         requires { row ≤ length self.old.states.items }
         ensures same { self.new.expression.root ≡ self.old.expression.root }
+        ensures unlimited { work.old ≡ Work.Unlimited → work.new ≡ Work.Unlimited }
         ensures next { IfSome result (λ next. LeadsTo self.old.expression.root self.old.states.items
             self.new.states.items row c next) }
     {
@@ -151,15 +174,16 @@ impl Automaton {
         if known > 0 {
             return Some(known as usize);
         }
-        self.grow(row, c)
+        self.grow(row, c, work)
     }
 
     /// The row after a character of ASCII, which is found by the marks, and then kept.
     #[inline(never)]
-    fn grow(&mut self, row: usize, c: char) -> Option<usize>
+    fn grow(&mut self, row: usize, c: char, work: &mut Work) -> Option<usize>
         requires row { row ≤ length self.old.states.items }
         requires ascii { c < 128 }
         ensures same { self.new.expression.root ≡ self.old.expression.root }
+        ensures unlimited { work.old ≡ Work.Unlimited → work.new ≡ Work.Unlimited }
         ensures next { IfSome result (λ next. LeadsTo self.old.expression.root self.old.states.items
             self.new.states.items row c next) }
     {
@@ -168,6 +192,7 @@ impl Automaton {
         }
         self.make_room();
         let state = self.moved(row, c)?;
+        work.take(state.marks.len().saturating_mul(4).saturating_add(64))?;
         let next = self.row_of(state)?;
         self.put(row, c, next);
         Some(next)

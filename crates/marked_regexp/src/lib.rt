@@ -16,8 +16,10 @@ mod expression;
 mod marked;
 mod run;
 mod state;
+mod work;
 
 pub use assertion::Assertion;
 pub use automaton::Automaton;
 pub use class::{Class, Item};
 pub use expression::Expression;
+pub use work::Work;

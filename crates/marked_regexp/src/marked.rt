@@ -360,12 +360,18 @@ impl Node {
     }
 
     /// Places the assertions, and what the tree keeps, between the two characters. Returns whether
-    /// the empty text is matched here, and whether the text can end here.
-    pub(crate) fn stand(&mut self, before: Option<char>, after: Option<char>) -> (bool, bool)
+    /// the empty text is matched here, and whether the text can end here. Counts what is looked at.
+    pub(crate) fn stand(
+        &mut self,
+        before: Option<char>,
+        after: Option<char>,
+        seen: &mut usize,
+    ) -> (bool, bool)
         ensures stood { self.new ≡ standing before after self.old }
         ensures skips { result.0 ≡ skips self.new }
         ensures ends { result.1 ≡ ends_here self.new }
     {
+        look(seen, 1);
         match self {
             Node::Empty => (true, false),
             Node::Class { mark, .. } => (false, *mark),
@@ -381,20 +387,20 @@ impl Node {
                 left_ends,
                 ..
             } => {
-                let (skips, ends) = left.stand(before, after);
+                let (skips, ends) = left.stand(before, after, seen);
                 *left_empty = skips;
                 *left_ends = ends;
-                let (ends_empty, found) = right.stand(before, after);
+                let (ends_empty, found) = right.stand(before, after, seen);
                 *right_empty = ends_empty;
                 (skips & ends_empty, found | (ends & ends_empty))
             }
             Node::Alternation { left, right, .. } => {
-                let (left_empty, left_ends) = left.stand(before, after);
-                let (right_empty, right_ends) = right.stand(before, after);
+                let (left_empty, left_ends) = left.stand(before, after, seen);
+                let (right_empty, right_ends) = right.stand(before, after, seen);
                 (left_empty | right_empty, left_ends | right_ends)
             }
             Node::Star { body, body_ends } => {
-                let (_skips, ends) = body.stand(before, after);
+                let (_skips, ends) = body.stand(before, after, seen);
                 *body_ends = ends;
                 (true, ends)
             }
@@ -405,7 +411,7 @@ impl Node {
     /// Moves the marks over a character, as `shift` does. Where the text does not begin here and
     /// there is no mark, nothing is done.
     #[cycle(shift)]
-    fn step(&mut self, marked: bool, start: bool, c: char) -> (bool, bool)
+    fn step(&mut self, marked: bool, start: bool, c: char, seen: &mut usize) -> (bool, bool)
         requires kept { IsKept self.old }
         requires marked { marked ≡ is_marked self.old }
         ensures marks { self.new ≡ shifted start c self.old }
@@ -415,22 +421,24 @@ impl Node {
         if !(start | marked) {
             return (false, false);
         }
-        self.shift(start, c)
+        self.shift(start, c, seen)
     }
 
     /// Moves the marks over a character, each to the classes that may follow. With `start`, the
     /// text may also begin with this character. Returns whether the text can end after it, and
-    /// whether there is a mark.
+    /// whether there is a mark. Counts the parts, and the items of classes, that are looked at.
     #[cycle(shift)]
-    pub(crate) fn shift(&mut self, start: bool, c: char) -> (bool, bool)
+    pub(crate) fn shift(&mut self, start: bool, c: char, seen: &mut usize) -> (bool, bool)
         requires { IsKept self.old }
         ensures marks { self.new ≡ shifted start c self.old }
         ensures ends { result.0 ≡ ends_here self.new }
         ensures marked { result.1 ≡ is_marked self.new }
     {
+        look(seen, 1);
         match self {
             Node::Empty | Node::Assert { .. } => (false, false),
             Node::Class { class, mark } => {
+                look(seen, if start { class.items.len() } else { 0 });
                 *mark = start && class.contains(c);
                 (*mark, *mark)
             }
@@ -444,10 +452,10 @@ impl Node {
                 right_marked,
             } => {
                 let enters = *left_ends | (start & *left_empty);
-                let (ends, goes_left) = left.step(*left_marked, start, c);
+                let (ends, goes_left) = left.step(*left_marked, start, c, seen);
                 *left_ends = ends;
                 *left_marked = goes_left;
-                let (found, goes_right) = right.step(*right_marked, enters, c);
+                let (found, goes_right) = right.step(*right_marked, enters, c, seen);
                 *right_marked = goes_right;
                 (found | (ends & *right_empty), goes_left | goes_right)
             }
@@ -457,23 +465,30 @@ impl Node {
                 left_marked,
                 right_marked,
             } => {
-                let (left_ends, goes_left) = left.step(*left_marked, start, c);
+                let (left_ends, goes_left) = left.step(*left_marked, start, c, seen);
                 *left_marked = goes_left;
-                let (right_ends, goes_right) = right.step(*right_marked, start, c);
+                let (right_ends, goes_right) = right.step(*right_marked, start, c, seen);
                 *right_marked = goes_right;
                 (left_ends | right_ends, goes_left | goes_right)
             }
             Node::Star { body, body_ends } => {
-                let (ends, marked) = body.shift(start | *body_ends, c);
+                let (ends, marked) = body.shift(start | *body_ends, c, seen);
                 *body_ends = ends;
                 (ends, marked)
             }
             Node::UpTo { class, most, left } => {
+                look(seen, class.items.len());
                 *left = fewer(class, if start { Some(*most) } else { *left }, c);
                 (left.is_some(), left.is_some())
             }
         }
     }
+}
+
+/// Counts what is looked at.
+#[inline(always)]
+fn look(seen: &mut usize, more: usize) {
+    *seen = seen.wrapping_add(more);
 }
 
 /// The count as a number of a list, if it fits.

@@ -35,7 +35,7 @@ impl State {
             ≡ reads start (placed tree.old marks.now) (c ∷ cs)) }
     {
         let _rest = tree.set_marks(marks);
-        let (ends, marked) = tree.shift(start, c);
+        let (ends, marked) = tree.shift(start, c, &mut 0);
         let verdict = verdict_of(tree, marked);
         let mut marks = Vec::new(alloc);
         let listed = tree.list_marks(&mut marks);

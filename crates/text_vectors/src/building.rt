@@ -1,6 +1,6 @@
 //! The examples of `marked_regexp`, to the letter.
 
-use marked_regexp::{Assertion, Automaton, Class, Expression, Item};
+use marked_regexp::{Assertion, Automaton, Class, Expression, Item, Work};
 use std::alloc::{AllocError, Global};
 use std::test::Fail;
 
@@ -144,6 +144,84 @@ fn automaton_of_letters(rt: HostRuntime) -> Result<(), Fail> {
     assert!(rt; word.matches("αβ"));
     assert!(rt; word.matches("abβα"));
     assert!(rt; !word.matches("aBba"));
+    Ok(())
+}
+
+/// Of `Work`.
+#[test]
+fn work_of_a_digit(rt: HostRuntime) -> Result<(), Fail> {
+    let alloc = rt.alloc();
+    let mut digit = Expression::one_of(Class::single(alloc, Item::Range('0', '9'))?);
+    let mut work = Work::AtMost(1_000);
+    assert!(rt; digit.matches_within("7", &mut work) == Some(true));
+    assert!(rt; digit.matches_within("7", &mut Work::AtMost(0)).is_none());
+    assert!(rt; matches!(work, Work::AtMost(900..=999)));
+    assert!(rt; digit.matches_within("a77777", &mut Work::AtMost(9)) == Some(false));
+    assert!(rt; digit.matches_within("", &mut Work::AtMost(0)) == Some(false));
+    Ok(())
+}
+
+/// Of `Work`: at each character a repetition, its class and the item of that are looked at.
+#[test]
+fn work_of_many_digits(rt: HostRuntime) -> Result<(), Fail> {
+    let alloc = rt.alloc();
+    let digit = Expression::one_of(Class::single(alloc, Item::Range('0', '9'))?);
+    let mut digits = Expression::star(alloc, digit)?;
+    let mut text = String::new(alloc);
+    for _i in 0..1_000 {
+        text.push('7')?;
+    }
+    let text = text.as_str();
+    assert!(rt; digits.matches_within(text, &mut Work::AtMost(4_000)) == Some(true));
+    assert!(rt;
+        digits
+            .matches_within(text, &mut Work::AtMost(2_000))
+            .is_none()
+    );
+    let mut unlimited = Work::Unlimited;
+    assert!(rt; digits.matches_within(text, &mut unlimited) == Some(true));
+    assert!(rt; matches!(unlimited, Work::Unlimited));
+    Ok(())
+}
+
+/// Of `Expression::matches_within`.
+#[test]
+fn work_of_an_expression(rt: HostRuntime) -> Result<(), Fail> {
+    let alloc = rt.alloc();
+    let mut digit = Expression::one_of(Class::single(alloc, Item::Range('0', '9'))?);
+    assert!(rt; digit.matches_within("7", &mut Work::AtMost(100)) == Some(true));
+    assert!(rt; digit.matches_within("7", &mut Work::AtMost(0)).is_none());
+    Ok(())
+}
+
+/// Of `Expression::matches_within`, of an expression with an assertion.
+#[test]
+fn work_of_an_assertion(rt: HostRuntime) -> Result<(), Fail> {
+    let alloc = rt.alloc();
+    let digit = Expression::one_of(Class::single(alloc, Item::Range('0', '9'))?);
+    let digits = Expression::star(alloc, digit)?;
+    let end = Expression::assertion(Assertion::End);
+    let mut last = Expression::concat(alloc, digits, end)?;
+    assert!(rt; last.matches_within("777", &mut Work::AtMost(100)) == Some(true));
+    assert!(rt; last.matches_within("777", &mut Work::AtMost(9)).is_none());
+    assert!(rt; last.matches_within("77a", &mut Work::AtMost(100)) == Some(false));
+    Ok(())
+}
+
+/// Of `Automaton::matches_within`. A step that is remembered takes no work.
+#[test]
+fn work_of_an_automaton(rt: HostRuntime) -> Result<(), Fail> {
+    let alloc = rt.alloc();
+    let letter = Expression::one_of(Class::single(alloc, Item::Range('a', 'b'))?);
+    let mut word = Automaton::new(alloc, Expression::star(alloc, letter)?);
+    assert!(rt; word.matches_within("abba", &mut Work::AtMost(1_000)) == Some(true));
+    assert!(rt;
+        word.matches_within("cabbage", &mut Work::AtMost(0))
+            .is_none()
+    );
+    assert!(rt; word.matches_within("abba", &mut Work::AtMost(0)) == Some(true));
+    assert!(rt; word.matches_within("αβ", &mut Work::AtMost(0)).is_none());
+    assert!(rt; word.matches_within("αβ", &mut Work::AtMost(1_000)) == Some(false));
     Ok(())
 }
 

@@ -2,7 +2,7 @@
 //! refused, why, and where.
 
 use i_regexp::SchemaPatternErrorKind::{Invalid, Outside, TooLarge};
-use i_regexp::{SchemaPattern, SchemaPatternError, SchemaPatternErrorKind};
+use i_regexp::{SchemaPattern, SchemaPatternError, SchemaPatternErrorKind, Work};
 use std::alloc::Global;
 use std::string::ToString;
 use std::test::Fail;
@@ -421,6 +421,28 @@ fn digits(rt: HostRuntime) -> Result<(), Fail> {
     let mut word = SchemaPattern::parse(alloc, "\\bno(\\b|$)")?;
     assert!(rt; word.is_found_in("no 404 here"));
     assert!(rt; !word.is_found_in("none here"));
+    Ok(())
+}
+
+/// Of `SchemaPattern::is_found_within`. Each look-ahead and each branch takes its work.
+#[test]
+fn work_of_a_pattern(rt: HostRuntime) -> Result<(), Fail> {
+    let alloc = rt.alloc();
+    let mut digits = SchemaPattern::parse(alloc, "\\d{3}")?;
+    assert!(rt; digits.is_found_within("no 404", &mut Work::AtMost(9_000)) == Some(true));
+    assert!(rt;
+        digits
+            .is_found_within("no 405", &mut Work::AtMost(0))
+            .is_none()
+    );
+    let mut other = SchemaPattern::parse(alloc, "^(?!α)ω|β")?;
+    assert!(rt; other.is_found_within("ω", &mut Work::AtMost(9_000)) == Some(true));
+    assert!(rt; other.is_found_within("ββ", &mut Work::AtMost(9_000)) == Some(true));
+    assert!(rt; other.is_found_within("αα", &mut Work::AtMost(9_000)) == Some(false));
+    assert!(rt; other.is_found_within("α", &mut Work::AtMost(0)).is_none());
+    let mut unlimited = Work::Unlimited;
+    assert!(rt; other.is_found_within("ω", &mut unlimited) == Some(true));
+    assert!(rt; matches!(unlimited, Work::Unlimited));
     Ok(())
 }
 

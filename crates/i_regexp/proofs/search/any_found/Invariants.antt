@@ -2,8 +2,12 @@ use Rattle.std.proofs.Common.{◌≡◌, map, take}
 use Rattle.std.specs.Str.{chars}
 use Rattle.i_regexp.specs.PatternTexts.{case_text}
 use Rattle.i_regexp.proofs.CaseTexts.{NoneMatch}
+use Rattle.marked_regexp.specs.declared.work.Work.TheVariants.{Unlimited}
 use Rattle.i_regexp.proofs.search.any_found.Given as goal
 
 abbrev pub invariant-loop-case : goal.invariant-loop-case
-invariant-loop-case l = (map case_text l.cases ≡ map case_text l.fn.cases)
-    × NoneMatch (take l.case-index (map case_text l.fn.cases)) (chars l.fn.text)
+invariant-loop-case l = record {
+  same : map case_text l.cases ≡ map case_text l.fn.cases;
+  texts : NoneMatch (take l.case-index (map case_text l.fn.cases)) (chars l.fn.text);
+  work : l.fn.work ≡ Unlimited → l.work ≡ Unlimited;
+}

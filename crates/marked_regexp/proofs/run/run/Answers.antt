@@ -1,4 +1,4 @@
-use Rattle.std.proofs.Common.{◌∙◌, ap, sym, subst}
+use Rattle.std.proofs.Common.{true, false, ◌∙◌, ap, sym, subst}
 use Rattle.std.proofs.lemmas.Str.{chars_past_char, IsUtf8-past_char}
 use Rattle.std.proofs.StrCases.{chars_of_empty}
 use Rattle.std.specs.Str.{chars, IsUtf8}
@@ -6,6 +6,7 @@ use Rattle.std.specs.Str.Iter.{chars_rest}
 use Rattle.marked_regexp.specs.Marked.{cleared}
 use Rattle.marked_regexp.proofs.Running.{whole_init, whole_step, whole_end, whole_settled, whole_unmarked, cleared_unmarked}
 use Rattle.marked_regexp.proofs.Placing.{cleared_shifted}
+use Rattle.marked_regexp.proofs.Works.{spends_none, spends_some, stays_less}
 use Rattle.marked_regexp.proofs.run.run.Goals as goal
 
 pub loop-c-init : goal.loop-c-init
@@ -18,6 +19,7 @@ loop-c-init c =
       whole = whole_init root c.skips-ends.result front text c.requires.kept c.requires.unmarked c.requires.plain c.skips-ends.ensures
           (ap chars rest);
       same = sym (cleared_unmarked root c.requires.kept c.requires.unmarked);
+      work = λ h. h;
     }
 
 pub loop-c-preserved : goal.loop-c-preserved
@@ -28,6 +30,7 @@ loop-c-preserved c =
       whole = whole_step _ _ _ _ _ _ c.in-Some.c _ _ _ held.whole
           (chars_past_char _ _ c.in-Some.c held.utf8 parts) c.shift-found.ensures.marks c.shift-found.ensures.ends;
       same = ap cleared c.shift-found.ensures.marks ∙ (cleared_shifted c.loop-c.root _ _ ∙ held.same);
+      work = stays_less _ _ _ _ c.loop-c.invariant.work c.take.ensures.rest;
     }
 
 pub returns-then-not-marked-clause-kept : goal.returns-then-not-marked-clause-kept
@@ -71,3 +74,16 @@ returns-clause-same c = c.loop-c.invariant.same
 pub returns-clause-matched : goal.returns-clause-matched
 returns-clause-matched c =
     whole_end _ _ _ _ _ _ c.loop-c.invariant.whole (chars_of_empty (chars_rest c.loop-c.c-iterator) c.in-None.ensures.steps.0.0)
+
+pub returns-then-not-marked-clause-work : goal.returns-then-not-marked-clause-work
+returns-then-not-marked-clause-work c = spends_some _ _ false (stays_less _ _ _ _ c.loop-c.invariant.work c.take.ensures.rest)
+
+pub returns-then-is_settled-clause-work : goal.returns-then-is_settled-clause-work
+returns-then-is_settled-clause-work c = spends_some _ _ true (stays_less _ _ _ _ c.loop-c.invariant.work c.take.ensures.rest)
+
+pub returns-clause-work : goal.returns-clause-work
+returns-clause-work c = spends_some _ _ c.loop-c.ends c.loop-c.invariant.work
+
+pub returns-then-is_none-clause-work : goal.returns-then-is_none-clause-work
+returns-then-is_none-clause-work c =
+    spends_none _ _ _ _ _ _ c.loop-c.invariant.work c.take.ensures.enough c.if-is_none.ensures c.take.ensures.rest

@@ -1,4 +1,4 @@
-use Rattle.std.proofs.Common.{◌∙◌, ◌↔◌, ◌||◌, ◌&&◌, IsTrue, None, ap, sym, subst}
+use Rattle.std.proofs.Common.{false, ◌∙◌, ◌↔◌, ◌||◌, ◌&&◌, IsTrue, None, ap, sym, subst}
 use Rattle.std.proofs.lemmas.Str.{chars_past_char, IsUtf8-past_char}
 use Rattle.std.proofs.StrCases.{chars_of_empty}
 use Rattle.std.specs.Str.{chars, IsUtf8}
@@ -7,6 +7,7 @@ use Rattle.marked_regexp.specs.Forms.{Matches}
 use Rattle.marked_regexp.specs.Marked.{IsKept, shifted, standing, tree_form}
 use Rattle.marked_regexp.proofs.Placing.{moved_on, stood_on}
 use Rattle.marked_regexp.proofs.Running.{cleared_unmarked, kept_standing, reached_end, reached_init, reached_step, reached_unmarked}
+use Rattle.marked_regexp.proofs.Works.{spends_none, spends_some, stays_less}
 use Rattle.marked_regexp.proofs.run.run_between.Goals as goal
 
 pub loop-c-init : goal.loop-c-init
@@ -17,6 +18,7 @@ loop-c-init c =
       reached = reached_init root (chars (chars_rest c.into_iter-c-iterator.result)) (chars c.args.text.now) c.requires.kept
           c.requires.unmarked (ap chars rest);
       same = ap (standing None None) (sym (cleared_unmarked root c.requires.kept c.requires.unmarked));
+      work = λ h. h;
     }
 
 pub shift-ends-requires : goal.shift-ends-requires
@@ -30,6 +32,7 @@ loop-c-preserved c =
       reached = reached_step _ _ _ _ _ c.in-Some.c _ _ _ held.reached (chars_past_char _ _ c.in-Some.c held.utf8 parts)
           (c.shift-ends.ensures.marks ∙ ap (shifted c.loop-c.start c.in-Some.c) c.stand.ensures.stood);
       same = moved_on _ _ _ _ _ c.shift-ends.ensures.marks (stood_on _ _ _ _ _ c.stand.ensures.stood held.same);
+      work = stays_less _ _ _ _ c.loop-c.invariant.work c.take.ensures.rest;
     }
 
 pub returns-then-not-marked-clause-kept : goal.returns-then-not-marked-clause-kept
@@ -61,3 +64,13 @@ returns-clause-matched c =
     (λ i. sym c.stand-skips.ensures.ends i || (c.loop-c.start && sym c.stand-skips.ensures.skips i))
     (reached_end _ _ _ _ _ _ _ c.loop-c.invariant.reached (chars_of_empty (chars_rest c.loop-c.c-iterator) c.in-None.ensures.steps.0.0)
     c.stand-skips.ensures.stood)
+
+pub returns-then-not-marked-clause-work : goal.returns-then-not-marked-clause-work
+returns-then-not-marked-clause-work c = spends_some _ _ false (stays_less _ _ _ _ c.loop-c.invariant.work c.take.ensures.rest)
+
+pub returns-clause-work : goal.returns-clause-work
+returns-clause-work c = spends_some _ _ (c.stand-skips.result.1 || (c.loop-c.start && c.stand-skips.result.0)) c.loop-c.invariant.work
+
+pub returns-then-is_none-clause-work : goal.returns-then-is_none-clause-work
+returns-then-is_none-clause-work c =
+    spends_none _ _ _ _ _ _ c.loop-c.invariant.work c.take.ensures.enough c.if-is_none.ensures c.take.ensures.rest

@@ -14,6 +14,7 @@ loop-c-init c =
       row = omega arith;
       same = refl;
       reads = ap (λ t. reads true c.args.self.now.expression.root (chars t)) rest;
+      work = λ h. h;
     }
 
 pub loop-c-preserved : goal.loop-c-preserved
@@ -28,6 +29,7 @@ loop-c-preserved c =
       reads = ap (λ x. row_reads x c.step.new.self.states.items c.in_ok-row.row rest) step.same
           ∙ (step.next.1 rest ∙ (ap (row_reads c.loop-c.self.expression.root c.loop-c.self.states.items c.loop-c.row)
           (sym (chars_past_char _ _ c.in-Some.c held.utf8 parts)) ∙ held.reads));
+      work = λ h. c.step.ensures.unlimited (held.work h);
     }
 
 pub returns-in-Some-verdict-clause-matched : goal.returns-in-Some-verdict-clause-matched

@@ -3,6 +3,7 @@ use Rattle.std.specs.Str.{IsUtf8, chars}
 use Rattle.std.specs.Str.Iter.{chars_rest}
 use Rattle.marked_regexp.specs.Automata.{row_reads}
 use Rattle.marked_regexp.specs.Marked.{reads}
+use Rattle.marked_regexp.proofs.Works.{Stays}
 use Rattle.marked_regexp.proofs.automaton.Automaton.judge.Given as goal
 
 abbrev pub invariant-loop-c : goal.invariant-loop-c
@@ -12,4 +13,5 @@ invariant-loop-c l = record {
   same : l.self.expression.root ≡ l.fn.self.expression.root;
   reads : row_reads l.self.expression.root l.self.states.items l.row (chars (chars_rest l.c-iterator))
       ≡ reads true l.fn.self.expression.root (chars l.fn.text);
+  work : Stays l.fn.work l.work;
 }

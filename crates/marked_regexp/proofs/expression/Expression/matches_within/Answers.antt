@@ -1,7 +1,7 @@
 use Rattle.std.proofs.Common.{◌∙◌, None, ap, sym}
 use Rattle.marked_regexp.specs.Marked.{is_kept, is_marked, is_plain, is_standing, tree_form}
 use Rattle.marked_regexp.proofs.Kept.{kept_from, stands_from}
-use Rattle.marked_regexp.proofs.expression.Expression.matches.Goals as goal
+use Rattle.marked_regexp.proofs.expression.Expression.matches_within.Goals as goal
 
 pub matches_whole-requires-clause-kept : goal.matches_whole-requires-clause-kept
 matches_whole-requires-clause-kept c = kept_from c.args.self.now.root c.args.self.now.kept

@@ -5,7 +5,7 @@ use Rattle.marked_regexp.specs.Marked.{is_kept, is_marked, is_plain, is_standing
 use Rattle.marked_regexp.proofs.Automata.{knows_root, right_root}
 use Rattle.marked_regexp.proofs.Kept.{kept_from, stands_from}
 use Rattle.marked_regexp.proofs.Rereading.{reads_matched}
-use Rattle.marked_regexp.proofs.automaton.Automaton.matches.Goals as goal
+use Rattle.marked_regexp.proofs.automaton.Automaton.matches_within.Goals as goal
 
 pub matches_whole-requires-clause-kept : goal.matches_whole-requires-clause-kept
 matches_whole-requires-clause-kept c = kept_from c.args.self.now.expression.root c.args.self.now.expression.kept
