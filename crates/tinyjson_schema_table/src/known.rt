@@ -8,6 +8,7 @@ use crate::link::Way;
 use crate::table::Known;
 
 /// [`Known::part`] of a schema that may be known.
+#[inline(always)]
 pub fn known_part<'s>(known: Option<Known<'s>>, way: Way<'_>, near: usize) -> Option<Known<'s>>
     ensures { (s : Tree) → is_of known.entry s ≡ true → LeadsTo (led_by s way.entry) result }
 {

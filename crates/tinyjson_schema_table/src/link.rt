@@ -31,12 +31,21 @@ pub struct Link<'s> {
 
 /// The place to which the link for the way leads. The link at the place `near` is tried first. The links have to be in
 /// their order, or this one may not be found.
+#[inline(always)]
 pub fn found(links: &[Link<'_>], way: Way<'_>, near: usize) -> Option<usize>
     ensures { IfSome result (IsPlaceOf links.now way.entry) }
 {
     if let Some(at) = found_at(links, way, near) {
         return Some(at);
     }
+    searched(links, way)
+}
+
+/// `found` by bisection.
+#[inline(never)]
+fn searched(links: &[Link<'_>], way: Way<'_>) -> Option<usize>
+    ensures { IfSome result (IsPlaceOf links.now way.entry) }
+{
     let searched = links.binary_search_by(|link| order(link.way, way));
     match searched {
         Ok(index) => found_at(links, way, index),
@@ -59,6 +68,7 @@ fn found_at(links: &[Link<'_>], way: Way<'_>, index: usize) -> Option<usize>
 }
 
 /// Whether both ways lead to the same subschema.
+#[inline(always)]
 fn is_same(own: Way<'_>, way: Way<'_>) -> bool
     ensures { result ≡ true → (s : Tree) → led_by s own.entry ≡ led_by s way.entry }
 {
@@ -69,6 +79,7 @@ fn is_same(own: Way<'_>, way: Way<'_>) -> bool
     }
 }
 
+#[inline(always)]
 fn is_single(keyword: Keyword, way: Way<'_>) -> bool
     ensures { result ≡ true → (s : Tree) → schema_at s keyword ≡ led_by s way.entry }
 {
@@ -78,6 +89,7 @@ fn is_single(keyword: Keyword, way: Way<'_>) -> bool
     }
 }
 
+#[inline(always)]
 fn is_listed(keyword: Keyword, index: usize, way: Way<'_>) -> bool
     ensures { result ≡ true → (s : Tree)
         → nth (schemas_at s keyword) index ≡ led_by s way.entry }
@@ -91,6 +103,7 @@ fn is_listed(keyword: Keyword, index: usize, way: Way<'_>) -> bool
     is_keyword(keyword, other)
 }
 
+#[inline(always)]
 fn is_keyed(keyword: Keyword, key: &str, way: Way<'_>) -> bool
     ensures { result ≡ true → (s : Tree) → keyed s keyword (chars key.now) ≡ led_by s way.entry }
 {

@@ -82,6 +82,7 @@ impl<'s> Known<'s> {
     ghost use Rattle.tinyjson_schema_table.specs.Places.{LeadsTo, IsIn};
 
     /// The subschema to which the way leads, if it is in the table. The link at the place `near` is tried first.
+    #[inline(always)]
     pub fn part(self, way: Way<'_>, near: usize) -> Option<Known<'s>>
         ensures { LeadsTo (led_by (view self.entry.shape.now.schema.now) way.entry) result }
     {
@@ -95,6 +96,7 @@ impl<'s> Known<'s> {
     }
 
     /// What is at the place in the table.
+    #[inline(always)]
     fn over(self, at: usize) -> Option<Known<'s>>
         ensures { IsIn self.entry.table.now.shapes.items at result }
     {

@@ -57,6 +57,7 @@ pub fn values_of<'s>(
 
 /// The keyword's place among them.
 #[inline(always)]
+#[inline(always)]
 pub fn place_of(keyword: Keyword) -> Option<usize>
     ensures { IfSome result (λ place. slice_get held place ≡ Some keyword) }
 {
