@@ -1228,6 +1228,16 @@ HOSTILE = [
     ('{"items":{"anyOf":[%s]}}' % ",".join(f'{{"pattern":"^{i}$"}}' for i in range(150)), json.dumps(["149"] * 10_000), TOO_MUCH),
     ('{"items":{"anyOf":[%s]}}' % ",".join(f'{{"pattern":"^{i}$"}}' for i in range(150)), json.dumps(["149"] * 100), judged(None)),
     ('{"patternProperties":{%s}}' % ",".join(f'"^{i}$":{{}}' for i in range(300)), json.dumps({f"a{i}": 0 for i in range(10_000)}), judged(None)),
+    # Each of 5,000 letters may come next at each of 200,000 characters; the text ends before the last letter. Letters of Greek take their own way.
+    ('{"pattern":"%sb"}' % ("a" * 5_000), '"%s"' % ("a" * 200_000), TOO_MUCH),
+    ('{"pattern":"%sβ"}' % ("α" * 5_000), '"%s"' % ("α" * 100_000), TOO_MUCH),
+    ('{"pattern":"^(?=%sb)a"}' % ("a*" * 2_500), '"%s"' % ("a" * 200_000), TOO_MUCH),
+    ('{"pattern":"\\\\b%sb"}' % ("a*" * 2_500), '"%s"' % ("a" * 200_000), TOO_MUCH),
+    ('{"pattern":"%s"}' % ("a" * 5_000), '"%s"' % ("a" * 200_000), judged(None)),
+    ('{"pattern":"%sb"}' % ("a" * 50), '"%s"' % ("a" * 200_000), judged(("", "/pattern"))),
+    ('{"items":{"pattern":"^.{0,2048}$"}}', json.dumps(["a" * 1_000] * 1_000), judged(None)),
+    ('{"items":{"pattern":"^.{0,2048}$"}}', json.dumps(["ä" * 500] * 1_000, ensure_ascii=False), judged(None)),
+    ('{"items":{"pattern":"^(%s)$"}}' % "|".join(f"word{i}" for i in range(200)), json.dumps(["wörter"] * 10_000, ensure_ascii=False), judged(("/0", "/items/pattern"))),
     # Each member is looked up in each schema.
     ('{"allOf":[%s],"unevaluatedProperties":{"type":"integer"}}' % ",".join(f'{{"properties":{{"a{i}":{{}}}}}}' for i in range(3_000)), json.dumps({f"b{i}": 0 for i in range(3_000)}), TOO_MUCH),
     # Each number is divided by one of 904 digits.

@@ -45,6 +45,16 @@ pub shallow : {T : Type 0} (q : T → Type 0) (d : CheckError) (r : Result T Che
     → MatchResult r q IsShallow
 shallow q d r h k = at_error (λ x. MatchResult x q IsShallow) d r h k
 
+pub at_shallow : {T : Type 0} (P : Result T CheckError → Type 0) (r : Result T CheckError) → IsErrAnd r IsShallow
+    → ((e : CheckError) → IsShallow e → P (Err e)) → P r
+at_shallow P (Ok x) h k = absurd h
+at_shallow P (Err e) h k = k e h
+
+pub raised_shallow : {T : Type 0} (q : T → Type 0) (P : Type 0) (r : Result T CheckError) → IsErrAnd r IsShallow
+    → MatchResult r q (λ e. IfDeep e P)
+raised_shallow q P (Ok x) h = absurd h
+raised_shallow q P (Err e) h = not_deep P e h
+
 -- no step is left
 pub at_last : (w : Walk) (s t : Tree) → w.steps ≡ zero → Descends w s t
 at_last w s t e = subst (λ n. Nests (root_tree w) n s t) (sym e) one

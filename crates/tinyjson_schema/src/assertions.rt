@@ -7,11 +7,10 @@ ghost use Rattle.tinyjson_schema_assertions.specs.Assertions.{meets, IsUnmet, Is
 
 use crate::applied::Applied;
 use crate::walk::Walk;
-use std::alloc::AllocError;
 use tinyjson::{JsonKind, JsonValue};
 use tinyjson_document::{JsonView, NumberView};
 use tinyjson_schema_assertions::accepts;
-use tinyjson_schema_keywords::Keyword;
+use tinyjson_schema_keywords::{Keyword, SearchError};
 use tinyjson_schema_table::{assertions, unmet_given};
 use tinyjson_view::ValueView;
 
@@ -22,7 +21,7 @@ pub fn unmet(
     here: &Applied<'_>,
     value: &ValueView<'_>,
     walk: Walk<'_, '_>,
-) -> Result<Option<Keyword>, AllocError>
+) -> Result<Option<Keyword>, SearchError>
     ensures { IfOk result (λ found. IsUnmet walk.entry.ground.now.formats
         (view here.now.schema.now) (tree_of value.now) found) }
 {
@@ -41,7 +40,7 @@ fn unmet_number(
     here: &Applied<'_>,
     value: &ValueView<'_>,
     walk: Walk<'_, '_>,
-) -> Result<Option<Keyword>, AllocError>
+) -> Result<Option<Keyword>, SearchError>
     ensures { IfOk result (λ found. IsUnmet walk.entry.ground.now.formats
         (view here.now.schema.now) (tree_of value.now) found) }
 {
@@ -63,7 +62,7 @@ fn unmet_of(
     here: &Applied<'_>,
     value: &ValueView<'_>,
     walk: Walk<'_, '_>,
-) -> Result<Option<Keyword>, AllocError>
+) -> Result<Option<Keyword>, SearchError>
     ensures { IfOk result (λ found. IsUnmet walk.entry.ground.now.formats
         (view here.now.schema.now) (tree_of value.now) found) }
 {
@@ -84,7 +83,7 @@ fn first_unmet(
     here: &Applied<'_>,
     value: &ValueView<'_>,
     walk: Walk<'_, '_>,
-) -> Result<Option<Keyword>, AllocError>
+) -> Result<Option<Keyword>, SearchError>
     ensures { IfOk result
         (λ found. IsUnmetAmong keywords.now (view here.now.schema.now) (tree_of value.now) found) }
 {
@@ -102,7 +101,7 @@ pub fn meets(
     here: &Applied<'_>,
     value: &ValueView<'_>,
     walk: Walk<'_, '_>,
-) -> Result<bool, AllocError>
+) -> Result<bool, SearchError>
     ensures { IfOk result (λ is. is ≡ meets keyword (view here.now.schema.now) (tree_of value.now)) }
 {
     match here.schema_at(keyword) {

@@ -10,7 +10,7 @@ ghost use Rattle.tinyjson_schema_table.specs.Places.{is_of};
 use crate::lead::Lead;
 use std::alloc::{AllocError, AllocFailed, Global};
 use tinyjson_schema_keywords as keywords;
-use tinyjson_schema_keywords::Whole;
+use tinyjson_schema_keywords::{SearchError, Whole};
 use tinyjson_schema_table::Known;
 
 /// Why a check has no result.
@@ -37,6 +37,19 @@ impl<T: Drop> From<AllocFailed<T>> for CheckError {
 
     fn from(_: AllocFailed<T>) -> CheckError {
         CheckError::OutOfMemory
+    }
+}
+
+impl From<SearchError> for CheckError {
+    ghost use Rattle.tinyjson_schema.specs.Deep.{IsShallow};
+
+    ghost from_gives = { λ _ e. IsShallow e };
+
+    fn from(error: SearchError) -> CheckError {
+        match error {
+            SearchError::TooMuch => CheckError::TooMuch,
+            SearchError::OutOfMemory => CheckError::OutOfMemory,
+        }
     }
 }
 

@@ -24,11 +24,15 @@ use tinyjson::{JsonKind, JsonNumber, JsonValue, sorted_members};
 use tinyjson_bytes::are_equal;
 use tinyjson_compare::is_at_most;
 use tinyjson_document::JsonView;
-use tinyjson_schema_keywords::{Keyword, Walk};
+use tinyjson_schema_keywords::{Keyword, SearchError, Walk};
 use tinyjson_view::ValueView;
 
 /// Whether the value meets the keyword with this value of its own; true for a keyword that is no assertion. Patterns,
-/// the values of `enum` and long divisors take steps of the walk's budget. The only error is out of memory.
+/// the values of `enum` and long divisors take steps of the walk's budget.
+///
+/// # Errors
+///
+/// A pattern's search would take more steps than are left, or memory is refused.
 ///
 /// ```
 /// let is_met = accepts(Keyword::Maximum, &limit, &value, walk)?;
@@ -38,7 +42,7 @@ pub fn accepts(
     operand: &JsonValue,
     value: &ValueView<'_>,
     walk: Walk<'_, '_>,
-) -> Result<bool, AllocError>
+) -> Result<bool, SearchError>
     ensures { IfOk result (λ is. is ≡ accepts keyword (view operand.now) (tree_of value.now)) }
 {
     let alloc = walk.alloc;
@@ -52,16 +56,16 @@ pub fn accepts(
         Keyword::ExclusiveMaximum => Ok(are_apart(value, &limit)),
         Keyword::Minimum => Ok(are_ordered(&limit, value)),
         Keyword::ExclusiveMinimum => Ok(are_apart(&limit, value)),
-        Keyword::MaxLength => is_length_at_most(value, operand, alloc),
-        Keyword::MinLength => is_length_at_least(value, operand, alloc),
+        Keyword::MaxLength => Ok(is_length_at_most(value, operand, alloc)?),
+        Keyword::MinLength => Ok(is_length_at_least(value, operand, alloc)?),
         Keyword::Pattern => has_pattern(operand, value, walk),
-        Keyword::MaxItems => is_count_at_most(item_count(value), operand, alloc),
-        Keyword::MinItems => is_count_at_least(item_count(value), operand, alloc),
-        Keyword::UniqueItems => are_unique(operand, value, alloc),
-        Keyword::MaxProperties => is_count_at_most(member_count(value), operand, alloc),
-        Keyword::MinProperties => is_count_at_least(member_count(value), operand, alloc),
+        Keyword::MaxItems => Ok(is_count_at_most(item_count(value), operand, alloc)?),
+        Keyword::MinItems => Ok(is_count_at_least(item_count(value), operand, alloc)?),
+        Keyword::UniqueItems => Ok(are_unique(operand, value, alloc)?),
+        Keyword::MaxProperties => Ok(is_count_at_most(member_count(value), operand, alloc)?),
+        Keyword::MinProperties => Ok(is_count_at_least(member_count(value), operand, alloc)?),
         Keyword::Required => Ok(has_required(operand, value)),
-        Keyword::DependentRequired => has_dependent_required(operand, value, alloc),
+        Keyword::DependentRequired => Ok(has_dependent_required(operand, value, alloc)?),
         Keyword::Format => Ok(has_format(operand, value)),
         _ => Ok(true),
     }
@@ -248,7 +252,7 @@ fn has_pattern(
     pattern: &JsonValue,
     value: &ValueView<'_>,
     walk: Walk<'_, '_>,
-) -> Result<bool, AllocError>
+) -> Result<bool, SearchError>
     ensures { IfOk result (λ has. has ≡ has_pattern (view pattern.now) (tree_of value.now)) }
 {
     let JsonValue::String(pattern) = pattern else {

@@ -3,7 +3,11 @@ ghost use Rattle.std.specs.Prelude.{◌≡◌, ◌<◌, IfErr};
 ghost use Rattle.tinyjson_schema_keywords.specs.declared.walk.CheckError.{CheckError};
 
 use crate::walk::CheckError;
+use i_regexp::Work;
 use std::cell::Cell;
+
+/// How many units of a search's work are a step.
+const UNITS: u64 = 64;
 
 /// How many steps a check may still take. Applying a schema to a part of the value is a step. So is comparing a value
 /// of `enum`, looking for a key, and trying a pattern on a short text.
@@ -36,6 +40,21 @@ impl Budget {
             return Err(CheckError::TooMuch);
         }
         Ok(())
+    }
+
+    /// The work that a search may do with the steps that are left.
+    pub(crate) fn work(&self) -> Work {
+        let units = self.left.get().saturating_mul(UNITS);
+        Work::AtMost(usize::try_from(units).unwrap_or(usize::MAX))
+    }
+
+    /// Takes the steps of what a search has done.
+    pub(crate) fn pay(&self, before: Work, after: Work) {
+        if let (Work::AtMost(before), Work::AtMost(after)) = (before, after) {
+            let units = before.saturating_sub(after) as u64;
+            let left = self.left.get();
+            self.left.set(left.saturating_sub(units / UNITS));
+        }
     }
 
     /// Takes the steps, or all that are left. The next call of `spend` fails if none is left.

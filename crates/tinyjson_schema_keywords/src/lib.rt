@@ -30,4 +30,4 @@ pub use subschemas::{
     operand, parts_of, schema_at, schema_map_at, schema_members, schemas_at,
 };
 pub use unknown::unknown_words;
-pub use walk::{CheckError, Walk};
+pub use walk::{CheckError, SearchError, Walk};

@@ -6,6 +6,7 @@ ghost use Rattle.i_regexp.specs.PatternDeciding.{is_pattern, is_found};
 ghost use Rattle.tinyjson_schema_keywords.specs.Patterns.{answer_of, IsPatternError};
 
 use crate::budget::Budget;
+use crate::walk::SearchError;
 use i_regexp::{SchemaPattern, SchemaPatternErrorKind};
 use std::alloc::{AllocError, Global};
 use std::cell::RefCell;
@@ -49,14 +50,21 @@ impl Pattern {
         Ok(Pattern { pattern, code })
     }
 
-    /// Whether the pattern matches somewhere in the text.
-    fn is_found_in(&mut self, value: &str) -> bool
-        ensures found { result ≡ is_found (text self.old.pattern) (chars value.now) }
+    /// Whether the pattern matches somewhere in the text. The work of the search takes steps of the budget.
+    fn is_found_in(&mut self, value: &str, budget: &Budget) -> Result<bool, SearchError>
+        ensures found { IfOk result (λ is. is ≡ is_found (text self.old.pattern) (chars value.now)) }
         ensures same { self.new.pattern ≡ self.old.pattern }
     {
-        match &mut self.code {
-            Some(code) => code.is_found_in(value),
-            None => false,
+        let Some(code) = &mut self.code else {
+            return Ok(false);
+        };
+        let before = budget.work();
+        let mut work = before;
+        let found = code.is_found_within(value, &mut work);
+        budget.pay(before, work);
+        match found {
+            Some(is_found) => Ok(is_found),
+            None => Err(SearchError::TooMuch),
         }
     }
 }
@@ -80,7 +88,7 @@ impl Patterns {
         text: &str,
         budget: &Budget,
         alloc: Global,
-    ) -> Result<bool, AllocError>
+    ) -> Result<bool, SearchError>
         ensures { IfOk result (λ is. is ≡ is_found (chars pattern.now) (chars text.now)) }
     {
         let next = if self.next < self.parsed.len() {
@@ -88,41 +96,54 @@ impl Patterns {
         } else {
             0
         };
-        if let Some(is_found) = self.found_at(next, pattern, text) {
-            return Ok(is_found);
+        if let Some(found) = self.found_at(next, pattern, text, budget) {
+            return found;
         }
         let last = self.next.saturating_sub(1);
-        if let Some(is_found) = self.found_at(last, pattern, text) {
-            return Ok(is_found);
+        if let Some(found) = self.found_at(last, pattern, text, budget) {
+            return found;
         }
         if let Some(place) = self.places.get(pattern).copied() {
-            if let Some(is_found) = self.found_at(place, pattern, text) {
-                return Ok(is_found);
+            if let Some(found) = self.found_at(place, pattern, text, budget) {
+                return found;
             }
         }
         budget.charge(parsing_steps(pattern));
-        self.found_anew(pattern, text, alloc)
+        self.found_anew(pattern, text, budget, alloc)
     }
 
     /// Whether the pattern at the place matches somewhere in the text; `None` if none is there, or another.
-    fn found_at(&mut self, place: usize, pattern: &str, text: &str) -> Option<bool>
-        ensures { IfSome result (λ is. is ≡ is_found (chars pattern.now) (chars text.now)) }
+    fn found_at(
+        &mut self,
+        place: usize,
+        pattern: &str,
+        text: &str,
+        budget: &Budget,
+    ) -> Option<Result<bool, SearchError>>
+        ensures { IfSome result
+            (λ r. IfOk r (λ is. is ≡ is_found (chars pattern.now) (chars text.now))) }
     {
         let known = self.parsed.get_mut(place)?;
         if !are_equal(known.pattern.as_bytes(), pattern.as_bytes()) {
             return None;
         }
         self.next = place + 1;
-        Some(known.is_found_in(text))
+        Some(known.is_found_in(text, budget))
     }
 
     /// Whether the pattern, which is parsed now, matches somewhere in the text. It is kept, without room in place of
     /// the last one.
-    fn found_anew(&mut self, pattern: &str, text: &str, alloc: Global) -> Result<bool, AllocError>
+    fn found_anew(
+        &mut self,
+        pattern: &str,
+        text: &str,
+        budget: &Budget,
+        alloc: Global,
+    ) -> Result<bool, SearchError>
         ensures { IfOk result (λ is. is ≡ is_found (chars pattern.now) (chars text.now)) }
     {
         let mut parsed = Pattern::read(alloc, pattern)?;
-        let is_found = parsed.is_found_in(text);
+        let is_found = parsed.is_found_in(text, budget)?;
         let place = self.parsed.len();
         if let Some(last) = self.parsed.get_mut(KEPT) {
             *last = parsed;
@@ -159,7 +180,7 @@ impl KeptPatterns {
 
     /// Whether the pattern matches somewhere in the text. One that is no pattern matches nothing. A checked schema has
     /// no pattern that is too deep or too large; for such a one the error is out of memory. A pattern that is parsed
-    /// now takes ten steps of the budget, and more with its size.
+    /// now takes ten steps of the budget, and more with its size. The work of the search takes steps as well.
     #[inline(never)]
     pub fn is_found(
         &self,
@@ -167,11 +188,11 @@ impl KeptPatterns {
         text: &str,
         budget: &Budget,
         alloc: Global,
-    ) -> Result<bool, AllocError>
+    ) -> Result<bool, SearchError>
         ensures { IfOk result (λ is. is ≡ is_found (chars pattern.now) (chars text.now)) }
     {
         let Ok(mut kept) = self.kept.try_borrow_mut() else {
-            return Ok(Pattern::read(alloc, pattern)?.is_found_in(text));
+            return Pattern::read(alloc, pattern)?.is_found_in(text, budget);
         };
         kept.is_found(pattern, text, budget, alloc)
     }

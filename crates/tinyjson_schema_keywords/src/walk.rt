@@ -30,6 +30,36 @@ impl<T: Drop> From<AllocFailed<T>> for CheckError {
     }
 }
 
+/// Why a search for a pattern, or an assertion, has no result.
+#[derive(Clone, Copy)]
+pub enum SearchError {
+    /// It would take more steps than the caller allows.
+    TooMuch,
+    /// An allocation failed.
+    OutOfMemory,
+}
+
+impl From<AllocError> for SearchError {
+    fn from(_: AllocError) -> SearchError {
+        SearchError::OutOfMemory
+    }
+}
+
+impl<T: Drop> From<AllocFailed<T>> for SearchError {
+    fn from(_: AllocFailed<T>) -> SearchError {
+        SearchError::OutOfMemory
+    }
+}
+
+impl From<SearchError> for CheckError {
+    fn from(error: SearchError) -> CheckError {
+        match error {
+            SearchError::TooMuch => CheckError::TooMuch,
+            SearchError::OutOfMemory => CheckError::OutOfMemory,
+        }
+    }
+}
+
 /// The whole schema, in which references lead; how many more nested schemas may be applied; and the allocator. It is
 /// two words, so that it takes no stack where the recursion over schemas passes it down.
 #[derive(Clone, Copy)]
@@ -64,7 +94,7 @@ impl<'d, 's> Walk<'d, 's> {
     }
 
     /// Whether the pattern matches somewhere in the text. One that is no pattern matches nothing. It takes a step of
-    /// the budget, and another one for each 32 bytes of the pattern and the text.
+    /// the budget, another one for each 32 bytes of the pattern and the text, and those of the search.
     pub fn is_found(self, pattern: &str, text: &str) -> Result<bool, CheckError>
         ensures { IfOk result (λ is. is ≡ is_found (chars pattern.now) (chars text.now)) }
     {

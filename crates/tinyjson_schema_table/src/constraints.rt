@@ -13,7 +13,7 @@ use std::alloc::{AllocError, Global};
 use tinyjson::{JsonKind, JsonValue};
 use tinyjson_document::JsonView;
 use tinyjson_schema_assertions::{accepts, kind_met};
-use tinyjson_schema_keywords::{Keyword, Walk, schema_at};
+use tinyjson_schema_keywords::{Keyword, SearchError, Walk, schema_at};
 use tinyjson_view::ValueView;
 
 /// The assertions, in the order in which they are checked. `format` is one only if the caller asks for it.
@@ -88,7 +88,7 @@ pub fn unmet_given(
     given: &[Given<'_>],
     value: &ValueView<'_>,
     walk: Walk<'_, '_>,
-) -> Result<Option<Keyword>, AllocError>
+) -> Result<Option<Keyword>, SearchError>
     ensures { IfOk result (λ found. (s : Tree) → are_had s given.now ≡ true → AreAll s given.now
         → IsUnmetAmong constraints s (tree_of value.now) found) }
 {
@@ -109,7 +109,7 @@ fn is_met(
     kind: JsonKind,
     value: &ValueView<'_>,
     walk: Walk<'_, '_>,
-) -> Result<bool, AllocError>
+) -> Result<bool, SearchError>
     requires { kind ≡ kind_of (tree_of value.now) }
     ensures { IfOk result
         (λ is. is ≡ accepts one.now.keyword (view one.now.operand.now) (tree_of value.now)) }

@@ -324,7 +324,7 @@ fn own_lack(
     schema: &JsonValue,
     value: &ValueView<'_>,
     walk: Walk<'_, '_>,
-) -> Result<Option<Lack>, AllocError>
+) -> Result<Option<Lack>, CheckError>
     ensures { IfOk result (λ o. option_map gap_of o
         ≡ own_gap rank keywords.now (view schema.now) (tree_of value.now)) }
 {
@@ -344,7 +344,7 @@ fn unmet_words(
     schema: &JsonValue,
     value: &ValueView<'_>,
     walk: Walk<'_, '_>,
-) -> Result<Option<String>, AllocError>
+) -> Result<Option<String>, CheckError>
     ensures { IfOk result (λ o. option_map string_bytes o
         ≡ unmet_words keywords.now (view schema.now) (tree_of value.now)) }
 {
@@ -362,7 +362,7 @@ fn unmet_at(
     schema: &JsonValue,
     value: &ValueView<'_>,
     walk: Walk<'_, '_>,
-) -> Result<Option<String>, AllocError>
+) -> Result<Option<String>, CheckError>
     ensures { IfOk result (λ o. option_map string_bytes o
         ≡ unmet_at keyword (view schema.now) (tree_of value.now)) }
 {

@@ -23,7 +23,7 @@ use crate::validate::uses::uses_in;
 use crate::violation::Violation;
 use crate::walk::{CheckError, Walk};
 use std::alloc::{AllocError, Global};
-use tinyjson_schema_keywords::Keyword;
+use tinyjson_schema_keywords::{Keyword, SearchError};
 use tinyjson_schema_table::assertions;
 use tinyjson_view::ValueView;
 
@@ -226,7 +226,7 @@ fn add_unmet(
     value: &ValueView<'_>,
     walk: Walk<'_, '_>,
     unmet: &mut Vec<Keyword>,
-) -> Result<(), AllocError>
+) -> Result<(), SearchError>
     ensures { OnOk result (unmet.new.items ≡ unmet.old.items
         ++ failing (λ k. meets k (view here.now.schema.now) (tree_of value.now)) keywords.now) }
 {

@@ -38,7 +38,7 @@ use Rattle.tinyjson_schema.specs.Sources.{sources_evaluate, AreWithin, AreReache
 use Rattle.tinyjson_schema_table.specs.Links.{keyed}
 use Rattle.tinyjson_schema.specs.declared.walk.CheckError.TheVariants.{OutOfMemory}
 use Rattle.tinyjson_schema.proofs.Alternatives.{key_there}
-use Rattle.tinyjson_schema.proofs.Deep.{at_error, raised, raised_alone, if_deep, not_deep, at_last, one_deeper, of_list}
+use Rattle.tinyjson_schema.proofs.Deep.{at_error, at_shallow, raised, raised_alone, if_deep, not_deep, at_last, one_deeper, of_list}
 use Rattle.tinyjson_schema.proofs.Deep.{of_target, has_own_key}
 use Rattle.tinyjson_schema.proofs.Deep.{reached_pushed, reached_at}
 use Rattle.tinyjson_schema.specs.Valid.{answers_in, FindsRest, reference_accepts, target_accepts, says, Judges, Finds, IsUnapplied, refused}
@@ -1367,8 +1367,7 @@ violation_of-returns-in_err-keyword t c =
     let w = c.args.walk in
     let s = view c.args.here.now.schema.now in
     let v = tree_of c.args.value.now in
-    at_error (Judges w s v) OutOfMemory
-    c.from_residual-in_err-keyword.result c.from_residual-in_err-keyword.ensures.1 tt
+    at_shallow (Judges w s v) c.from_residual-in_err-keyword.result c.from_residual-in_err-keyword.ensures.1 (not_deep _)
 
 pub violation_of-returns-in_err-keyword-2 : goal.violation_of-returns-in_err-keyword-2
 violation_of-returns-in_err-keyword-2 t c =

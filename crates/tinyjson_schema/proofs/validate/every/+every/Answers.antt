@@ -15,7 +15,7 @@ use Rattle.tinyjson_schema.specs.Nested.{within, IfDeep}
 use Rattle.tinyjson_schema.specs.Steps.{AreApplied}
 use Rattle.tinyjson_schema.specs.declared.walk.CheckError.TheVariants.{OutOfMemory}
 use Rattle.tinyjson_schema.proofs.Applying.{applied_by, pending_applied}
-use Rattle.tinyjson_schema.proofs.Deep.{raised, if_deep, at_last, one_deeper}
+use Rattle.tinyjson_schema.proofs.Deep.{raised_shallow, raised, if_deep, at_last, one_deeper}
 use Rattle.tinyjson_schema.proofs.validate.every.+every.Goals as goal
 
 pub add_violations-add_further-requires : goal.add_violations-add_further-requires
@@ -117,7 +117,7 @@ add_violations-returns-in_err-add_place t c =
 
 pub add_violations-returns-in_err-add_unmet : goal.add_violations-returns-in_err-add_unmet
 add_violations-returns-in_err-add_unmet t c =
-    raised _ _ OutOfMemory c.from_residual-in_err-add_unmet.result c.from_residual-in_err-add_unmet.ensures.1 tt
+    raised_shallow _ _ c.from_residual-in_err-add_unmet.result c.from_residual-in_err-add_unmet.ensures.1
 
 pub add_violations-returns-in_err-add_places : goal.add_violations-returns-in_err-add_places
 add_violations-returns-in_err-add_places t c =

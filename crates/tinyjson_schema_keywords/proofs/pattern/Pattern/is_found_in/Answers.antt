@@ -3,11 +3,11 @@ use Rattle.tinyjson.specs.View.{text}
 use Rattle.tinyjson_schema_keywords.proofs.Patterns.{found_right, found_nowhere}
 use Rattle.tinyjson_schema_keywords.proofs.pattern.Pattern.is_found_in.Goals as goal
 
-pub returns-in-Some-clause-found : goal.returns-in-Some-clause-found
-returns-in-Some-clause-found c =
-    found_right (text c.args.self.now.pattern) (chars c.args.value.now) c.args.self.now.code c.in-Some.code c.is_found_in.result
-    c.args.self.now.read c.in-Some.is c.is_found_in.ensures.found
+pub returns-in-Some-found-clause-found : goal.returns-in-Some-found-clause-found
+returns-in-Some-found-clause-found c =
+    found_right (text c.args.self.now.pattern) (chars c.args.value.now) c.args.self.now.code c.in-Some.code c.in-Some-found.is_found
+    c.args.self.now.read c.in-Some.is c.in-Some-found.ensures.found
 
-pub returns-in-None-clause-found : goal.returns-in-None-clause-found
-returns-in-None-clause-found c =
-    found_nowhere (text c.args.self.now.pattern) (chars c.args.value.now) c.args.self.now.code c.args.self.now.read c.in-None.is
+pub returns-in_default-clause-found : goal.returns-in_default-clause-found
+returns-in_default-clause-found c =
+    found_nowhere (text c.args.self.now.pattern) (chars c.args.value.now) c.args.self.now.code c.args.self.now.read c.in_default.is
