@@ -1233,6 +1233,9 @@ HOSTILE = [
     ('{"pattern":"%sβ"}' % ("α" * 5_000), '"%s"' % ("α" * 100_000), TOO_MUCH),
     ('{"pattern":"^(?=%sb)a"}' % ("a*" * 2_500), '"%s"' % ("a" * 200_000), TOO_MUCH),
     ('{"pattern":"\\\\b%sb"}' % ("a*" * 2_500), '"%s"' % ("a" * 200_000), TOO_MUCH),
+    # Each text alone is sought through; what the searches take together is too much.
+    ('{"items":{"not":{"pattern":"%sβ"}}}' % ("α" * 5_000), json.dumps(["α" * 2_000] * 200, ensure_ascii=False), TOO_MUCH),
+    ('{"items":{"not":{"pattern":"%sβ"}}}' % ("α" * 5_000), json.dumps(["α" * 2_000] * 5, ensure_ascii=False), judged(None)),
     ('{"pattern":"%s"}' % ("a" * 5_000), '"%s"' % ("a" * 200_000), judged(None)),
     ('{"pattern":"%sb"}' % ("a" * 50), '"%s"' % ("a" * 200_000), judged(("", "/pattern"))),
     ('{"items":{"pattern":"^.{0,2048}$"}}', json.dumps(["a" * 1_000] * 1_000), judged(None)),
