@@ -1,4 +1,4 @@
 pub mod Regexes
 pub mod Digits
 pub mod Groups
-pub mod Names
+pub mod CaptureNames

@@ -192,14 +192,26 @@ is_start c = (c == 36) || ((c == 95) || is_letter c)
 abbrev pub is_part : ℕ → Bool
 is_part c = is_start c || ((c == 8204) || ((c == 8205) || is_mark c))
 
+-- a character of a name: by itself, or as a `RegExpUnicodeEscapeSequence` behind its backslash
+abbrev pub name_character : List ℕ → Option (ℕ × List ℕ)
+name_character text = option_map_or unicode_front (after (codes "\\u") text) (character text)
+
 abbrev pub are_parts : ℕ → List ℕ → Bool
 are_parts zero text = is_empty text
 are_parts (suc n) [] = true
-are_parts (suc n) (c ∷ cs) = option_map_or (λ p. is_part p.0 && are_parts n p.1) (character (c ∷ cs)) false
+are_parts (suc n) (c ∷ cs) = option_map_or (λ p. is_part p.0 && are_parts n p.1) (name_character (c ∷ cs)) false
 
--- `RegExpIdentifierName`, without escapes
+-- `RegExpIdentifierName`
 abbrev pub is_name : List ℕ → Bool
-is_name text = option_map_or (λ p. is_start p.0 && are_parts (length p.1) p.1) (character text) false
+is_name text = option_map_or (λ p. is_start p.0 && are_parts (length p.1) p.1) (name_character text) false
+
+-- the characters of a text with at most n of them, as a name has them; names are the same if theirs are
+abbrev pub name_value : ℕ → List ℕ → List ℕ
+name_value zero text = []
+name_value (suc n) text = option_map_or (λ p. p.0 ∷ name_value n p.1) (name_character text) []
+
+abbrev pub is_same_name : List ℕ → List ℕ → Bool
+is_same_name name other = bytes_eq (name_value (length name) name) (name_value (length other) other)
 
 -- `GroupName`: its name, and what follows
 abbrev pub group_name : List ℕ → Option (List ℕ)
@@ -238,7 +250,7 @@ names (text ∷ texts) = option_map_or (λ name. name ∷ names texts) (capture_
 
 abbrev pub are_distinct : List (List ℕ) → Bool
 are_distinct [] = true
-are_distinct (name ∷ more) = not (list_any (bytes_eq name) more) && are_distinct more
+are_distinct (name ∷ more) = not (list_any (is_same_name name) more) && are_distinct more
 
 -- at most 128 names, which differ
 abbrev pub are_names : List (List ℕ) → Bool
@@ -246,7 +258,8 @@ are_names texts = nat_le (length texts) 128 && are_distinct texts
 
 -- `GroupName` of one of the groups, whose names are these
 abbrev pub reference_front : List (List ℕ) → List ℕ → Option (List ℕ)
-reference_front known text = option_and_then (λ name. cond (list_any (bytes_eq name) known) (after_name text) None) (group_name text)
+reference_front known text = option_and_then (λ name. cond (is_name name && list_any (is_same_name name) known) (after_name text) None)
+    (group_name text)
 
 -- `DecimalEscape`: a number that is at most the number of groups
 abbrev pub decimal_front : ℕ → List ℕ → Option (List ℕ)

@@ -7,9 +7,10 @@ use denote.Ref.{Bor}
 use Rattle.general_category.specs.Categories.{is_in}
 use Rattle.general_category.specs.declared.Category.{Category}
 use Rattle.ecma_regexp.specs.Letters.{is_not_digit, is_brace_end, is_equals_sign, is_greater_sign}
-use Rattle.ecma_regexp.specs.Regex.{captures}
+use Rattle.ecma_regexp.specs.Regex.{captures, name_value}
 use Rattle.ecma_regexp.specs.declared.letters.End.{End}
 use Rattle.ecma_regexp.specs.declared.letters.End.TheVariants as at
+use Rattle.ecma_regexp.specs.declared.names.Characters.{Characters}
 use Rattle.ecma_regexp.specs.declared.regex.Groups.{Groups}
 
 -- where a part ends
@@ -32,6 +33,10 @@ few names = cond (nat_le (length names) 128) (Some names) None
 -- a value and the rest
 abbrev pub found : {V : Type 0} → Option (V × Bor (List ℕ)) → Option (V × List ℕ)
 found front = option_map (λ p. (p.0, p.1.now)) front
+
+-- the characters of a name that are left
+abbrev pub left_of : Characters → List ℕ
+left_of characters = name_value characters.left characters.rest.now
 
 -- the first of the texts behind a parenthesis, and the others
 abbrev pub unrolled : Option (Bor (List ℕ)) → List (List ℕ)

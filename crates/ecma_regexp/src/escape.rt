@@ -156,7 +156,7 @@ fn paired(n: u32, text: &[u8]) -> (u32, &[u8])
 }
 
 /// The character after `\u`.
-fn unicode_front(text: &[u8]) -> Option<(u32, &[u8])>
+pub(crate) fn unicode_front(text: &[u8]) -> Option<(u32, &[u8])>
     ensures { found result ≡ unicode_front text.now }
 {
     match text {

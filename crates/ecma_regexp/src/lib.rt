@@ -9,6 +9,7 @@ mod captures;
 mod class;
 mod escape;
 mod letters;
+mod names;
 mod property;
 mod property_names;
 mod quantifier;

@@ -5,12 +5,11 @@ ghost use Rattle.ecma_regexp.specs.Regex.{kind_front, named_front, term_front, a
 ghost use Rattle.ecma_regexp.specs.Regex.{atom_escape, decimal_front, reference_front, number};
 ghost use Rattle.ecma_regexp.specs.Scan.{found, groups_of, led, now, texts};
 
-use crate::captures::{
-    MOST, after_name, are_distinct, count, group_name, has_name, is_name, take_names,
-};
+use crate::captures::{MOST, after_name, count, group_name, take_names};
 use crate::class::class_front;
 use crate::escape::{is_syntax, set_or_character};
 use crate::letters::{End, cut};
+use crate::names::{are_distinct, has_name, is_name};
 use crate::quantifier::after_quantifier;
 
 /// The groups that are open: whether each may have a quantifier.
@@ -21,8 +20,8 @@ struct Groups {
 }
 
 /// Whether the text is a regular expression: `Pattern` of ECMA-262, section 22.2.1, of a `RegExp`
-/// with the flag `u`. Groups are nested at most 128 deep, and at most 128 have names. A name has no
-/// escapes and differs from all others.
+/// with the flag `u`. Groups are nested at most 128 deep, and at most 128 have names. Names differ,
+/// also where escapes write them: `a` and `\u0061` are the same.
 ///
 /// ```
 /// assert!(rt; is_regex(r"(?<year>\d{4})-\k<year>"));
@@ -209,7 +208,7 @@ fn reference_front<'t>(names: &[&[u8]], text: &'t [u8]) -> Option<&'t [u8]>
     ensures { now result ≡ reference_front (texts names.now) text.now }
 {
     let name = group_name(text)?;
-    if has_name(names, name) {
+    if is_name(name) && has_name(names, name) {
         after_name(text)
     } else {
         None

@@ -298,6 +298,75 @@ fn the_rows(rt: HostRuntime) -> Result<(), Fail> {
     Ok(())
 }
 
+/// Names of groups with escapes, which are the same where their characters are (22.2.1, `RegExpIdentifierName`).
+const ESCAPED_NAMES: &[&str] = &[
+    "(?<\\u0061>a)",
+    "(?<\\u{61}>a)",
+    "(?<a\\u0062>c)",
+    "(?<\\u0061b>c)",
+    "(?<\\u{000061}>a)",
+    "(?<a\\u{301}>b)",
+    "(?<a\\u200D>b)",
+    "(?<\\u{1D49C}>a)",
+    "(?<\\ud835\\udc9c>a)",
+    "(?<a\\ud835\\udc9c>b)",
+    "(?<\\u0024\\u005F>a)",
+    "(?<\\u0061>a)\\k<a>",
+    "(?<a>b)\\k<\\u0061>",
+    "\\k<\\u{61}>(?<\\u0061>b)",
+    "(?<\u{1d49c}>a)\\k<\\ud835\\udc9c>",
+    "(?<a>b)(?<\\u0062>c)",
+    "(?<\\u0061>a)(?<\\u0061\\u0061>b)",
+    "[(?<\\u0061>]",
+    "(?<x>[(?<\\u0078>])",
+];
+
+/// As these, with a character that is in no name, an escape that is none, or a name that is there twice or not at all.
+const INVALID_NAMES: &[&str] = &[
+    "(?<a>b)(?<\\u0061>c)",
+    "(?<\\u0061>b)(?<\\u{61}>c)",
+    "(?<\\u0061>(?<a>b))",
+    "(?<\u{1d49c}>a)(?<\\ud835\\udc9c>b)",
+    "(?<\\u0031>a)",
+    "(?<\\u{301}>a)",
+    "(?<a\\u002D>b)",
+    "(?<a\\u003E>b)",
+    "(?<\\u>a)",
+    "(?<\\u006>a)",
+    "(?<\\u{}>a)",
+    "(?<\\u{61>a)",
+    "(?<\\u{110000}>a)",
+    "(?<\\x61>a)",
+    "(?<\\a>a)",
+    "(?<a\\>b)",
+    "(?<\\ud835>a)",
+    "(?<\\udc9c>a)",
+    "(?<\\ud835a>b)",
+    "(?<\\ud835\\u0061>b)",
+    "(?<a\\u{1f600}>b)",
+    "(?<\\u{1f600}>b)",
+    "(?<a>b)\\k<\\u0062>",
+    "(?<a>b)\\k<a\\u>",
+    "(?<a>b)\\k<a\\u{>",
+    "(?<a>b)\\k<a\\>",
+    "(?<a>b)\\k<\\u0061\\u002D>",
+    "(?<a>b)\\k<\\x61>",
+    "(?<a>b)\\k<\\u0061b>",
+    "(?<ab>b)\\k<\\u0061>",
+    "(?<a\\u0062>c)\\k<a>",
+];
+
+#[test]
+fn escapes_in_names(rt: HostRuntime) -> Result<(), Fail> {
+    for text in ESCAPED_NAMES {
+        assert!(rt; is_regex(text), "{text}");
+    }
+    for text in INVALID_NAMES {
+        assert!(rt; !is_regex(text), "{text}");
+    }
+    Ok(())
+}
+
 #[test]
 fn groups_are_nested_128_deep(rt: HostRuntime) -> Result<(), Fail> {
     let mut text = "(".repeat(rt.alloc(), 128)?;

@@ -1,7 +1,7 @@
 use Rattle.std.proofs.Common.{◌≡◌, ◌∙◌, ◌++◌, ◌∷◌, take, length-set, ap, arith}
 use Rattle.ecma_regexp.specs.Regex.{captures, names}
 use Rattle.ecma_regexp.specs.Scan.{texts}
-use Rattle.ecma_regexp.proofs.Names.{names_some, names_pushed, names_many}
+use Rattle.ecma_regexp.proofs.CaptureNames.{names_some, names_pushed, names_many}
 use Rattle.ecma_regexp.proofs.captures.take_names.Goals as goal
 
 pub returns-then-named-eq-MOST-clause-value : goal.returns-then-named-eq-MOST-clause-value

@@ -1,7 +1,7 @@
 use Rattle.std.proofs.Common.{◌≡◌, length}
 use Rattle.ecma_regexp.specs.Regex.{are_distinct}
 use Rattle.ecma_regexp.specs.Scan.{texts}
-use Rattle.ecma_regexp.proofs.captures.are_distinct.Given as goal
+use Rattle.ecma_regexp.proofs.names.are_distinct.Given as goal
 
 abbrev pub invariant-loop-rest : goal.invariant-loop-rest
 invariant-loop-rest l = are_distinct (texts l.names) ≡ are_distinct (texts l.rest)

@@ -1,6 +1,6 @@
 use Rattle.std.proofs.Common.{◌≡◌, length}
 use Rattle.ecma_regexp.specs.Regex.{are_parts}
-use Rattle.ecma_regexp.proofs.captures.are_parts.Given as goal
+use Rattle.ecma_regexp.proofs.names.are_parts.Given as goal
 
 abbrev pub invariant-loop-left : goal.invariant-loop-left
 invariant-loop-left l = are_parts (length l.text) l.text ≡ are_parts l.left l.rest
