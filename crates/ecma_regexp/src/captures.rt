@@ -109,7 +109,8 @@ fn capture_name(text: &[u8]) -> Option<&[u8]>
 /// Takes the names of capturing groups, and returns how many there are, unless there are too many.
 #[tactic(auto, using(crate::proofs::CaptureNames::names_none, crate::proofs::CaptureNames::names_end))]
 pub(crate) fn take_names<'t>(text: &'t [u8], taken: &mut [&'t [u8]; MOST]) -> Option<usize>
-    ensures value { option_map (λ n. texts (take n taken.new)) result ≡ few (names (captures text.now)) }
+    ensures value { option_map (λ n. texts (take n taken.new)) result
+        ≡ few (names (captures text.now)) }
     ensures small { IfSome result (λ n. n ≤ length taken.new) }
 {
     let mut named = 0;

@@ -62,7 +62,8 @@ fn is_disjunction(count: usize, names: &[&[u8]], text: &[u8]) -> bool
 /// What follows the part at the front, in a pattern of that many groups, with these names.
 fn step<'t>(count: usize, names: &[&[u8]], groups: &mut Groups, text: &'t [u8]) -> Option<&'t [u8]>
     requires depth { groups.old.depth ≤ 128 }
-    ensures value { led groups.new result ≡ step count (texts names.now) (groups_of groups.old) text.now }
+    ensures value { led groups.new result
+        ≡ step count (texts names.now) (groups_of groups.old) text.now }
     ensures depth { groups.new.depth ≤ 128 }
 {
     match text {

@@ -4,277 +4,65 @@ use ecma_regexp::is_regex;
 use std::test::Fail;
 use text_formats::Format;
 
-/// Regular expressions.
+/// Regular expressions, with spaces between them.
 const VALID: &[&str] = &[
     // ECMA-262 and the tests of JSON Schema's `format`
-    "([abc])+\\s+$",
-    "^\\cC$",
-    "(?<=a)b",
-    "(a)\\1",
-    "(?<x>a)\\k<x>",
-    "\\p{Lu}",
+    r"([abc])+\s+$ ^\cC$ (?<=a)b (a)\1 (?<x>a)\k<x> \p{Lu}",
     // alternatives and terms (`Disjunction`, `Alternative`, `Term`)
     "",
-    "|",
-    "a||b",
-    "()",
-    "(|)",
-    "(?:a)*",
-    "(a)?",
-    "^^$$",
-    "\\b\\B",
-    "a/b",
-    "a-b,<c>:=!",
-    "\u{e9}*\u{6f22}+",
-    "\u{1f600}?",
+    r"| a||b () (|) (?:a)* (a)? ^^$$ \b\B a/b a-b,<c>:=!",
+    "\u{e9}*\u{6f22}+ \u{1f600}?",
     // quantifiers
-    "a*?",
-    "a+?b??",
-    "a{2}",
-    "a{2,}?",
-    "a{2,3}",
-    "a{0}",
-    "a{007,8}",
-    ".{2}",
-    "\\d{2}",
-    "[a]{2}",
-    "a{18446744073709551616,18446744073709551617}",
-    "a{00000000000000000000000003,3}",
+    r"a*? a+?b?? a{2} a{2,}? a{2,3} a{0} a{007,8} .{2} \d{2} [a]{2}",
+    r"a{18446744073709551616,18446744073709551617} a{00000000000000000000000003,3}",
     // assertions
-    "(?=a)",
-    "(?!a)b",
-    "(?<!a)",
-    "(?<=a*)",
-    "(?=(a))\\1",
+    r"(?=a) (?!a)b (?<!a) (?<=a*) (?=(a))\1",
     // escapes
-    "\\^\\$\\\\\\.\\*\\+\\?\\(\\)\\[\\]\\{\\}\\|\\/",
-    "\\f\\n\\r\\t\\v",
-    "\\0",
-    "\\0a",
-    "\\x41\\xaF",
-    "\\u0041",
-    "\\u{41}",
-    "\\u{10FFFF}",
-    "\\u{0000000000000041}",
-    "\\ud83d\\ude00",
-    "\\ud83d",
-    "\\ude00",
-    "\\cz",
-    "\\d\\D\\s\\S\\w\\W",
+    r"\^\$\\\.\*\+\?\(\)\[\]\{\}\|\/ \f\n\r\t\v \0 \0a \x41\xaF \u0041 \u{41} \u{10FFFF}",
+    r"\u{0000000000000041} \ud83d\ude00 \ud83d \ude00 \cz \d\D\s\S\w\W",
     // numbers of groups, also of those that come later, or are around
-    "\\1(a)",
-    "(\\1)",
-    "(a)(?:b)(?=c)(?<d>e)\\2",
-    "((((((((((a))))))))))\\10",
+    r"\1(a) (\1) (a)(?:b)(?=c)(?<d>e)\2 ((((((((((a))))))))))\10",
     // names
-    "\\k<x>(?<x>a)",
-    "(?<$>a)(?<_>b)(?<a1>c)",
-    "(?<\u{e9}>a)\\k<\u{e9}>",
-    "(?<\u{6f22}>a)",
-    "(?<a\u{301}>a)",
-    "(?<a\u{200d}>a)",
-    "(?<toString>a)",
-    "[(?<a>]",
-    "\\(?<a>",
-    "(?<x>[(?<x>])",
+    r"\k<x>(?<x>a) (?<$>a)(?<_>b)(?<a1>c) (?<toString>a) [(?<a>] \(?<a> (?<x>[(?<x>])",
+    "(?<\u{e9}>a)\\k<\u{e9}> (?<\u{6f22}>a) (?<a\u{301}>a) (?<a\u{200d}>a)",
     // properties
-    "\\p{L}\\P{Letter}",
-    "\\p{gc=Lu}",
-    "\\p{General_Category=Uppercase_Letter}",
-    "\\p{sc=Grek}",
-    "\\p{Script=Greek}",
-    "\\p{scx=Latn}",
-    "\\p{Script_Extensions=Latin}",
-    "\\p{Alphabetic}\\p{Alpha}",
-    "\\p{ASCII}\\p{Any}\\p{Assigned}",
-    "\\p{LC}\\p{punct}\\p{digit}",
-    "\\p{Emoji}",
-    "[\\p{L}\\P{Nd}]",
+    r"\p{L}\P{Letter} \p{gc=Lu} \p{General_Category=Uppercase_Letter} \p{sc=Grek} \p{Script=Greek}",
+    r"\p{scx=Latn} \p{Script_Extensions=Latin} \p{Alphabetic}\p{Alpha}",
+    r"\p{ASCII}\p{Any}\p{Assigned} \p{LC}\p{punct}\p{digit} \p{Emoji} [\p{L}\P{Nd}]",
     // classes
-    "[]",
-    "[^]",
-    "[^^]",
-    "[a-z]",
-    "[a-a]",
-    "[-a]",
-    "[a-]",
-    "[--a]",
-    "[---]",
-    "[a-b-c]",
-    "[a-b--]",
-    "[\\d-]",
-    "[-\\d]",
-    "[\\b]",
-    "[\\-]",
-    "[a\\-z]",
-    "[.*+?(){}|^$/[]",
-    "[\\]]",
-    "[\\x41-\\u0042]",
-    "[\\cA-\\cB]",
-    "[\\0-\\x01]",
-    "[\\u{1F600}-\\u{1F601}]",
-    "[\\ud83d\\ude00-\\ud83d\\ude01]",
-    "[\\ud83d\\ude00-\u{1f601}]",
-    "[\u{e0}-\u{e9}]",
-    "[\u{e9}-\u{6f22}]",
-    "[\u{6f22}-\u{1f600}]",
-    "[\\uFFFF-\\ud800\\udc00]",
+    r"[] [^] [^^] [a-z] [a-a] [-a] [a-] [--a] [---] [a-b-c] [a-b--] [\d-] [-\d] [\b] [\-] [a\-z]",
+    r"[.*+?(){}|^$/[] [\]] [\x41-\u0042] [\cA-\cB] [\0-\x01] [\u{1F600}-\u{1F601}]",
+    r"[\ud83d\ude00-\ud83d\ude01] [\uFFFF-\ud800\udc00]",
+    "[\\ud83d\\ude00-\u{1f601}] [\u{e0}-\u{e9}] [\u{e9}-\u{6f22}] [\u{6f22}-\u{1f600}]",
 ];
 
-/// Other texts.
+/// Other texts, with spaces between them.
 const INVALID: &[&str] = &[
     // ECMA-262 and the tests of JSON Schema's `format`
-    "^(abc]",
-    "^\\S(|(.|\\n)*\\S)\\Z",
-    "\\a",
-    "\\c",
-    "(?=a)*",
-    "a{2,1}",
-    "[b-a]",
-    "\\1",
-    "\\k<x>",
-    "\\p{Foo}",
-    "\\u{110000}",
-    "{",
-    "]",
-    "a**",
+    r"^(abc] ^\S(|(.|\n)*\S)\Z \a \c (?=a)* a{2,1} [b-a] \1 \k<x> \p{Foo} \u{110000} { ] a**",
     // alternatives and terms
-    "}",
-    ")",
-    "(",
-    "(a",
-    "a)",
-    "(()",
-    "())",
-    "(?",
-    "(?a)",
-    "(?<",
-    "(?>a)",
-    "(?#a)",
-    "(?P<a>b)",
+    r"} ) ( (a a) (() ()) (? (?a) (?< (?>a) (?#a) (?P<a>b)",
     // quantifiers
-    "*",
-    "+",
-    "?",
-    "|*",
-    "(*)",
-    "(?:*)",
-    "^*",
-    "$?",
-    "\\b+",
-    "\\B{2}",
-    "a+*",
-    "a???",
-    "a{",
-    "a{,3}",
-    "a{2",
-    "a{2,",
-    "a{}",
-    "a{b}",
-    "a{2}{3}",
-    "{2}",
-    "a{-1}",
-    "a{1,2",
-    "a{10,9}",
-    "a{18446744073709551617,18446744073709551616}",
+    r"* + ? |* (*) (?:*) ^* $? \b+ \B{2} a+* a??? a{ a{,3} a{2 a{2, a{} a{b} a{2}{3} {2} a{-1}",
+    r"a{1,2 a{10,9} a{18446744073709551617,18446744073709551616}",
     // assertions
-    "(?!a)?",
-    "(?<=a)+",
-    "(?<!a){2}",
-    "(?=a){2,3}",
+    r"(?!a)? (?<=a)+ (?<!a){2} (?=a){2,3}",
     // escapes
-    "\\",
-    "\\e",
-    "\\-",
-    "\\_",
-    "\\ ",
-    "\\,",
-    "\\\u{e9}",
-    "\\x4",
-    "\\xg1",
-    "\\u",
-    "\\u004",
-    "\\u{}",
-    "\\u{41",
-    "\\u{g}",
-    "\\u{110000}",
-    "\\c1",
-    "\\c\u{e9}",
-    "\\00",
-    "\\01",
-    "\\8",
+    r"\ \e \- \_ \, \x4 \xg1 \u \u004 \u{} \u{41 \u{g} \u{110000} \c1 \00 \01 \8",
+    "\\\u{e9} \\c\u{e9}",
     // numbers of groups
-    "(a)\\2",
-    "\\1(?:a)",
-    "(?=a)\\1",
-    "[(]\\1",
-    "\\(\\1",
-    "(a)\\18446744073709551617",
-    "(a)\\11",
+    r"(a)\2 \1(?:a) (?=a)\1 [(]\1 \(\1 (a)\18446744073709551617 (a)\11",
     // names
-    "(?<>a)",
-    "(?<1>a)",
-    "(?<a-b>c)",
-    "(?<a",
-    "(?<a)",
-    "(?<a b>c)",
-    "(?<x>a)(?<x>b)",
-    "(?<x>(?<x>b))",
-    "(?<\u{e9}>a)(?<\u{e9}>b)",
-    "\\k",
-    "\\k<",
-    "\\kx",
-    "(?<x>a)\\k<y>",
-    "(?<x>a)\\k<xx>",
-    "(?<x>a)\\k<x",
-    "(?<x>a)\\k<>",
-    "(?<\u{1f600}>a)",
-    "(?<\u{301}>a)",
-    "[(?<x>a]\\k<x>",
+    r"(?<>a) (?<1>a) (?<a-b>c) (?<a (?<a) (?<x>a)(?<x>b) (?<x>(?<x>b)) \k \k< \kx (?<x>a)\k<y>",
+    r"(?<x>a)\k<xx> (?<x>a)\k<x (?<x>a)\k<> [(?<x>a]\k<x>",
+    "(?<\u{e9}>a)(?<\u{e9}>b) (?<\u{1f600}>a) (?<\u{301}>a)",
     // properties
-    "\\p",
-    "\\pL",
-    "\\p{",
-    "\\p{L",
-    "\\p{}",
-    "\\p{=}",
-    "\\p{L=}",
-    "\\p{=L}",
-    "\\p{lu}",
-    "\\p{ Lu}",
-    "\\p{gc=Greek}",
-    "\\p{sc=Lu}",
-    "\\p{Greek}",
-    "\\p{gc}",
-    "\\p{Script}",
-    "\\p{alpha}",
-    "\\p{Alphabetic=Yes}",
-    "\\p{Lu Ll}",
-    "\\p{sc=}",
-    "\\p{Block=ASCII}",
-    "[\\p{Foo}]",
+    r"\p \pL \p{ \p{L \p{} \p{=} \p{L=} \p{=L} \p{lu} \p{gc=Greek} \p{sc=Lu} \p{Greek} \p{gc}",
+    r"\p{Script} \p{alpha} \p{Alphabetic=Yes} \p{sc=} \p{Block=ASCII} [\p{Foo}]",
     // classes
-    "[",
-    "[a",
-    "[a-",
-    "[^",
-    "[\\]",
-    "[a-\\d]",
-    "[\\d-a]",
-    "[\\p{L}-z]",
-    "[a--]",
-    "[\\B]",
-    "[\\1]",
-    "[\\k<a>]",
-    "[\\00]",
-    "[\\c]",
-    "[\\a]",
-    "[\\ud83d\\ude01-\\ud83d\\ude00]",
-    "[\u{e9}-\u{e0}]",
-    "[\u{6f22}-\u{e9}]",
-    "[\u{1f600}-\u{6f22}]",
-    "[\\u{41}-\\x40]",
-    "[\\ud800\\udc00-\\uFFFF]",
+    r"[ [a [a- [^ [\] [a-\d] [\d-a] [\p{L}-z] [a--] [\B] [\1] [\k<a>] [\00] [\c] [\a]",
+    r"[\ud83d\ude01-\ud83d\ude00] [\u{41}-\x40] [\ud800\udc00-\uFFFF]",
+    "[\u{e9}-\u{e0}] [\u{6f22}-\u{e9}] [\u{1f600}-\u{6f22}]",
 ];
 
 #[test]
@@ -285,84 +73,65 @@ fn the_examples(rt: HostRuntime) -> Result<(), Fail> {
     Ok(())
 }
 
+/// Texts with spaces that are none.
+const INVALID_WITH_SPACES: &[&str] = &["\\ ", "(?<a b>c)", "\\p{ Lu}", "\\p{Lu Ll}"];
+
 #[test]
 fn the_rows(rt: HostRuntime) -> Result<(), Fail> {
-    for text in VALID {
-        assert!(rt; is_regex(text), "{text}");
-        assert!(rt; Format::Regex.accepts(text), "{text}");
+    for texts in VALID {
+        for text in texts.split(' ') {
+            assert!(rt; is_regex(text), "{text}");
+            assert!(rt; Format::Regex.accepts(text), "{text}");
+        }
     }
-    for text in INVALID {
+    Ok(())
+}
+
+#[test]
+fn other_rows(rt: HostRuntime) -> Result<(), Fail> {
+    for texts in INVALID {
+        for text in texts.split(' ') {
+            assert!(rt; !is_regex(text), "{text}");
+            assert!(rt; !Format::Regex.accepts(text), "{text}");
+        }
+    }
+    for text in INVALID_WITH_SPACES {
         assert!(rt; !is_regex(text), "{text}");
-        assert!(rt; !Format::Regex.accepts(text), "{text}");
     }
     Ok(())
 }
 
 /// Names of groups with escapes, which are the same where their characters are (22.2.1, `RegExpIdentifierName`).
 const ESCAPED_NAMES: &[&str] = &[
-    "(?<\\u0061>a)",
-    "(?<\\u{61}>a)",
-    "(?<a\\u0062>c)",
-    "(?<\\u0061b>c)",
-    "(?<\\u{000061}>a)",
-    "(?<a\\u{301}>b)",
-    "(?<a\\u200D>b)",
-    "(?<\\u{1D49C}>a)",
-    "(?<\\ud835\\udc9c>a)",
-    "(?<a\\ud835\\udc9c>b)",
-    "(?<\\u0024\\u005F>a)",
-    "(?<\\u0061>a)\\k<a>",
-    "(?<a>b)\\k<\\u0061>",
-    "\\k<\\u{61}>(?<\\u0061>b)",
+    r"(?<\u0061>a) (?<\u{61}>a) (?<a\u0062>c) (?<\u0061b>c) (?<\u{000061}>a) (?<a\u{301}>b)",
+    r"(?<a\u200D>b) (?<\u{1D49C}>a) (?<\ud835\udc9c>a) (?<a\ud835\udc9c>b) (?<\u0024\u005F>a)",
+    r"(?<\u0061>a)\k<a> (?<a>b)\k<\u0061> \k<\u{61}>(?<\u0061>b) (?<a>b)(?<\u0062>c)",
+    r"(?<\u0061>a)(?<\u0061\u0061>b) [(?<\u0061>] (?<x>[(?<\u0078>])",
     "(?<\u{1d49c}>a)\\k<\\ud835\\udc9c>",
-    "(?<a>b)(?<\\u0062>c)",
-    "(?<\\u0061>a)(?<\\u0061\\u0061>b)",
-    "[(?<\\u0061>]",
-    "(?<x>[(?<\\u0078>])",
 ];
 
 /// As these, with a character that is in no name, an escape that is none, or a name that is there twice or not at all.
 const INVALID_NAMES: &[&str] = &[
-    "(?<a>b)(?<\\u0061>c)",
-    "(?<\\u0061>b)(?<\\u{61}>c)",
-    "(?<\\u0061>(?<a>b))",
+    r"(?<a>b)(?<\u0061>c) (?<\u0061>b)(?<\u{61}>c) (?<\u0061>(?<a>b)) (?<\u0031>a) (?<\u{301}>a)",
+    r"(?<a\u002D>b) (?<a\u003E>b) (?<\u>a) (?<\u006>a) (?<\u{}>a) (?<\u{61>a) (?<\u{110000}>a)",
+    r"(?<\x61>a) (?<\a>a) (?<a\>b) (?<\ud835>a) (?<\udc9c>a) (?<\ud835a>b) (?<\ud835\u0061>b)",
+    r"(?<a\u{1f600}>b) (?<\u{1f600}>b) (?<a>b)\k<\u0062> (?<a>b)\k<a\u> (?<a>b)\k<a\u{>",
+    r"(?<a>b)\k<a\> (?<a>b)\k<\u0061\u002D> (?<a>b)\k<\x61> (?<a>b)\k<\u0061b> (?<ab>b)\k<\u0061>",
+    r"(?<a\u0062>c)\k<a>",
     "(?<\u{1d49c}>a)(?<\\ud835\\udc9c>b)",
-    "(?<\\u0031>a)",
-    "(?<\\u{301}>a)",
-    "(?<a\\u002D>b)",
-    "(?<a\\u003E>b)",
-    "(?<\\u>a)",
-    "(?<\\u006>a)",
-    "(?<\\u{}>a)",
-    "(?<\\u{61>a)",
-    "(?<\\u{110000}>a)",
-    "(?<\\x61>a)",
-    "(?<\\a>a)",
-    "(?<a\\>b)",
-    "(?<\\ud835>a)",
-    "(?<\\udc9c>a)",
-    "(?<\\ud835a>b)",
-    "(?<\\ud835\\u0061>b)",
-    "(?<a\\u{1f600}>b)",
-    "(?<\\u{1f600}>b)",
-    "(?<a>b)\\k<\\u0062>",
-    "(?<a>b)\\k<a\\u>",
-    "(?<a>b)\\k<a\\u{>",
-    "(?<a>b)\\k<a\\>",
-    "(?<a>b)\\k<\\u0061\\u002D>",
-    "(?<a>b)\\k<\\x61>",
-    "(?<a>b)\\k<\\u0061b>",
-    "(?<ab>b)\\k<\\u0061>",
-    "(?<a\\u0062>c)\\k<a>",
 ];
 
 #[test]
 fn escapes_in_names(rt: HostRuntime) -> Result<(), Fail> {
-    for text in ESCAPED_NAMES {
-        assert!(rt; is_regex(text), "{text}");
+    for texts in ESCAPED_NAMES {
+        for text in texts.split(' ') {
+            assert!(rt; is_regex(text), "{text}");
+        }
     }
-    for text in INVALID_NAMES {
-        assert!(rt; !is_regex(text), "{text}");
+    for texts in INVALID_NAMES {
+        for text in texts.split(' ') {
+            assert!(rt; !is_regex(text), "{text}");
+        }
     }
     Ok(())
 }

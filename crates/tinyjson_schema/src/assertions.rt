@@ -102,7 +102,8 @@ pub fn meets(
     value: &ValueView<'_>,
     walk: Walk<'_, '_>,
 ) -> Result<bool, SearchError>
-    ensures { IfOk result (λ is. is ≡ meets keyword (view here.now.schema.now) (tree_of value.now)) }
+    ensures { IfOk result
+        (λ is. is ≡ meets keyword (view here.now.schema.now) (tree_of value.now)) }
 {
     match here.schema_at(keyword) {
         Some(operand) => accepts(keyword, operand, value, walk.following()),

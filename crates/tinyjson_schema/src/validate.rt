@@ -326,8 +326,8 @@ fn in_reference(
     walk: Walk<'_, '_>,
 ) -> Result<Option<Violation>, CheckError>
     ensures { Finds walk.entry
-        (λ f. reference_accepts (view walk.entry.ground.now.whole.now.root.now) f (view here.now.schema.now)
-        (tree_of value.now))
+        (λ f. reference_accepts (view walk.entry.ground.now.whole.now.root.now) f
+        (view here.now.schema.now) (tree_of value.now))
         (view here.now.schema.now) (tree_of value.now) result }
 {
     if !here.may_refer() {
@@ -349,7 +349,8 @@ fn in_target(
     walk: Walk<'_, '_>,
 ) -> Result<Option<Violation>, CheckError>
     requires { is_reference keyword ≡ true }
-    ensures { Finds walk.entry (λ f. target_accepts (view walk.entry.ground.now.whole.now.root.now) keyword f
+    ensures { Finds walk.entry
+        (λ f. target_accepts (view walk.entry.ground.now.whole.now.root.now) keyword f
         (view here.now.schema.now) (tree_of value.now))
         (view here.now.schema.now) (tree_of value.now) result }
 {
@@ -370,7 +371,8 @@ fn in_parts(
     here: &Applied<'_>,
     walk: Walk<'_, '_>,
 ) -> Result<Option<Violation>, CheckError>
-    ensures { Finds walk.entry (λ f. parts_accepted f (view here.now.schema.now) (tree_of value.now))
+    ensures { Finds walk.entry
+        (λ f. parts_accepted f (view here.now.schema.now) (tree_of value.now))
         (view here.now.schema.now) (tree_of value.now) result }
 {
     match value.kind() {

@@ -101,7 +101,8 @@ pub fn is_any_met(
         (λ is. Follows walk.entry is
         (λ f. any_of f (schemas_at (view here.now.schema.now) kw.AnyOf) (tree_of value.now)))
         (λ e. IfDeep e
-        (DescendsAmong walk.entry (schemas_at (view here.now.schema.now) kw.AnyOf) (tree_of value.now))) }
+        (DescendsAmong walk.entry (schemas_at (view here.now.schema.now) kw.AnyOf)
+        (tree_of value.now))) }
 {
     let schemas = here.schemas_at(Keyword::AnyOf);
     if !is_some_item(schemas) {
@@ -148,7 +149,8 @@ pub fn is_one_met(
         (λ is. Follows walk.entry is
         (λ f. one_of f (schemas_at (view here.now.schema.now) kw.OneOf) (tree_of value.now)))
         (λ e. IfDeep e
-        (DescendsAmong walk.entry (schemas_at (view here.now.schema.now) kw.OneOf) (tree_of value.now))) }
+        (DescendsAmong walk.entry (schemas_at (view here.now.schema.now) kw.OneOf)
+        (tree_of value.now))) }
 {
     let schemas = here.schemas_at(Keyword::OneOf);
     if !is_some_item(schemas) {

@@ -206,7 +206,8 @@ pub fn is_item_evaluated(
 ) -> Result<bool, CheckError>
     requires { AreWithin walk.steps sources.now }
     ensures { MatchResult result
-        (λ is. (g : Answers) → is ≡ sources_evaluate g sources.now (item_at index (tree_of item.now)))
+        (λ is. (g : Answers) →
+        is ≡ sources_evaluate g sources.now (item_at index (tree_of item.now)))
         (λ e. IfDeep e (DescendsFrom sources.now index (tree_of item.now))) }
 {
     for source in sources {
@@ -226,7 +227,8 @@ fn evaluates_item(
     item: &ValueView<'_>,
 ) -> Result<bool, CheckError>
     ensures { MatchResult result
-        (λ is. (g : Answers) → is ≡ source_evaluates g source.now (item_at index (tree_of item.now)))
+        (λ is. (g : Answers) →
+        is ≡ source_evaluates g source.now (item_at index (tree_of item.now)))
         (λ e. IfDeep e (DescendsFromOne source.now index (tree_of item.now))) }
 {
     let has_rest = counts_rest(source, Keyword::UnevaluatedItems);
@@ -311,8 +313,8 @@ fn add_inner<'d, 's>(
     sources: &mut Vec<Source<'d, 's>>,
 ) -> Result<(), CheckError>
     ensures evaluated { OnOk result (Adds walk.entry
-        (λ a c. inner_evaluate (view walk.entry.ground.now.whole.now.root.now) a (view here.now.schema.now)
-        (tree_of value.now) c)
+        (λ a c. inner_evaluate (view walk.entry.ground.now.whole.now.root.now) a
+        (view here.now.schema.now) (tree_of value.now) c)
         sources.old.items sources.new.items) }
     ensures within { OnOk result (StaysWithin walk.entry sources.old.items sources.new.items) }
     ensures reached { OnOk result (StaysReached
@@ -502,7 +504,8 @@ fn add_dependent<'d, 's>(
         (DescendsForKey walk.entry (chars key.now) (view part.now.schema.now) (tree_of value.now))
         (tree_of value.now) sources.old.items sources.new.items) }
     ensures deep { IfErr result (λ e. IfDeep e
-        (DescendsForKey walk.entry (chars key.now) (view part.now.schema.now) (tree_of value.now))) }
+        (DescendsForKey walk.entry (chars key.now) (view part.now.schema.now)
+        (tree_of value.now))) }
 {
     if !has_key(value, key) {
         return Ok(());

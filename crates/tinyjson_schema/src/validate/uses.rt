@@ -386,7 +386,8 @@ fn add_left_members<'v, 's>(
     pending: &mut Vec<Pending<'v, 's>>,
 ) -> Result<(), CheckError>
     ensures { MatchResult result (λ _. (g : Answers) → AddsUses
-        (left_members (sources_evaluate g sources.now) (view rest.now.schema.now) (members_of members.now))
+        (left_members (sources_evaluate g sources.now) (view rest.now.schema.now)
+        (members_of members.now))
         pending.old.items pending.new.items)
         IsShallow }
 {
@@ -437,7 +438,8 @@ fn add_left_items<'v, 's>(
 ) -> Result<(), CheckError>
     requires { AreWithin walk.steps sources.now }
     ensures { MatchResult result (λ _. (g : Answers) → AddsUses
-        (left_items (sources_evaluate g sources.now) (view rest.now.schema.now) 0 (trees_of items.now))
+        (left_items (sources_evaluate g sources.now) (view rest.now.schema.now) 0
+        (trees_of items.now))
         pending.old.items pending.new.items)
         (λ e. IfDeep e (DescendsFromItems sources.now (trees_of items.now))) }
 {
