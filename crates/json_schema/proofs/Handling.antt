@@ -62,7 +62,8 @@ module _ (check : Check) (n : ℕ) (line : List ℕ) (held told : Option (List �
       record { line = line; verdict = Refused c },
       (refl, h),
       q.0,
-      Appends_keeps held holds after (shown_of check n line (Refused c)) (Appends_written held holds (shown_of check n line (Refused c)) w) q.1,
+      Appends_keeps held holds after (shown_of check n line (Refused c))
+          (Appends_written held holds (shown_of check n line (Refused c)) w) q.1,
       q.2,
     )
     line_refused (Err e) w q = inr (record { line = line; verdict = Refused c }, (refl, h), stop (written_same w q.0), q.1)

@@ -53,7 +53,8 @@ shared_first file name = ahead_first (both_begin file name)
 
 module _ (file name : List ℕ) (i s : ℕ) (h : IsShared file name i s) where
   pub shared_out : length name ≤ i → length (shared file name) ≡ s
-  shared_out e = h ∙ (ap (λ ys. ahead i s (both_begin (drop i file) ys)) (drop_of_length-le name e) ∙ ap (ahead i s) (both_none (drop i file)))
+  shared_out e =
+      h ∙ (ap (λ ys. ahead i s (both_begin (drop i file) ys)) (drop_of_length-le name e) ∙ ap (ahead i s) (both_none (drop i file)))
 
   module _ (l : i < length file) (m : i < length name) where
     both_here : both_begin (drop i file) (drop i name)

@@ -2,7 +2,10 @@
 ghost use Rattle.std.specs.Prelude.{◌≡◌, option_map, IfOk};
 ghost use Rattle.std.specs.String.{string_bytes};
 ghost use Rattle.tinyjson_schema_references.specs.References.{seen};
-ghost use Rattle.json_schema.specs.Meta.{document_uri, found_in};
+ghost use Rattle.tinyjson.specs.View.{view};
+ghost use Rattle.tinyjson_schema_documents.specs.Documents.{base_of};
+ghost use Rattle.json_schema.specs.Meta.{document_uri, found_in, EmbedsNew, EmbedsSome, with_ways, with_way};
+ghost use Rattle.json_schema.specs.Meta.{way_to, other_uri, if_other, document_id};
 
 use crate::failure::{SchemaFailure, document_failure, schema_failure};
 use crate::folder::{is_folder, json_files};
@@ -15,9 +18,10 @@ use std::fs;
 use std::os::unix::fs::MetadataExt;
 use tinyjson::JsonValue;
 use tinyjson_cli::{Failure, Text, read_named};
+use tinyjson_pointer::put_member;
 use tinyjson_schema_documents::{found_at, has_definition};
 use tinyjson_schema_drafts::Draft;
-use tinyjson_schema_keywords::{Keyword, schema_at};
+use tinyjson_schema_keywords::{Keyword, operand, schema_at};
 use tinyjson_schema_references::{Compound, embed};
 use uri_reference::{resolve, without_fragment};
 
@@ -29,7 +33,10 @@ pub fn with_documents(
     file: &str,
     draft: Draft,
     texts: &[Text<'_>],
-) -> Result<Compound, Failure> {
+) -> Result<Compound, Failure>
+    ensures { IfOk result
+        (λ c. EmbedsSome draft (found_in file.now (seen compound)) (seen c)) }
+{
     let documents = documents_of(rt, file, texts)?;
     let mut compound = found_in(rt.alloc(), compound, file)?;
     for document in &documents {
@@ -162,7 +169,11 @@ fn with_file(
     compound: Compound,
     document: &Document,
     default: Draft,
-) -> Result<Compound, Failure> {
+) -> Result<Compound, Failure>
+    ensures { IfOk result
+        (λ c. EmbedsNew default (document.now.is_located, string_bytes document.now.uri)
+        (seen compound) (seen c)) }
+{
     let uri = document.uri.as_str();
     if has_definition(&compound.tree, uri) {
         return Err(schema_failure(rt.alloc(), &SchemaFailure::Twice(uri)));
@@ -170,59 +181,106 @@ fn with_file(
     let tree = document_tree(rt, document.file.as_str())?;
     tell_unknown(rt, &tree)?;
     let compound = embed(compound, uri, tree, default, rt.alloc())?;
-    if !document.is_located {
+    Ok(with_ways(rt.alloc(), compound, uri, document.is_located)?)
+}
+
+/// The schema with its document at this URI, which references also lead into by the URI where it was found.
+fn with_ways(
+    alloc: Global,
+    compound: Compound,
+    uri: &str,
+    is_located: bool,
+) -> Result<Compound, AllocError>
+    ensures { IfOk result (λ c. seen c ≡ with_ways is_located uri.now (seen compound)) }
+{
+    if !is_located {
         return Ok(compound);
     }
-    match other_uri(rt.alloc(), &compound.tree, uri)? {
-        Some(own) => Ok(with_way(rt.alloc(), compound, uri, own)?),
+    match other_uri(alloc, &compound.tree, uri)? {
+        Some(own) => with_way(alloc, compound, uri, own),
         None => Ok(compound),
     }
 }
 
 /// The URI of the document that was found at this one, if it gives itself another by `$id` (Core, 8.2.1).
-fn other_uri(alloc: Global, schema: &JsonValue, uri: &str) -> Result<Option<String>, AllocError> {
+fn other_uri(alloc: Global, schema: &JsonValue, uri: &str) -> Result<Option<String>, AllocError>
+    ensures { IfOk result
+        (λ other. option_map string_bytes other ≡ other_uri uri.now (view schema.now)) }
+{
     let found = resolve(alloc, id_of(schema), uri)?;
     let own = without_fragment(document_id(schema, uri));
-    if own.is_empty() || own == without_fragment(found.as_str()) {
-        return Ok(None);
+    match if_other(without_fragment(found.as_str()), own) {
+        Some(own) => Ok(Some(String::from_str(alloc, own)?)),
+        None => Ok(None),
     }
-    Ok(Some(String::from_str(alloc, own)?))
+}
+
+/// The document's own URI, if it has one that is not the URI where it was found.
+fn if_other<'u>(found: &str, own: &'u str) -> Option<&'u str>
+    ensures { option_map (λ o. o.now) result ≡ if_other found.now own.now }
+{
+    if own.is_empty() || own == found {
+        None
+    } else {
+        Some(own)
+    }
 }
 
 /// The `$id` of the document that was found at this URI.
-fn document_id<'s>(schema: &'s JsonValue, uri: &str) -> &'s str {
-    let Some(JsonValue::Object(documents)) = schema_at(schema, Keyword::Defs) else {
+fn document_id<'s>(schema: &'s JsonValue, uri: &str) -> &'s str
+    ensures { result.now ≡ document_id uri.now (view schema.now) }
+{
+    let Some(documents) = schema_at(schema, Keyword::Defs) else {
         return "";
     };
-    match documents.get(uri) {
+    match operand(documents, uri) {
         Some(document) => id_of(document),
         None => "",
     }
 }
 
-fn id_of(schema: &JsonValue) -> &str {
-    match schema_at(schema, Keyword::Id) {
-        Some(JsonValue::String(id)) => id.as_str(),
+fn id_of(schema: &JsonValue) -> &str
+    ensures { result.now ≡ base_of (view schema.now) }
+{
+    let Some(id) = schema_at(schema, Keyword::Id) else {
+        return "";
+    };
+    match id {
+        JsonValue::String(text) => text.as_str(),
         _ => "",
     }
 }
 
-/// The schema with a resource at this URI that refers to the other one.
+/// The schema with a resource, behind this URI, that refers to the other one.
 fn with_way(
     alloc: Global,
     compound: Compound,
     uri: &str,
     other: String,
-) -> Result<Compound, AllocError> {
+) -> Result<Compound, AllocError>
+    ensures { IfOk result
+        (λ c. seen c ≡ with_way uri.now (seen compound) (string_bytes other)) }
+{
     let mut key = String::from_str(alloc, uri)?;
     key.push('#')?;
+    let way = way_to(alloc, other)?;
+    embed(compound, key.as_str(), way, Draft::Draft202012, alloc)
+}
+
+/// A resource that refers to the one at this URI.
+fn way_to(alloc: Global, other: String) -> Result<JsonValue, AllocError>
+    ensures { IfOk result (λ v. view v ≡ way_to (string_bytes other)) }
+{
     let mut way = HashMap::new(alloc);
     let empty = JsonValue::String(String::new(alloc));
-    way.insert(String::from_str(alloc, Keyword::Id.name())?, empty)?;
-    let other = JsonValue::String(other);
-    way.insert(String::from_str(alloc, Keyword::Ref.name())?, other)?;
-    let way = JsonValue::Object(way);
-    embed(compound, key.as_str(), way, Draft::Draft202012, alloc)
+    put_member(&mut way, Keyword::Id.name(), empty, alloc)?;
+    put_member(
+        &mut way,
+        Keyword::Ref.name(),
+        JsonValue::String(other),
+        alloc,
+    )?;
+    Ok(JsonValue::Object(way))
 }
 
 /// Parses a document's file. Not inlined, so that a later check has all of the stack.

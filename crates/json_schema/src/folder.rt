@@ -1,4 +1,6 @@
 //! The files below a folder.
+ghost use Rattle.std.specs.Prelude.{string_cmp, IfErr, IfOk, IsSorted};
+ghost use Rattle.tinyjson_cli.specs.Ending.{IsOfNamed};
 
 use crate::names::joined;
 use std::alloc::{AllocError, Global};
@@ -7,7 +9,10 @@ use tinyjson_cli::{Failure, Shown, reading_error};
 
 /// The names of the files `*.json` below a folder, each from there on, in their order. What begins with a dot is left out,
 /// and so are folders that symbolic links lead to. It fails with `Misused`, whose words name a folder, or `OutOfMemory`.
-pub fn json_files(rt: &HostRuntime, folder: &str) -> Result<Vec<String>, Failure> {
+pub fn json_files(rt: &HostRuntime, folder: &str) -> Result<Vec<String>, Failure>
+    ensures order { IfOk result (λ names. IsSorted string_cmp names.items) }
+    ensures err { IfErr result IsOfNamed }
+{
     let alloc = rt.alloc();
     let mut found = Found::new(alloc)?;
     for _ in 0..u64::MAX {
@@ -76,7 +81,9 @@ fn may_be_text(rt: &HostRuntime, path: &str) -> bool {
 }
 
 /// The failure for a folder that can't be read.
-fn folder_failure(alloc: Global, folder: &str, error: io::Error) -> Failure {
+fn folder_failure(alloc: Global, folder: &str, error: io::Error) -> Failure
+    ensures { IsOfNamed result }
+{
     let failure = reading_error(error);
     if matches!(failure, Failure::OutOfMemory) {
         return failure;

@@ -223,7 +223,10 @@ struct Request<'w, 'a> {
 /// Parses the arguments: `[-lf] [-t | -v | -i] [-m N] [-d N] [-r FILE].. SCHEMA [FILE..]`.
 fn requested<'w, 'a>(arguments: &'a Arguments<'w>) -> Option<Request<'w, 'a>>
     ensures { option_map (λ r. (
-      (((r.by_lines, r.formats), (r.shows, r.most)), ((r.max_line, r.draft), map text_of r.documents.now)),
+      (
+        ((r.by_lines, r.formats), (r.shows, r.most)),
+        ((r.max_line, r.draft), map text_of r.documents.now),
+      ),
       (option_map (λ f. f.now) r.schema, map (λ f. f.now) r.files.now),
     )) result ≡ asks (given_of arguments.now) }
 {

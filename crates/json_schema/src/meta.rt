@@ -1,6 +1,7 @@
 //! Schemas that are checked by their meta-schemas.
-ghost use Rattle.std.specs.Prelude.{IfOk};
+ghost use Rattle.std.specs.Prelude.{◌≡◌, [], false, IfOk};
 ghost use Rattle.std.specs.Str.{chars};
+ghost use Rattle.tinyjson.specs.Tree.{object, no_members};
 ghost use Rattle.tinyjson.specs.View.{view};
 ghost use Rattle.tinyjson_schema_references.specs.References.{seen, meta_schema_of, HasMetaSchemas};
 ghost use Rattle.json_schema.specs.Every.{TextGivesAs};
@@ -51,11 +52,14 @@ impl MetaSchemas {
         formats: bool,
         most: Option<usize>,
         texts: &[Text<'_>],
-    ) -> Result<MetaSchemas, Failure> {
-        let empty = Compound {
-            tree: JsonValue::Object(HashMap::new(rt.alloc())),
-            is_older: false,
-        };
+    ) -> Result<MetaSchemas, Failure>
+        ensures draft { IfOk result (λ m. m.draft ≡ draft) }
+        ensures formats { IfOk result (λ m. m.formats ≡ formats) }
+        ensures most { IfOk result (λ m. m.most ≡ most) }
+        ensures none { texts.now ≡ [] →
+            IfOk result (λ m. seen m.documents ≡ (object no_members, false)) }
+    {
+        let empty = no_documents(rt.alloc());
         let checks = MetaSchemas {
             documents: match texts {
                 [] => empty,
@@ -150,6 +154,16 @@ impl MetaSchemas {
         };
         let every = check_as(alloc, judge, text, self.most)?;
         Ok(every)
+    }
+}
+
+/// A schema without keywords, and no documents.
+fn no_documents(alloc: Global) -> Compound
+    ensures { seen result ≡ (object no_members, false) }
+{
+    Compound {
+        tree: JsonValue::Object(HashMap::new(alloc)),
+        is_older: false,
     }
 }
 

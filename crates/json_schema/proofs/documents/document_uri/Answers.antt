@@ -15,4 +15,5 @@ returns-in-None c =
     subst (λ u. IfOk c.reference.result
     (λ s. string_bytes s ≡ document_uri c.args.schema.now (option_map (λ b. b.now) u) c.args.file.now))
     (sym c.in-None.is)
-    (subst (λ bs. IfOk c.reference.result (λ s. string_bytes s ≡ bs)) (ap₂ reference c.plain.ensures c.plain-in-None.ensures) c.reference.ensures)
+    (subst (λ bs. IfOk c.reference.result (λ s. string_bytes s ≡ bs))
+    (ap₂ reference c.plain.ensures c.plain-in-None.ensures) c.reference.ensures)

@@ -57,5 +57,5 @@ loop-number-preserved g c =
 pub returns : goal.returns
 returns g c =
     let p = c.loop-number.invariant.progress in
-    run.stopped (Gives c.args.check) (output_of c.args.check) (telling_of c.args.check) _ _ _ _ _ _ c.loop-number.number p.verdicts p.progress _ _
-    (Keeps-refl _) (Keeps-refl _)
+    run.stopped (Gives c.args.check) (output_of c.args.check) (telling_of c.args.check) _ _ _ _ _ _ c.loop-number.number
+    p.verdicts p.progress _ _ (Keeps-refl _) (Keeps-refl _)

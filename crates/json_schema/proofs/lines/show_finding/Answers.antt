@@ -7,7 +7,8 @@ use Rattle.json_schema.proofs.lines.show_finding.Goals as goal
 pub returns-in-Reports : goal.returns-in-Reports
 returns-in-Reports g c =
     subst (λ s. WritesPrefix (g.W.Write.contents c.args.output.now) (g.W.Write.contents c.write_report.new.w)
-    (report_by s (file_of c.args.check) c.args.number c.args.located.now) c.write_report.result) (sym c.in-Reports.is) c.write_report.ensures
+    (report_by s (file_of c.args.check) c.args.number c.args.located.now) c.write_report.result)
+    (sym c.in-Reports.is) c.write_report.ensures
 
 pub returns-in-Texts : goal.returns-in-Texts
 returns-in-Texts g c =

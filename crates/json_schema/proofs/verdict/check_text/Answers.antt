@@ -15,7 +15,8 @@ pub returns-in-Ok : goal.returns-in-Ok
 returns-in-Ok c =
     let xs = chars c.args.text.now in
     gives_of_value (judged c.args.judge) xs (tree c.root.result) c.check_value-verdict.result
-    (subst (IsText depth_limit xs) (sym c.root.ensures) (text_read depth_limit xs c.in-Ok.document c.in-Ok.ensures)) c.check_value-verdict.ensures
+    (subst (IsText depth_limit xs) (sym c.root.ensures) (text_read depth_limit xs c.in-Ok.document c.in-Ok.ensures))
+    c.check_value-verdict.ensures
 
 pub returns-else-is_out_of_memory : goal.returns-else-is_out_of_memory
 returns-else-is_out_of_memory c =
