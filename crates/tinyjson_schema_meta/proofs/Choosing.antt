@@ -1,12 +1,20 @@
 -- Which of two answers a truth value chooses.
-use Rattle.std.proofs.Common.{◌≡◌, refl, Bool, true, false, cond}
+use Rattle.std.proofs.Common.{◌≡◌, Bool, true, false, cond, Option, Some}
 
-pub taken : {A : Type 0} (r b : Bool) (x y : A) → r ≡ b → r ≡ true → x ≡ cond b x y
-taken true true x y e h = refl
-taken true false x y e h = cc
-taken false b x y e h = cc
+chosen : {A : Type 0} (b : Bool) (x z y : A) → b ≡ true → x ≡ z → x ≡ cond b z y
+chosen true x z y t k = k
+chosen false x z y t k = cc
 
-pub past : {A : Type 0} (r b : Bool) (x y z : A) → r ≡ b → r ≡ false → z ≡ y → z ≡ cond b x y
-past false false x y z e h k = k
-past false true x y z e h k = cc
-past true b x y z e h k = cc
+passed : {A : Type 0} (b : Bool) (x z y : A) → b ≡ false → x ≡ y → x ≡ cond b z y
+passed false x z y t k = k
+passed true x z y t k = cc
+
+-- the documents `d` are those of the draft `e`, which has what is looked for
+pub taken : {A : Type 0} (f : A → Bool) (d e : A) (y : Option A) (r : Bool) → d ≡ e → r ≡ f d → r ≡ true
+    → Some d ≡ cond (f e) (Some e) y
+taken f d e y r k h t = chosen (f e) (Some d) (Some e) y (cc) (cc)
+
+-- the draft has not what is looked for
+pub past : {A : Type 0} (f : A → Bool) (d e : A) (x y : Option A) (r : Bool) → d ≡ e → r ≡ f d → r ≡ false → x ≡ y
+    → x ≡ cond (f e) (Some e) y
+past f d e x y r k h t same = passed (f e) x (Some e) y (cc) same

@@ -1,8 +1,18 @@
 //! The meta-schema of 2019-09, and those of its vocabularies.
 
+ghost use Rattle.std.specs.Prelude.{◌≡◌, map};
+ghost use Rattle.tinyjson_schema_meta.specs.Meta.{draft_2019_09, published};
+
 use crate::meta::MetaSchema;
 
-pub(crate) static DRAFT_2019_09: [MetaSchema; 7] = [
+/// The meta-schema of the draft, and those of its vocabularies.
+pub(crate) fn documents() -> &'static [MetaSchema]
+    ensures { map published result.now ≡ draft_2019_09 }
+{
+    &DOCUMENTS
+}
+
+static DOCUMENTS: [MetaSchema; 7] = [
     MetaSchema {
         uri: "https://json-schema.org/draft/2019-09/schema",
         text: SCHEMA,

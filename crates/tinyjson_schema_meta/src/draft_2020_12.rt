@@ -1,8 +1,18 @@
 //! The meta-schema of 2020-12, and those of its vocabularies.
 
+ghost use Rattle.std.specs.Prelude.{◌≡◌, map};
+ghost use Rattle.tinyjson_schema_meta.specs.Meta.{draft_2020_12, published};
+
 use crate::meta::MetaSchema;
 
-pub(crate) static DRAFT_2020_12: [MetaSchema; 9] = [
+/// The meta-schema of the draft, and those of its vocabularies.
+pub(crate) fn documents() -> &'static [MetaSchema]
+    ensures { map published result.now ≡ draft_2020_12 }
+{
+    &DOCUMENTS
+}
+
+static DOCUMENTS: [MetaSchema; 9] = [
     MetaSchema {
         uri: "https://json-schema.org/draft/2020-12/schema",
         text: SCHEMA,

@@ -1,8 +1,18 @@
 //! The meta-schema of draft 4.
 
+ghost use Rattle.std.specs.Prelude.{◌≡◌, map};
+ghost use Rattle.tinyjson_schema_meta.specs.Meta.{draft_4, published};
+
 use crate::meta::MetaSchema;
 
-pub(crate) static DRAFT_4: [MetaSchema; 1] = [MetaSchema {
+/// The meta-schema of the draft.
+pub(crate) fn documents() -> &'static [MetaSchema]
+    ensures { map published result.now ≡ draft_4 }
+{
+    &DOCUMENTS
+}
+
+static DOCUMENTS: [MetaSchema; 1] = [MetaSchema {
     uri: "http://json-schema.org/draft-04/schema",
     text: SCHEMA,
 }];

@@ -2,11 +2,7 @@
 ghost use Rattle.std.specs.Prelude.{◌≡◌, map, option_map};
 ghost use Rattle.tinyjson_schema_meta.specs.Meta.{documents_with, has_document, published};
 
-use crate::draft_4::DRAFT_4;
-use crate::draft_6::DRAFT_6;
-use crate::draft_7::DRAFT_7;
-use crate::draft_2019_09::DRAFT_2019_09;
-use crate::draft_2020_12::DRAFT_2020_12;
+use crate::{draft_4, draft_6, draft_7, draft_2019_09, draft_2020_12};
 
 /// A document that json-schema.org publishes.
 #[derive(Clone, Copy)]
@@ -26,20 +22,25 @@ pub struct MetaSchema {
 pub fn meta_schemas(uri: &str) -> Option<&'static [MetaSchema]>
     ensures { option_map (λ found. map published found.now) result ≡ documents_with uri.now }
 {
-    if has_document(&DRAFT_2020_12, uri) {
-        return Some(&DRAFT_2020_12);
+    let draft_2020_12 = draft_2020_12::documents();
+    if has_document(draft_2020_12, uri) {
+        return Some(draft_2020_12);
     }
-    if has_document(&DRAFT_2019_09, uri) {
-        return Some(&DRAFT_2019_09);
+    let draft_2019_09 = draft_2019_09::documents();
+    if has_document(draft_2019_09, uri) {
+        return Some(draft_2019_09);
     }
-    if has_document(&DRAFT_7, uri) {
-        return Some(&DRAFT_7);
+    let draft_7 = draft_7::documents();
+    if has_document(draft_7, uri) {
+        return Some(draft_7);
     }
-    if has_document(&DRAFT_6, uri) {
-        return Some(&DRAFT_6);
+    let draft_6 = draft_6::documents();
+    if has_document(draft_6, uri) {
+        return Some(draft_6);
     }
-    if has_document(&DRAFT_4, uri) {
-        return Some(&DRAFT_4);
+    let draft_4 = draft_4::documents();
+    if has_document(draft_4, uri) {
+        return Some(draft_4);
     }
     None
 }
