@@ -1,10 +1,19 @@
 -- Open containers, and what the events hold meanwhile.
 use Rattle.std.proofs.Common.{◌≡◌, ℕ, ◌+◌, ◌-◌, List, [], ◌∷◌, ◌++◌, length, reverse, slice_set, suc}
-use Rattle.std.proofs.Common.{refl, sym, ap, ap₂, ◌∙◌, subst, arith}
+use Rattle.std.proofs.Common.{refl, sym, ap, ap₂, ◌∙◌, subst, arith, Bool, true, false, true≢false, Option, Some, None, IsSome, Result, Ok, Err, inr, MatchResult}
+use Rattle.std.specs.Prelude.{OnOk, ◌↔◌, ◌<◌}
+use Rattle.std.specs.Option.{option_to_list}
 use Rattle.std.proofs.Math.Seq.{set-append_seam}
 use Rattle.std.proofs.lemmas.List.{length-append, reverse-append, reverse-reverse}
-use Rattle.tinyjson_grammar.specs.Machine.{Frame, in_array, at_key, at_value}
-use Rattle.tinyjson.specs.private.Building.{Agree, AgreeAround, IsOpen, IsWithin, awaited_of}
+use Rattle.tinyjson_grammar.specs.Machine.{Frame, in_array, at_key, at_value, complete, stop}
+use Rattle.tinyjson_grammar.specs.Tree.{Tree, is_string, literal_tree}
+use Rattle.tinyjson_grammar.specs.declared.error.JsonParseErrorKind.{JsonParseErrorKind}
+use Rattle.tinyjson_grammar.specs.declared.error.JsonParseErrorKind.TheVariants.{OutOfMemory}
+use Rattle.tinyjson_tokens.specs.Steps.{IsNext}
+use Rattle.tinyjson.specs.Events.{Puts}
+use Rattle.tinyjson.specs.private.Building.{Agree, AgreeAround, Completes, IsOpen, IsWithin, Joins, TakesValue, awaited_of}
+use Rattle.tinyjson.specs.declared.parser.nest.Progress.{Progress}
+use Rattle.tinyjson.specs.declared.parser.nest.Progress.TheVariants.{Complete}
 use Rattle.tinyjson.specs.declared.parser.nest.Awaited.{Awaited}
 use Rattle.tinyjson.specs.declared.parser.nest.Awaited.TheVariants.{Item, Key, Value}
 use Rattle.tinyjson.specs.declared.parser.nest.Nest.{Nest}
@@ -40,6 +49,13 @@ agree_around (Value ∷ os) (in_array ts) fs h = absurd h
 agree_around (Value ∷ os) (at_key ms) fs h = absurd h
 agree_around (Value ∷ os) (at_value ms k) fs h = h
 
+-- the containers around the innermost, once it is closed
+pub agree_popped : (n : ℕ) (xs ys : List Awaited) (o : Option Awaited) (fs : List Frame) → n ≡ length xs → xs ≡ ys ++ option_to_list o
+    → (IsSome o ↔ (0 < n)) → AgreeAround (reverse xs) fs → Agree (reverse ys) fs
+agree_popped n xs ys (Some x) fs l e v h = subst (λ zs. AgreeAround zs fs) (ap reverse e ∙ reverse-append ys (x ∷ [])) h
+agree_popped n [] ys None fs l e v h = absurd h
+agree_popped n (x ∷ xs) ys None fs l e v h = let k : 0 < n = omega (arith, l) in absurd (true≢false (sym (v.1 k)))
+
 -- another element in the place of the last
 pub last_set : {T : Type 0} (n : ℕ) (xs : List T) (o a : T) (os : List T) → n ≡ length xs → reverse xs ≡ o ∷ os
     → reverse (slice_set xs (n - 1) a) ≡ a ∷ os
@@ -65,3 +81,43 @@ module _ {B : Type 0} (holds : B → List Frame → Type 0) where
           → IsOpen holds new (f ∷ fs)
       by [] w go = absurd w
       by (o ∷ os) w go = (h, subst (λ ps. Agree ps (f ∷ fs)) (sym (go o os refl)) (same os w))
+
+pub literal_no_string : (o : Option Bool) → is_string (literal_tree o) ≡ false
+literal_no_string None = refl
+literal_no_string (Some b) = refl
+
+module _ {B : Type 0} (holds : B → List Frame → Type 0) (is : B → Tree → Type 0) where
+  -- a value is complete, and was put where it belongs, if there was memory
+  put_completes : (b : B) (os : List Awaited) (fs : List Frame) (t : Tree) → Agree os fs → TakesValue fs → Puts holds is fs t b
+      → Completes holds is b os (complete true fs t true)
+  put_completes b [] [] t a v p = (t, refl, p)
+  put_completes b [] (f ∷ fs) t a v p = absurd a
+  put_completes b (o ∷ os) [] t a v p = absurd (none o a)
+    where
+      none : (o : Awaited) → Agree (o ∷ os) [] → ⊥
+      none Item k = k
+      none Key k = k
+      none Value k = k
+  put_completes b (Item ∷ os) (in_array ts ∷ fs) t a v p = (_, fs, refl, p, a)
+  put_completes b (Item ∷ os) (at_key ms ∷ fs) t a v p = absurd a
+  put_completes b (Item ∷ os) (at_value ms k ∷ fs) t a v p = absurd a
+  put_completes b (Key ∷ os) (in_array ts ∷ fs) t a v p = absurd a
+  put_completes b (Key ∷ os) (at_key ms ∷ fs) t a v p = absurd v
+  put_completes b (Key ∷ os) (at_value ms k ∷ fs) t a v p = absurd a
+  put_completes b (Value ∷ os) (in_array ts ∷ fs) t a v p = absurd a
+  put_completes b (Value ∷ os) (at_key ms ∷ fs) t a v p = absurd a
+  put_completes b (Value ∷ os) (at_value ms k ∷ fs) t a v p = (_, fs, refl, p, a)
+
+  goes_on : (fs : List Frame) (t : Tree) → TakesValue fs → IsNext (complete true fs t true)
+  goes_on [] t v = tt
+  goes_on (in_array ts ∷ fs) t v = tt
+  goes_on (at_key ms ∷ fs) t v = absurd v
+  goes_on (at_value ms k ∷ fs) t v = tt
+
+  pub put_joins : {A F : Type 0} (s : Nest B) (fs : List Frame) (t : Tree) (put : Result A F) (r : Result Progress JsonParseErrorKind)
+      → Agree (awaited_of s) fs → TakesValue fs → OnOk put (Puts holds is fs t s.events)
+      → MatchResult put (λ _. r ≡ Ok Complete) (λ _. r ≡ Err OutOfMemory) → Joins holds is (complete true fs t true) r s
+  put_joins s fs t (Ok u) r a v p e =
+      subst (λ q. Joins holds is (complete true fs t true) q s) (sym e) (put_completes s.events (awaited_of s) fs t a v p)
+  put_joins s fs t (Err u) r a v p e =
+      subst (λ q. Joins holds is (complete true fs t true) q s) (sym e) (inr (refl, goes_on fs t v))

@@ -1,0 +1,19 @@
+use Rattle.std.proofs.Common.{refl, inl}
+use Rattle.std.proofs.lemmas.Result.{err_from_is_err_and}
+use Rattle.tinyjson_grammar.specs.Tree.{array, items_of}
+use Rattle.tinyjson.proofs.Reading.Building.{agree_popped, put_joins}
+use Rattle.tinyjson.proofs.parser.nest.Nest.close_array.Goals as goal
+
+pub returns-in_err-refuse_key-clause-joins : goal.returns-in_err-refuse_key-clause-joins
+returns-in_err-refuse_key-clause-joins g c = λ start ts fs h.
+    let p = c.pop in
+    let a = agree_popped _ c.args.self.now.awaited.items p.new.self.items p.result fs c.args.self.now.awaited.ok.0 p.ensures.items p.ensures.variant h.1 in
+    let r = err_from_is_err_and c.from_residual.result c.from_residual.ensures.1 in
+    rw (r.1, r.2) (inl (c.in_err-refuse_key.ensures fs a (array (items_of ts)) refl refl))
+
+pub returns-clause-joins : goal.returns-clause-joins
+returns-clause-joins g c = λ start ts fs h.
+    let p = c.pop in
+    let a = agree_popped _ c.args.self.now.awaited.items p.new.self.items p.result fs c.args.self.now.awaited.ok.0 p.ensures.items p.ensures.variant h.1 in
+    put_joins (g.E.Events.holds start) (g.E.Events.is start) (record { events = c.close_array.new.self; awaited = p.new.self }) fs (array (items_of ts)) _
+    c.completed.result a (c.in_ok-refuse_key.ensures fs a) (c.close_array.ensures start ts fs h.0) c.completed.ensures
