@@ -1,10 +1,11 @@
 -- How a cursor over an iterator goes on.
 use Rattle.std.proofs.Common.{◌≡◌, ℕ, Bool, true, false, not, is_some, List, [], ◌∷◌, ◌++◌}
 use Rattle.std.proofs.Common.{Option, Some, None, refl, sym, ap, ◌∙◌, ◌<◌, ◌≢◌}
-use Rattle.std.proofs.Common.{◌+◌, arith, true≢false, append_assoc, subst, Result, Ok, Err, OnOk}
+use Rattle.std.proofs.Common.{◌+◌, ◌≤◌, arith, length, true≢false, append_assoc, subst, Result, Ok, Err, OnOk}
 use Rattle.std.specs.Option.{option_to_list}
 use Rattle.std.specs.Iterator.{Count, MakesProgress}
 use Rattle.std.proofs.lemmas.Bool.Decides.{nat_tests}
+use Rattle.std.proofs.lemmas.List.{length-append}
 use Rattle.tinyjson_tokens.specs.declared.cursor.Cursor.{Cursor}
 use Rattle.tinyjson_tokens.specs.Cursor.{Ready, Gives, Begins, Shows, Goes, place}
 use Rattle.tinyjson_grammar.specs.Position.{advance, capped, position_at}
@@ -68,6 +69,18 @@ pub OnOk_append : {E : Type 0} (r : Result (Unit {0}) E) (new ys old xs mid : Li
     → OnOk r (new ≡ old ++ (xs ++ ys))
 OnOk_append (Ok u) new ys old xs mid m h = h ∙ ap (λ t. t ++ ys) m ∙ append_assoc old xs ys
 OnOk_append (Err e) new ys old xs mid m h = tt
+
+-- a text that grew is another one
+pub OnOk_grown : {E : Type 0} (r : Result (Unit {0}) E) (P : Type 0) (new old xs : List ℕ) (x : ℕ) → OnOk r (new ≡ old ++ (x ∷ xs))
+    → OnOk r (new ≡ old → P)
+OnOk_grown (Ok u) P new old xs x h = λ e. absurd (omega (arith, ap length (sym e ∙ h), length-append old (x ∷ xs)))
+OnOk_grown (Err e) P new old xs x h = tt
+
+-- one more character was added, and one fewer is left
+pub OnOk_fewer : {E : Type 0} (r : Result (Unit {0}) E) (a b k : ℕ) (new mid old : List ℕ) (x : ℕ) → mid ≡ old ++ x ∷ [] → b < k
+    → OnOk r (a + length new ≤ b + length mid) → OnOk r (a + length new ≤ k + length old)
+OnOk_fewer (Ok u) a b k new mid old x m h w = omega (arith, ap length m, length-append old (x ∷ []), h, w)
+OnOk_fewer (Err e) a b k new mid old x m h w = tt
 
 module _ {S : Type 0} (steps : S → Option ℕ → S → Type 0) where
   pub Goes_nil : (p : Cursor S) → p.line < 18446744073709551616 → p.column < 18446744073709551616 → Goes steps p [] p

@@ -26,6 +26,9 @@ pub paired_low : (l : ℕ) (us : List ℕ) → is_surrogate l ≡ true → is_hi
 paired_low l [] a b = rw a refl
 paired_low l (u ∷ us) a b = rw (a, b) refl
 
+paired_high : (h l : ℕ) (us : List ℕ) → is_high h ≡ true → is_low l ≡ false → paired (h ∷ l ∷ us) ≡ false
+paired_high h l us a b = rw (a, b) refl
+
 pub paired_plain : (u : ℕ) (us : List ℕ) → is_surrogate u ≡ false → is_high u ≡ false → paired (u ∷ us) ≡ paired us
 paired_plain u [] a b = rw a refl
 paired_plain u (v ∷ us) a b = rw (a, b) refl
@@ -82,6 +85,10 @@ module _ (us : List ℕ) (i : ℕ) (h : i < length us) where
     pub pair_goes : (first : ℕ) → high ≡ Some first → is_high first ≡ true → is_low (slice_index us i) ≡ true
         → paired (drop (i + 1) us) ≡ paired us
     pair_goes first e a b = sym (paired_pair first (slice_index us i) (drop (i + 1) us) a b) ∙ ap (λ ds. paired (first ∷ ds)) (sym front)
+        ∙ ap (λ o. paired (option_to_list o ++ drop i us)) (sym e) ∙ p
+
+    pub high_ends : (first : ℕ) → high ≡ Some first → is_high first ≡ true → is_low (slice_index us i) ≡ false → false ≡ paired us
+    high_ends first e a b = sym (paired_high first (slice_index us i) (drop (i + 1) us) a b) ∙ ap (λ ds. paired (first ∷ ds)) (sym front)
         ∙ ap (λ o. paired (option_to_list o ++ drop i us)) (sym e) ∙ p
 
     pub high_goes : high ≡ None → paired (slice_index us i ∷ drop (i + 1) us) ≡ paired us

@@ -1,7 +1,7 @@
-use Rattle.std.proofs.Common.{rules, ◌≡◌, ◌<◌, ◌++◌, ◌∷◌, [], ◌+◌, drop, true, false, IfSome, ap, subst, ◌∙◌}
+use Rattle.std.proofs.Common.{rules, ◌≡◌, ◌<◌, ◌++◌, ◌∷◌, [], ◌+◌, drop, true, false, true≢false, IfSome, ap, subst, sym, ◌∙◌}
 use Rattle.std.specs.Prelude.{slice_index}
 use Rattle.tinyjson_grammar.specs.Characters.{text, is_high, is_low, decode}
-use Rattle.tinyjson_tokens.proofs.Units.{low_ends, pair_goes, high_goes, plain_goes, pair_text, high_text, plain_text, not_scalar}
+use Rattle.tinyjson_tokens.proofs.Units.{high_ends, low_ends, pair_goes, high_goes, plain_goes, pair_text, high_text, plain_text, not_scalar}
 use Rattle.tinyjson_tokens.proofs.Units.{scalar_plain}
 use Rattle.tinyjson_tokens.proofs.utf16.decode.Goals as goal
 use Rattle.tinyjson_tokens.proofs.utf16.decode.Goals.{in-Some+else-not-is_low+in_ok-push-in-Some, in-None}
@@ -13,6 +13,19 @@ returns-in_default-clause-whole c =
     let k : u < 65536 = search rules in
     low_ends c.args.units.now c.loop-unit.unit-index c.loop-unit-test.true c.loop-unit.high c.loop-unit.invariant.paired c.in-None.is
     (not_scalar u k c.in_default.ensures.cases) (search rules)
+
+pub returns-in_default-clause-text : goal.returns-in_default-clause-text
+returns-in_default-clause-text c = λ e. absurd (true≢false (sym e))
+
+pub returns-then-not-is_low-clause-whole : goal.returns-then-not-is_low-clause-whole
+returns-then-not-is_low-clause-whole c =
+    let v = c.loop-unit.invariant in
+    let a = subst (λ o. IfSome o (λ h. is_high h ≡ true)) c.in-Some.is v.high in
+    let b : is_low (slice_index c.args.units.now c.loop-unit.unit-index) ≡ false = search rules in
+    high_ends c.args.units.now c.loop-unit.unit-index c.loop-unit-test.true c.loop-unit.high v.paired c.in-Some.first c.in-Some.is a b
+
+pub returns-then-not-is_low-clause-text : goal.returns-then-not-is_low-clause-text
+returns-then-not-is_low-clause-text c = λ e. absurd (true≢false (sym e))
 
 pub loop-unit-preserved : goal.loop-unit-preserved
 loop-unit-preserved c =
