@@ -1,10 +1,13 @@
 -- A decimal's text is ASCII.
-use Rattle.std.proofs.Common.{ℕ, suc, Bool, true, false, List, [], ◌∷◌, ◌++◌, Option, None, Some, IfSome, subst, IsTrue, arith}
+use Rattle.std.proofs.Common.{ℕ, suc, Bool, true, false, List, [], ◌∷◌, ◌++◌, Option, None, Some, IfSome, subst, IsTrue, arith, ◌≡◌, ℤ, refl, append-nil}
 use Rattle.std.specs.Str.{IsAscii}
 use Rattle.std.proofs.lemmas.Str.{IsAscii-append}
 use Rattle.std.proofs.lemmas.Str.Ascii.{IsAscii-nil, IsAscii-cons}
 use Rattle.std.proofs.lemmas.Bool.Decides.{nat_tests}
 use Rattle.tinyjson_number.specs.Canonical.{IsDecimal}
+use Rattle.tinyjson_number.specs.Layout.{layout_text}
+use Rattle.tinyjson_number.specs.Text.{integer_text}
+use Rattle.tinyjson_number.specs.declared.text.Layout.{Layout}
 use Rattle.tinyjson_number.specs.Decimal.{Decimal}
 use Rattle.tinyjson_number.specs.Text.{decimal_text}
 use Rattle.tinyjson_number.proofs.DecimalTrip.{decimal_spelled}
@@ -48,3 +51,11 @@ spelling_ascii n h = search (IsAscii-append, minus_ascii, digits_ascii, fraction
 
 pub decimal_ascii : (d : Decimal) → IsDecimal d → IsAscii (decimal_text d)
 decimal_ascii d h = let s = decimal_spelled power_width d h in subst IsAscii s.text (spelling_ascii s.numeral s.is)
+
+-- the parts of a text without an exponent, and with one
+pub four_parts : (l : Layout) → l.exponent ≡ None → l.sign.now ++ (l.front.now ++ (l.middle.now ++ l.back.now)) ≡ layout_text l
+four_parts l e = rw (e, append-nil) refl
+
+pub five_parts : (l : Layout) (n : ℤ) → l.exponent ≡ Some n
+    → l.sign.now ++ (l.front.now ++ (l.middle.now ++ (l.back.now ++ 101 ∷ integer_text n))) ≡ layout_text l
+five_parts l n e = rw e refl
