@@ -1,5 +1,4 @@
 use Rattle.std.proofs.Common.{rules, arith, ◌≡◌, ◌+◌, ◌<◌, ◌≤◌, get_or, length, refl, subst}
-use Rattle.std.specs.Char.{digit_value}
 use Rattle.tinyjson_tokens.proofs.Reading.Escape.{six_bytes, four_digits}
 use Rattle.tinyjson_tokens.proofs.escape.unit_at.Goals as goal
 

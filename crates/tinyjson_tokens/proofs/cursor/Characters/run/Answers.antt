@@ -1,4 +1,4 @@
-use Rattle.std.proofs.Common.{rules, ◌≡◌, ◌∷◌, ◌++◌, [], true, sym, append-nil}
+use Rattle.std.proofs.Common.{rules, ◌≡◌, ◌∷◌, [], true, sym, append-nil}
 use Rattle.tinyjson_grammar.specs.Characters.{text}
 use Rattle.tinyjson_tokens.proofs.Cursors.{Goes_nil, Goes_append, OnOk_append, OnOk_fewer, OnOk_grown}
 use Rattle.std.proofs.lemmas.Result.{err_from_is_err_and}
