@@ -55,8 +55,8 @@ pub fn is_date_time(text: &str) -> bool
 fn is_time_after(text: &[u8]) -> bool
     ensures { result ≡ is_time_after text.now }
 {
-    match text {
-        [b'T' | b't', time @ ..] => is_full_time(time),
+    match text.split_first() {
+        Some((b'T' | b't', time)) => is_full_time(time),
         _ => false,
     }
 }
@@ -143,10 +143,11 @@ fn ahead(offset: &[u8]) -> Option<u32>
     ensures value { result ≡ ahead offset.now }
     ensures small { IfSome result (λ m. m ≤ 1440) }
 {
-    match offset {
-        [b'+', rest @ ..] => Some(1440 - minutes(rest)?),
-        [b'-', rest @ ..] => minutes(rest),
-        [b'Z' | b'z'] => Some(0),
+    let (sign, rest) = offset.split_first()?;
+    match *sign {
+        b'+' => Some(1440 - minutes(rest)?),
+        b'-' => minutes(rest),
+        b'Z' | b'z' if rest.is_empty() => Some(0),
         _ => None,
     }
 }

@@ -16,8 +16,8 @@ use crate::letters::{End, cut};
 pub fn is_duration(text: &str) -> bool
     ensures { result ≡ is_duration text.now }
 {
-    match text.as_bytes() {
-        [b'P', rest @ ..] => is_dates(rest) || is_rest(after_unit(b'W', rest)),
+    match text.as_bytes().split_first() {
+        Some((b'P', rest)) => is_dates(rest) || is_rest(after_unit(b'W', rest)),
         _ => false,
     }
 }
@@ -35,10 +35,10 @@ fn is_dates(text: &[u8]) -> bool
 fn is_time_part(text: &[u8]) -> bool
     ensures { result ≡ is_time_part text.now }
 {
-    match text {
-        [] => true,
-        [b'T', rest @ ..] => is_rest(after_units(b"HMS", rest)),
-        _ => false,
+    match text.split_first() {
+        None => true,
+        Some((b'T', rest)) => is_rest(after_units(b"HMS", rest)),
+        Some(_) => false,
     }
 }
 

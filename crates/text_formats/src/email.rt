@@ -24,17 +24,17 @@ pub fn is_email(text: &str) -> bool
 fn is_mailbox(text: &[u8]) -> bool
     ensures { result ≡ is_email text.now }
 {
-    match text {
-        [] => false,
-        [b'"', quoted @ ..] => match after_quoted(quoted) {
+    let Some((first, quoted)) = text.split_first() else {
+        return false;
+    };
+    if *first == b'"' {
+        return match after_quoted(quoted) {
             Some(rest) => is_at_domain(rest),
             None => false,
-        },
-        _ => {
-            let (local, rest) = cut(text, End::User);
-            is_dot_string(local) && is_at_domain(rest)
-        }
+        };
     }
+    let (local, rest) = cut(text, End::User);
+    is_dot_string(local) && is_at_domain(rest)
 }
 
 fn is_dot_string(text: &[u8]) -> bool
@@ -54,14 +54,24 @@ fn after_quoted(text: &[u8]) -> Option<&[u8]>
     ensures { option_map (λ x. x.now) result ≡ after_quoted text.now }
 {
     let mut rest = text;
-    loop {
-        rest = match rest {
-            [b'"', after @ ..] => return Some(after),
-            [b'\\', c, more @ ..] if is_printable(*c) => more,
-            [c, more @ ..] if is_quoted_letter(*c) => more,
-            _ => return None,
-        };
+    while let Some((c, more)) = rest.split_first() {
+        if *c == b'"' {
+            return Some(more);
+        }
+        if *c == b'\\' {
+            let (letter, after) = more.split_first()?;
+            if !is_printable(*letter) {
+                return None;
+            }
+            rest = after;
+            continue;
+        }
+        if !is_quoted_letter(*c) {
+            return None;
+        }
+        rest = more;
     }
+    None
 }
 
 fn is_printable(c: u8) -> bool
@@ -79,8 +89,8 @@ fn is_quoted_letter(c: u8) -> bool
 fn is_at_domain(text: &[u8]) -> bool
     ensures { result ≡ is_at_domain text.now }
 {
-    match text {
-        [b'@', domain @ ..] => is_domain(domain),
+    match text.split_first() {
+        Some((b'@', domain)) => is_domain(domain),
         _ => false,
     }
 }
@@ -88,10 +98,10 @@ fn is_at_domain(text: &[u8]) -> bool
 fn is_domain(text: &[u8]) -> bool
     ensures { result ≡ is_domain text.now }
 {
-    match text {
-        [] => false,
-        [b'[', literal @ ..] => is_bracketed(literal),
-        _ => is_host(text),
+    match text.split_first() {
+        Some((b'[', literal)) => is_bracketed(literal),
+        Some(_) => is_host(text),
+        None => false,
     }
 }
 

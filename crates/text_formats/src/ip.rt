@@ -79,10 +79,10 @@ pub fn is_ipv6(text: &str) -> bool
 pub(crate) fn is_address(text: &[u8]) -> bool
     ensures { result ≡ is_ipv6 text.now }
 {
-    match text {
-        [] => false,
-        [b':', rest @ ..] => begins_with_colon(rest) && are_pieces(8, false, rest),
-        _ => are_pieces(8, false, text),
+    match text.split_first() {
+        None => false,
+        Some((b':', rest)) => begins_with_colon(rest) && are_pieces(8, false, rest),
+        Some(_) => are_pieces(8, false, text),
     }
 }
 

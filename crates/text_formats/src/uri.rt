@@ -161,13 +161,13 @@ fn is_authority(text: &[u8]) -> bool
 fn is_host_and_port(text: &[u8]) -> bool
     ensures { result ≡ is_host_and_port text.now }
 {
-    match text {
-        [] => true,
-        [b'[', rest @ ..] => {
+    match text.split_first() {
+        None => true,
+        Some((b'[', rest)) => {
             let (address, port) = cut(rest, End::Literal);
             is_ip_literal(address) && is_bracket_and_port(port)
         }
-        _ => {
+        Some(_) => {
             let (name, port) = cut(text, End::Host);
             are(Letters::Host, name) && is_port(port)
         }
@@ -194,8 +194,8 @@ fn is_ip_literal(text: &[u8]) -> bool
 fn is_future(text: &[u8]) -> bool
     ensures { result ≡ is_future text.now }
 {
-    match text {
-        [b'v' | b'V', rest @ ..] => {
+    match text.split_first() {
+        Some((b'v' | b'V', rest)) => {
             let (version, rest) = cut(rest, End::Version);
             !version.is_empty() && are(Letters::Hex, version) && is_dot_and_letters(rest)
         }
