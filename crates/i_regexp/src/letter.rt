@@ -366,9 +366,15 @@ pub(crate) fn code(text: &[char]) -> Option<(u32, &[char])>
 fn low(first: u32, text: &[char]) -> Result<(Letter, &[char]), IRegexpErrorKind>
     ensures { Fronts ⊥ (λ x. x) (low_front first text.now) result }
 {
-    let ['\\', 'u', rest @ ..] = text else {
+    let Some((backslash, rest)) = text.split_first() else {
         return Err(IRegexpErrorKind::Invalid);
     };
+    let Some((letter, rest)) = rest.split_first() else {
+        return Err(IRegexpErrorKind::Invalid);
+    };
+    if *backslash != '\\' || *letter != 'u' {
+        return Err(IRegexpErrorKind::Invalid);
+    }
     match four_digits(rest) {
         Some((second, after)) => literal(pair_of(first, second), after),
         None => Err(IRegexpErrorKind::Invalid),
@@ -399,7 +405,10 @@ fn half(code: u32, text: &[char]) -> Result<(Letter, &[char]), IRegexpErrorKind>
 fn unit(text: &[char]) -> Result<(Letter, &[char]), IRegexpErrorKind>
     ensures { Fronts ⊥ (λ x. x) (unit_front text.now) result }
 {
-    if let ['{', rest @ ..] = text {
+    let Some((first, rest)) = text.split_first() else {
+        return Err(IRegexpErrorKind::Invalid);
+    };
+    if *first == '{' {
         return match braced(rest) {
             Some((code, after)) => literal(scalar(code), after),
             None => Err(IRegexpErrorKind::Invalid),
@@ -511,9 +520,12 @@ fn property_of(text: &[char]) -> Option<Set>
 fn property(text: &[char]) -> Result<(Set, &[char]), IRegexpErrorKind>
     ensures { Fronts ⊥ (λ x. x) (property_front text.now) result }
 {
-    let ['{', rest @ ..] = text else {
+    let Some((brace, rest)) = text.split_first() else {
         return Err(IRegexpErrorKind::Invalid);
     };
+    if *brace != '{' {
+        return Err(IRegexpErrorKind::Invalid);
+    }
     let Some((name, after)) = name('}', rest) else {
         return Err(IRegexpErrorKind::Invalid);
     };
@@ -527,24 +539,26 @@ fn property(text: &[char]) -> Result<(Set, &[char]), IRegexpErrorKind>
 pub(crate) fn escape(text: &[char]) -> Result<(Letter, &[char]), IRegexpErrorKind>
     ensures { Fronts ⊥ (λ x. x) (escape_front text.now) result }
 {
-    match text {
-        ['x', rest @ ..] => byte(rest),
-        ['u', rest @ ..] => unit(rest),
-        ['c', rest @ ..] => control(rest),
-        ['0', rest @ ..] => null(rest),
-        ['p', rest @ ..] => {
+    let Some((first, rest)) = text.split_first() else {
+        return Err(IRegexpErrorKind::Invalid);
+    };
+    match *first {
+        'x' => byte(rest),
+        'u' => unit(rest),
+        'c' => control(rest),
+        '0' => null(rest),
+        'p' => {
             let (set, after) = property(rest)?;
             Ok((Letter::Named(set), after))
         }
-        ['P', rest @ ..] => {
+        'P' => {
             let (set, after) = property(rest)?;
             Ok((Letter::Named(set.others()), after))
         }
-        [first, rest @ ..] => match named(*first) {
+        first => match named(first) {
             Some(letter) => Ok((letter, rest)),
             None => Err(IRegexpErrorKind::Invalid),
         },
-        [] => Err(IRegexpErrorKind::Invalid),
     }
 }
 

@@ -36,7 +36,7 @@ pub(crate) fn next_token<'t>(
 ) -> Result<(Token, &'t [char]), IRegexpErrorKind>
     ensures { Fronts (LargeCount text.now) token_of (token_front text.now) result }
 {
-    let [first, rest @ ..] = text else {
+    let Some((first, rest)) = text.split_first() else {
         return Err(IRegexpErrorKind::Invalid);
     };
     match *first {
@@ -170,12 +170,15 @@ fn is_category_letter(text: &[char]) -> bool
 fn category(text: &[char]) -> Result<(Item, &[char]), IRegexpErrorKind>
     ensures { Fronts ⊥ (λ i. i) (category_front text.now) result }
 {
-    match text {
-        ['p', rest @ ..] => {
+    let Some((sign, rest)) = text.split_first() else {
+        return Err(IRegexpErrorKind::Invalid);
+    };
+    match *sign {
+        'p' => {
             let (category, after) = name(rest)?;
             Ok((Item::In(category), after))
         }
-        ['P', rest @ ..] => {
+        'P' => {
             let (category, after) = name(rest)?;
             Ok((Item::NotIn(category), after))
         }
