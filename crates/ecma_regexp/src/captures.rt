@@ -73,7 +73,7 @@ fn next_capture(text: &[u8]) -> Option<&[u8]>
     let mut escaped = false;
     let mut inside = false;
     let mut rest = text;
-    while let [c, more @ ..] = rest {
+    while let Some((c, more)) = rest.split_first() {
         if !escaped && !inside && *c == b'(' && is_capturing(more) {
             return Some(more);
         }

@@ -10,11 +10,11 @@ use crate::escape::{character, set_or_character};
 fn class_escape(text: &[u8]) -> Option<(Option<u32>, &[u8])>
     ensures { found result ≡ class_escape text.now }
 {
-    match text {
-        [b'b', rest @ ..] => Some((Some(8), rest)),
-        [b'-', rest @ ..] => Some((Some(45), rest)),
-        [_, ..] => set_or_character(text),
-        [] => None,
+    let (c, rest) = text.split_first()?;
+    match *c {
+        b'b' => Some((Some(8), rest)),
+        b'-' => Some((Some(45), rest)),
+        _ => set_or_character(text),
     }
 }
 
@@ -22,13 +22,11 @@ fn class_escape(text: &[u8]) -> Option<(Option<u32>, &[u8])>
 fn atom_front(text: &[u8]) -> Option<(Option<u32>, &[u8])>
     ensures { found result ≡ atom_front text.now }
 {
-    match text {
-        [b'\\', rest @ ..] => class_escape(rest),
-        _ => {
-            let (n, rest) = character(text)?;
-            Some((Some(n), rest))
-        }
+    if let Some((b'\\', rest)) = text.split_first() {
+        return class_escape(rest);
     }
+    let (n, rest) = character(text)?;
+    Some((Some(n), rest))
 }
 
 /// Whether the atoms are two characters in order.

@@ -21,16 +21,20 @@ pub(crate) fn is_syntax(c: u8) -> bool
 pub(crate) fn character(text: &[u8]) -> Option<(u32, &[u8])>
     ensures { found result ≡ character text.now }
 {
-    match text {
-        [a, rest @ ..] if *a < 128 => Some((u32::from(*a), rest)),
-        [a, b, rest @ ..] if *a < 224 => Some((joined(bits(*a, 192), *b), rest)),
-        [a, b, c, rest @ ..] if *a < 240 => { Some((joined(joined(bits(*a, 224), *b), *c), rest)) }
-        [a, b, c, d, rest @ ..] if *a >= 240 => Some((
-            joined(joined(joined(bits(*a, 240), *b), *c), *d),
-            rest,
-        )),
-        _ => None,
+    let (a, rest) = text.split_first()?;
+    if *a < 128 {
+        return Some((u32::from(*a), rest));
     }
+    let (b, rest) = rest.split_first()?;
+    if *a < 224 {
+        return Some((joined(bits(*a, 192), *b), rest));
+    }
+    let (c, rest) = rest.split_first()?;
+    if *a < 240 {
+        return Some((joined(joined(bits(*a, 224), *b), *c), rest));
+    }
+    let (d, rest) = rest.split_first()?;
+    Some((joined(joined(joined(bits(*a, 240), *b), *c), *d), rest))
 }
 
 /// The number of a character's bytes up to this one.
@@ -87,7 +91,7 @@ fn code_point(text: &[u8]) -> Option<(u32, &[u8])>
 {
     let mut n = 0;
     let mut rest = text;
-    while let [c, more @ ..] = rest {
+    while let Some((c, more)) = rest.split_first() {
         if *c == b'}' {
             return Some((n, more));
         }
@@ -130,13 +134,13 @@ fn low_front(text: &[u8]) -> Option<(u32, &[u8])>
     ensures value { found result ≡ low_front text.now }
     ensures small { IfSome result (λ p. p.0 ≤ 57343) }
 {
-    match text {
-        [b'\\', b'u', digits @ ..] => {
-            let (n, rest) = four_hex(digits)?;
-            if is_low(n) { Some((n, rest)) } else { None }
-        }
-        _ => None,
+    let (backslash, rest) = text.split_first()?;
+    let (letter, digits) = rest.split_first()?;
+    if *backslash != b'\\' || *letter != b'u' {
+        return None;
     }
+    let (n, rest) = four_hex(digits)?;
+    if is_low(n) { Some((n, rest)) } else { None }
 }
 
 /// The character of the number, and of the low surrogate at the front, if the number is a high one.

@@ -23,8 +23,8 @@ fn is_ordered(least: &[u8], most: &[u8]) -> bool
 {
     let mut least = least;
     let mut most = most;
-    while let [c, more @ ..] = least {
-        let [d, others @ ..] = most else {
+    while let Some((c, more)) = least.split_first() {
+        let Some((d, others)) = most.split_first() else {
             return false;
         };
         if *c != *d {
@@ -89,9 +89,10 @@ fn bounds_end<'t>(least: &[u8], text: &'t [u8]) -> Option<&'t [u8]>
 fn prefix_front(text: &[u8]) -> Option<&[u8]>
     ensures { now result ≡ prefix_front text.now }
 {
-    match text {
-        [b'*' | b'+' | b'?', rest @ ..] => Some(rest),
-        [b'{', rest @ ..] => {
+    let (sign, rest) = text.split_first()?;
+    match *sign {
+        b'*' | b'+' | b'?' => Some(rest),
+        b'{' => {
             let (least, rest) = cut(rest, End::Digits);
             bounds_end(least, rest)
         }

@@ -66,11 +66,13 @@ fn step<'t>(count: usize, names: &[&[u8]], groups: &mut Groups, text: &'t [u8]) 
         ≡ step count (texts names.now) (groups_of groups.old) text.now }
     ensures depth { groups.new.depth ≤ 128 }
 {
-    match text {
-        [] => Some(text),
-        [b'(', rest @ ..] => opened(groups, rest),
-        [b')', rest @ ..] => closed(groups, rest),
-        [c, rest @ ..] => term_front(count, names, *c, rest),
+    let Some((c, rest)) = text.split_first() else {
+        return Some(text);
+    };
+    match *c {
+        b'(' => opened(groups, rest),
+        b')' => closed(groups, rest),
+        c => term_front(count, names, c, rest),
     }
 }
 
@@ -156,8 +158,8 @@ fn term_front<'t>(count: usize, names: &[&[u8]], c: u8, text: &'t [u8]) -> Optio
 fn after_backslash<'t>(count: usize, names: &[&[u8]], text: &'t [u8]) -> Option<&'t [u8]>
     ensures { now result ≡ after_backslash count (texts names.now) text.now }
 {
-    match text {
-        [b'b' | b'B', rest @ ..] => Some(rest),
+    match text.split_first() {
+        Some((b'b' | b'B', rest)) => Some(rest),
         _ => Some(after_quantifier(atom_escape(count, names, text)?)),
     }
 }
@@ -166,11 +168,11 @@ fn after_backslash<'t>(count: usize, names: &[&[u8]], text: &'t [u8]) -> Option<
 fn atom_escape<'t>(count: usize, names: &[&[u8]], text: &'t [u8]) -> Option<&'t [u8]>
     ensures { now result ≡ atom_escape count (texts names.now) text.now }
 {
-    match text {
-        [b'1'..=b'9', ..] => decimal_front(count, text),
-        [b'k', rest @ ..] => reference_front(names, rest),
-        [_, ..] => Some(set_or_character(text)?.1),
-        [] => None,
+    let (c, rest) = text.split_first()?;
+    match *c {
+        b'1'..=b'9' => decimal_front(count, text),
+        b'k' => reference_front(names, rest),
+        _ => Some(set_or_character(text)?.1),
     }
 }
 
@@ -194,7 +196,7 @@ fn is_number_to(count: usize, digits: &[u8]) -> bool
     let most = count as u128;
     let mut n: u128 = 0;
     let mut rest = digits;
-    while let [c, more @ ..] = rest {
+    while let Some((c, more)) = rest.split_first() {
         n = 10 * n + u128::from(c.saturating_sub(b'0'));
         if n > most {
             return false;
