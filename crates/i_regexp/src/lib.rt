@@ -5,6 +5,7 @@
 //! ```
 //! let mut months = IRegexp::parse(alloc, "[0-9]{4}-[0-9]{2}")?;
 //! let is_month = months.matches("2026-11");
+//! assert!(rt; is_month);
 //! ```
 #![tactic(auto)]
 

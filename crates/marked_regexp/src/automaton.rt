@@ -58,6 +58,7 @@ impl Automaton {
     /// The automaton of the regular expression. It takes no memory.
     ///
     /// ```
+    /// let digit = Expression::one_of(Class::single(alloc, Item::Range('0', '9'))?);
     /// let mut digit = Automaton::new(alloc, digit);
     /// assert!(rt; !digit.matches("a"));
     /// ```
@@ -78,6 +79,7 @@ impl Automaton {
     /// expression and the text.
     ///
     /// ```
+    /// let letter = Expression::one_of(Class::single(alloc, Item::Range('a', 'z'))?);
     /// let mut word = Automaton::new(alloc, Expression::star(alloc, letter)?);
     /// assert!(rt; word.matches("abba"));
     /// ```
@@ -93,6 +95,7 @@ impl Automaton {
     /// work. What it takes is taken from the work; without an answer, all is.
     ///
     /// ```
+    /// let letter = Expression::one_of(Class::single(alloc, Item::Range('a', 'z'))?);
     /// let mut word = Automaton::new(alloc, Expression::star(alloc, letter)?);
     /// assert!(rt; word.matches_within("abba", &mut Work::AtMost(1_000)) == Some(true));
     /// assert!(rt; word.matches_within("cabbage", &mut Work::AtMost(0)).is_none());

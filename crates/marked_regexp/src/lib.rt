@@ -5,6 +5,7 @@
 //! let digit = Expression::one_of(Class::single(alloc, Item::Range('0', '9'))?);
 //! let mut year = digit.repeat(alloc, 4, Some(4))?;
 //! let is_year = year.matches("2026");
+//! assert!(rt; is_year);
 //! ```
 #![tactic(auto)]
 

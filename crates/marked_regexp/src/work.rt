@@ -6,6 +6,7 @@ ghost use Rattle.marked_regexp.specs.Work.{less, HasLeft};
 /// item of its class.
 ///
 /// ```
+/// let mut digit = Expression::one_of(Class::single(alloc, Item::Range('0', '9'))?);
 /// let mut work = Work::AtMost(1_000);
 /// assert!(rt; digit.matches_within("7", &mut work) == Some(true));
 /// assert!(rt; digit.matches_within("7", &mut Work::AtMost(0)).is_none());

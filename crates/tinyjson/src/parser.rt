@@ -41,6 +41,8 @@ pub type JsonParseResult = Result<JsonValue, JsonParseError>;
 ///
 /// // The same by one call
 /// let array = JsonValue::from_str(alloc, "[1, 2, 3]")?;
+/// assert!(rt; parsed == array);
+/// assert_eq!(rt; parsed.stringify(alloc)?.as_str(), "[1,2,3]");
 /// ```
 #[derive(Drop)]
 pub struct JsonParser<I>

@@ -43,6 +43,7 @@ impl<'d> Node<'d> {
     /// The kind of the value.
     ///
     /// ```
+    /// let document = Document::read(alloc, r#"{"a": null}"#)?;
     /// assert!(rt; document.root().kind() == JsonKind::Object);
     /// ```
     pub fn kind(&self) -> JsonKind

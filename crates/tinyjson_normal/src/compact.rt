@@ -97,6 +97,10 @@ impl Compact {
     /// writer accepts all.
     ///
     /// ```
+    /// let document = Document::read(alloc, r#"{"a": [2.50]}"#)?;
+    /// let mut text = Compact::new(alloc);
+    /// replay(alloc, document.root(), &mut text)?;
+    /// let mut output = Vec::new(alloc);
     /// text.write_line_to(&mut output)?;
     /// assert_eq!(rt; output.as_slice(), b"{\"a\":[2.5]}\n".as_slice());
     /// ```
@@ -112,6 +116,9 @@ impl Compact {
     /// The compact text of the value that was passed to it.
     ///
     /// ```
+    /// let document = Document::read(alloc, r#"{"a": [2.50]}"#)?;
+    /// let mut text = Compact::new(alloc);
+    /// replay(alloc, document.root(), &mut text)?;
     /// let bytes = text.into_bytes();
     /// assert_eq!(rt; bytes.as_slice(), b"{\"a\":[2.5]}".as_slice());
     /// ```

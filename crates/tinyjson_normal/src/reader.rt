@@ -21,6 +21,8 @@ const MOVES: usize = 8;
 /// texts, as the lines of a log. It keeps as much memory as the largest text took.
 ///
 /// ```
+/// let mut reader = NormalReader::new(alloc);
+/// let mut output = Vec::new(alloc);
 /// for line in ["[1.0]", r#"{"b": 2, "a": 1}"#] {
 ///     let normal = reader.read(line, None)?;
 ///     normal.write_to(reader.allocator(), &mut output)?;
@@ -47,7 +49,8 @@ impl NormalReader {
     /// The allocator of the reader.
     ///
     /// ```
-    /// normal.write_to(reader.allocator(), &mut output)?;
+    /// let reader = NormalReader::new(alloc);
+    /// assert!(rt; NormalText::read(reader.allocator(), "[1.0]").is_ok());
     /// ```
     pub fn allocator(&self) -> Global {
         self.alloc
@@ -57,6 +60,7 @@ impl NormalReader {
     /// [`NormalText::read`] and [`NormalText::read_with_depth_limit`] return, whatever was parsed before.
     ///
     /// ```
+    /// let mut reader = NormalReader::new(alloc);
     /// assert!(rt; reader.read("[[1]]", Some(2)).is_ok());
     /// let result = reader.read("[[1]]", Some(1));
     /// assert!(rt; result.is_err_and(|error| error.kind() == JsonParseErrorKind::TooDeep('[')));
@@ -80,6 +84,8 @@ impl NormalReader {
     /// Returns the memory of a text to the reader.
     ///
     /// ```
+    /// let mut reader = NormalReader::new(alloc);
+    /// let normal = reader.read("[1.0]", None)?;
     /// reader.reuse(normal);
     /// ```
     pub fn reuse(&mut self, normal: NormalText) {

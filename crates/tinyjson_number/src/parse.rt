@@ -31,7 +31,7 @@ use std::alloc::Global;
 ///     negative: true,
 ///     integer: b"12",
 ///     fraction: b"30",
-///     exponent: Some(exponent),
+///     exponent: None,
 /// };
 /// ```
 #[derive(Clone, Copy, Debug)]
@@ -116,6 +116,16 @@ impl JsonNumber {
     /// beside those of the exponent, need no memory, and without an exponent always give a number.
     ///
     /// ```
+    /// let exponent = ExponentParts {
+    ///     negative: true,
+    ///     digits: b"1",
+    /// };
+    /// let parts = NumberParts {
+    ///     negative: true,
+    ///     integer: b"12",
+    ///     fraction: b"30",
+    ///     exponent: Some(exponent),
+    /// };
     /// let number = JsonNumber::from_parts(alloc, parts)?;
     /// assert_eq!(rt; number.to_string(alloc)?.as_str(), "-1.23");
     /// ```

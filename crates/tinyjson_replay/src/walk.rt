@@ -47,6 +47,7 @@ pub fn replay<E: Events>(alloc: Global, node: Node<'_>, events: &mut E) -> Resul
 /// The only error is out of memory.
 ///
 /// ```
+/// let document = Document::read(alloc, r#"[1, {"a": 2.5}]"#)?;
 /// let copy = copy(alloc, document.root())?;
 /// assert!(rt; copy.root() == document.root());
 /// ```

@@ -116,6 +116,10 @@ impl Error for JsonParseError {}
 ///     Ok(JsonValue::from_str(alloc, text)?)
 /// }
 /// ```
+///
+/// ```
+/// assert!(rt; read(alloc, "[").is_err_and(|error| error.kind() == ErrorKind::InvalidData));
+/// ```
 impl From<JsonParseError> for io::Error {
     ghost use Rattle.std.specs.IoError.{error_kind as io_kind};
     ghost use Rattle.std.specs.declared.io.ErrorKind.TheVariants as io;

@@ -31,9 +31,48 @@ use tinyjson_tokens::Tokens;
 /// string is lent for the call, so what keeps it makes a copy.
 ///
 /// ```
-/// fn number(&mut self, _: JsonNumber) -> Result<(), AllocError> {
-///     self.count = self.count.saturating_add(1);
-///     Ok(())
+/// #[derive(Drop, Debug)]
+/// struct Numbers {
+///     count: usize,
+/// }
+///
+/// impl Events for Numbers {
+///     ghost holds = { λ _ _ _. ⊤ };
+///
+///     ghost is = { λ _ _ _. ⊤ };
+///
+///     fn open_array(&mut self) -> Result<(), AllocError> {
+///         Ok(())
+///     }
+///
+///     fn close_array(&mut self) -> Result<(), AllocError> {
+///         Ok(())
+///     }
+///
+///     fn open_object(&mut self) -> Result<(), AllocError> {
+///         Ok(())
+///     }
+///
+///     fn close_object(&mut self) -> Result<(), AllocError> {
+///         Ok(())
+///     }
+///
+///     fn key(&mut self, _: &str) -> Result<(), AllocError> {
+///         Ok(())
+///     }
+///
+///     fn string(&mut self, _: &str) -> Result<(), AllocError> {
+///         Ok(())
+///     }
+///
+///     fn number(&mut self, _: JsonNumber) -> Result<(), AllocError> {
+///         self.count = self.count.saturating_add(1);
+///         Ok(())
+///     }
+///
+///     fn literal(&mut self, _: Option<bool>) -> Result<(), AllocError> {
+///         Ok(())
+///     }
 /// }
 /// ```
 pub trait Events: Drop {

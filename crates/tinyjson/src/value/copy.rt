@@ -19,8 +19,10 @@ impl JsonValue {
     /// memory runs out, what was copied is freed in the same way.
     ///
     /// ```
+    /// let value = JsonValue::from_str(alloc, "[null, true]")?;
     /// let copy = value.try_clone(alloc)?;
     /// assert!(rt; copy == value);
+    /// assert!(rt; copy.kind() == JsonKind::Array);
     /// ```
     pub fn try_clone(&self, alloc: Global) -> Result<JsonValue, AllocError>
         ensures { IfOk result (λ v. view v ≡ view self.now) }

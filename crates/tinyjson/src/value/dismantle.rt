@@ -11,7 +11,7 @@ impl JsonValue {
     /// The language frees a value that goes out of scope by a recursion over its levels.
     ///
     /// ```
-    /// let value = JsonValue::from_str(alloc, text)?;
+    /// let value = JsonValue::from_str(alloc, "[[[null]], []]")?;
     /// value.dismantle();
     /// ```
     pub fn dismantle(self) {

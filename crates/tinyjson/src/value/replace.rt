@@ -25,6 +25,7 @@ impl JsonValue {
     ///     let old = array.replace_item(0, JsonValue::from(true));
     ///     assert!(rt; old.is_null());
     /// }
+    /// assert_eq!(rt; array.stringify(alloc)?.as_str(), "[true]");
     /// ```
     pub fn replace_item(&mut self, index: usize, value: JsonValue) -> JsonValue
         requires { IsSome (item_at self.old index) }
@@ -42,7 +43,7 @@ impl JsonValue {
     /// `object[key] = value`.
     ///
     /// ```
-    /// let mut object = JsonValue::from(members);
+    /// let mut object = JsonValue::from_str(alloc, "{\"foo\": null}")?;
     /// if object
     ///     .get::<HashMap<String, JsonValue>>()
     ///     .is_some_and(|m| m.contains_key("foo"))
@@ -50,6 +51,7 @@ impl JsonValue {
     ///     let old = object.replace_member("foo", JsonValue::from(true));
     ///     assert!(rt; old.is_null());
     /// }
+    /// assert_eq!(rt; object.stringify(alloc)?.as_str(), "{\"foo\":true}");
     /// ```
     pub fn replace_member(&mut self, key: &str, value: JsonValue) -> JsonValue
         requires { IsSome (member_at self.old key.now) }
