@@ -4,8 +4,12 @@
 //! input is read by what is tested. The answer is a line of words and of texts in the same digits.
 #![tactic(auto)]
 
+mod beginnings;
 mod building;
+mod documents;
 mod inputs;
+mod merging;
+mod normal;
 mod numbers;
 mod parts;
 mod places;
@@ -40,7 +44,11 @@ fn answer(reply: &mut Reply, line: &str) -> io::Result<()> {
         || numbers::answer(reply, name, &inputs)?
         || values::answer(reply, name, &inputs)?
         || parts::answer(reply, name, &inputs)?
-        || places::answer(reply, name, &inputs)?;
+        || places::answer(reply, name, &inputs)?
+        || documents::answer(reply, name, &inputs)?
+        || merging::answer(reply, name, &inputs)?
+        || beginnings::answer(reply, name, &inputs)?
+        || normal::answer(reply, name, &inputs)?;
     if !is_known {
         reply.word("unknown")?;
     }

@@ -154,7 +154,7 @@ fn told(reply: &mut Reply, answer: &Result<Record, (JsonParseError, Record)>) ->
 }
 
 /// An error by its kind, what the kind holds, its line, its column and its message.
-fn error_of(reply: &mut Reply, error: JsonParseError) -> io::Result<()> {
+pub fn error_of(reply: &mut Reply, error: JsonParseError) -> io::Result<()> {
     reply.word("error")?;
     reply.word(name_of(error.kind()))?;
     held_by(reply, error.kind())?;

@@ -91,7 +91,7 @@ fn with_indents<'i, W: Write>(
 }
 
 /// That all was written, or the kind and the message of the error.
-fn outcome(reply: &mut Reply, answer: io::Result<()>) -> io::Result<()> {
+pub fn outcome(reply: &mut Reply, answer: io::Result<()>) -> io::Result<()> {
     match answer {
         Ok(()) => reply.word("ok"),
         Err(error) => {

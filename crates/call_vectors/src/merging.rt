@@ -1,0 +1,34 @@
+//! Documents that are made of others: merges and copies.
+
+use crate::inputs::Inputs;
+use crate::reply::Reply;
+use std::io;
+use tinyjson_document::Document;
+use tinyjson_patch::merge_documents;
+use tinyjson_replay::copy;
+
+/// The inputs are texts.
+pub fn answer(reply: &mut Reply, name: &str, inputs: &Inputs) -> io::Result<bool> {
+    match name {
+        "merge_documents" => merged(reply, inputs.text(0), inputs.text(1))?,
+        "copy" => copied(reply, inputs.text(0))?,
+        _ => return Ok(false),
+    }
+    Ok(true)
+}
+
+/// The compact text of what a patch makes of a target, and whether it is equal to the patch.
+fn merged(reply: &mut Reply, target: &str, patch: &str) -> io::Result<()> {
+    let target = Document::read(reply.alloc, target)?;
+    let patch = Document::read(reply.alloc, patch)?;
+    let merged = merge_documents(reply.alloc, target.root(), patch.root())?;
+    reply.text(merged.root().to_string(reply.alloc)?.as_str())?;
+    reply.shown(merged.root() == patch.root())
+}
+
+/// The compact text of a copy.
+fn copied(reply: &mut Reply, text: &str) -> io::Result<()> {
+    let document = Document::read(reply.alloc, text)?;
+    let copied = copy(reply.alloc, document.root())?;
+    reply.text(copied.root().to_string(reply.alloc)?.as_str())
+}
