@@ -7,6 +7,7 @@ which characters are left. Values are built by hand or read.
 import itertools
 
 import library_documents
+import library_growth
 import library_rows as rows
 import texts
 from library_calls import add_generated, built, calls_of, digits, is_written, made, refusal, word, written
@@ -408,4 +409,5 @@ PARTS = (
     check_values,
     check_parts,
     *library_documents.PARTS,
+    *library_growth.PARTS,
 )

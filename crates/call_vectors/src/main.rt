@@ -4,6 +4,7 @@
 //! input is read by what is tested. The answer is a line of words and of texts in the same digits.
 #![tactic(auto)]
 
+mod agreement;
 mod beginnings;
 mod building;
 mod documents;
@@ -45,6 +46,7 @@ fn answer(reply: &mut Reply, line: &str) -> io::Result<()> {
         || values::answer(reply, name, &inputs)?
         || parts::answer(reply, name, &inputs)?
         || places::answer(reply, name, &inputs)?
+        || agreement::answer(reply, name, &inputs)?
         || documents::answer(reply, name, &inputs)?
         || merging::answer(reply, name, &inputs)?
         || beginnings::answer(reply, name, &inputs)?

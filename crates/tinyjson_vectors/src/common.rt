@@ -2,7 +2,6 @@
 ghost use Rattle.std.specs.Prelude.{⊤};
 
 use std::alloc::{AllocError, Global};
-use std::io;
 use std::test::Fail;
 use tinyjson::{
     Events, JsonNumber, JsonParseError, JsonParseErrorKind, JsonParseResult, JsonParser, JsonValue,
@@ -95,22 +94,6 @@ impl Events for Forget {
 /// What telling a text returns.
 pub(crate) fn told(alloc: Global, text: &str) -> Result<(), JsonParseError> {
     match read_events(alloc, text, Forget) {
-        Ok(_) => Ok(()),
-        Err((error, _)) => Err(error),
-    }
-}
-
-/// Whether nothing failed, and a writer took the bytes of this text.
-pub(crate) fn is_taken(answer: io::Result<()>, bytes: &[u8], expected: &str) -> bool {
-    answer.is_ok() && bytes == expected.as_bytes()
-}
-
-/// What a parser returns that tells events.
-pub(crate) fn parsed_to_events<I>(parser: &mut JsonParser<I>) -> Result<(), JsonParseError>
-where
-    I: Iterator<Item = char>,
-{
-    match parser.parse_events(Forget) {
         Ok(_) => Ok(()),
         Err((error, _)) => Err(error),
     }

@@ -9,10 +9,4 @@ pub mod conversions;
 mod deep_memory;
 pub mod equality;
 #[cfg(test)]
-mod growth;
-#[cfg(test)]
-mod members;
-#[cfg(test)]
 mod memory;
-#[cfg(test)]
-mod parsing;

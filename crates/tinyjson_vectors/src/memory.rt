@@ -320,7 +320,7 @@ fn more_containers_take_memory(rt: HostRuntime) -> Result<(), Fail> {
 }
 
 /// An object of 131 members, with its keys in order.
-pub(crate) fn wide(alloc: Global) -> Result<String, AllocError> {
+fn wide(alloc: Global) -> Result<String, AllocError> {
     let mut text = String::from_str(alloc, r#"{"":0"#)?;
     for first in "abcdefghijklm".chars() {
         for second in "0123456789".chars() {
