@@ -98,77 +98,90 @@ fn are_alike(one: JsonParseResult, other: JsonParseResult) -> bool {
     }
 }
 
+/// Whether a parser of the text returns the expected answer; or it runs out of memory, and then goes on as a new one would.
+fn goes_on(alloc: Global, text: &str, expected: Answer) -> Result<bool, Fail> {
+    let mut parser = JsonParser::new(alloc, text.chars());
+    match parser.parse() {
+        Err(error) if error.kind() == Kind::OutOfMemory => {
+            let rest = text.chars().skip(consumed(text, &error));
+            let fresh = JsonParser::new(alloc, rest).parse();
+            if are_alike(parser.parse(), fresh) {
+                Err(Fail::from(error))
+            } else {
+                Ok(false)
+            }
+        }
+        answer => agrees(alloc, answer, expected),
+    }
+}
+
 #[test]
 fn parse_goes_on(rt: HostRuntime) -> Result<(), Fail> {
-    let alloc = rt.alloc();
     for &(text, expected) in TEXTS {
-        let mut parser = JsonParser::new(alloc, text.chars());
-        match parser.parse() {
-            Err(error) if error.kind() == Kind::OutOfMemory => {
-                let rest = text.chars().skip(consumed(text, &error));
-                let fresh = JsonParser::new(alloc, rest).parse();
-                assert!(rt; are_alike(parser.parse(), fresh), "{error}");
-                return Err(Fail::from(error));
-            }
-            answer => assert!(rt; agrees(alloc, answer, expected)?, "{text}"),
-        }
+        assert!(rt; goes_on(rt.alloc(), text, expected)?, "{text}");
     }
     Ok(())
+}
+
+/// Whether the text is read so, if there is memory.
+fn is_read(alloc: Global, text: &str, expected: Answer) -> Result<bool, Fail> {
+    match JsonValue::from_str(alloc, text) {
+        Err(error) if error.is_out_of_memory() => Err(Fail::from(error)),
+        answer => agrees(alloc, answer, expected),
+    }
 }
 
 #[test]
 fn texts_keep_their_errors(rt: HostRuntime) -> Result<(), Fail> {
-    let alloc = rt.alloc();
     for &(text, expected) in TEXTS {
-        match JsonValue::from_str(alloc, text) {
-            Err(error) if error.is_out_of_memory() => return Err(Fail::from(error)),
-            answer => assert!(rt; agrees(alloc, answer, expected)?, "{text}"),
-        }
+        assert!(rt; is_read(rt.alloc(), text, expected)?, "{text}");
     }
     Ok(())
 }
 
+/// Whether a call that builds no value returned this, if there was memory.
+fn is_kept(answer: Result<(), JsonParseError>, expected: Answer) -> Result<bool, Fail> {
+    match answer {
+        Err(error) if error.is_out_of_memory() => Err(Fail::from(error)),
+        _ => Ok(is_answer(answer, expected)),
+    }
+}
+
 #[test]
 fn checks_keep_their_errors(rt: HostRuntime) -> Result<(), Fail> {
-    let alloc = rt.alloc();
     for &(text, expected) in TEXTS {
-        let checked = check(alloc, text);
-        if let Err(error) = checked {
-            if error.kind() == Kind::OutOfMemory {
-                return Err(Fail::from(error));
-            }
-        }
-        assert!(rt; is_answer(checked, expected), "{text}");
+        let answer = check(rt.alloc(), text);
+        assert!(rt; is_kept(answer, expected)?, "{text}");
     }
     Ok(())
 }
 
 #[test]
 fn events_keep_their_errors(rt: HostRuntime) -> Result<(), Fail> {
-    let alloc = rt.alloc();
     for &(text, expected) in TEXTS {
-        let answer = told(alloc, text);
-        if let Err(error) = answer {
-            if error.kind() == Kind::OutOfMemory {
-                return Err(Fail::from(error));
-            }
-        }
-        assert!(rt; is_answer(answer, expected), "{text}");
+        let answer = told(rt.alloc(), text);
+        assert!(rt; is_kept(answer, expected)?, "{text}");
     }
     Ok(())
 }
 
+/// Whether whatever reads the text returns this, also where memory is refused.
+fn takes_no_memory(alloc: Global, text: &str, expected: Answer) -> Result<bool, Fail> {
+    let is_checked = is_answer(check(alloc, text), expected);
+    let is_told = is_answer(told(alloc, text), expected);
+    Ok(is_checked && is_told && agrees(alloc, parsed(alloc, text), expected)?)
+}
+
+const WITHOUT_MEMORY: [(&str, Answer); 3] = [
+    (" true", Answer::Text("true")),
+    ("x", Answer::Refusal(Kind::InvalidCharacter('x'), 1, 0)),
+    ("", Answer::Refusal(Kind::UnexpectedEof, 1, 0)),
+];
+
 #[test]
 fn some_texts_take_no_memory(rt: HostRuntime) -> Result<(), Fail> {
-    let alloc = rt.alloc();
-    for (text, expected) in [
-        (" true", Answer::Text("true")),
-        ("x", Answer::Refusal(Kind::InvalidCharacter('x'), 1, 0)),
-        ("", Answer::Refusal(Kind::UnexpectedEof, 1, 0)),
-    ] {
-        assert!(rt; agrees(alloc, parsed(alloc, text), expected)?, "{text}");
-        assert!(rt; is_answer(check(alloc, text), expected), "{text}");
-        assert!(rt; is_answer(told(alloc, text), expected), "{text}");
+    for (text, expected) in WITHOUT_MEMORY {
+        assert!(rt; takes_no_memory(rt.alloc(), text, expected)?, "{text}");
     }
     Ok(())
 }
@@ -180,23 +193,44 @@ fn is_short_read(alloc: Global) -> Result<bool, Fail> {
 
 fn is_long_read(alloc: Global) -> Result<bool, Fail> {
     let long = JsonNumber::from_text(alloc, LONG)?;
-    let same = (long.digits(), long.power()) == (LONG, 0);
-    Ok(same && long.try_clone(alloc)? == long)
+    Ok(long.digits() == LONG && long.power() == 0)
+}
+
+fn is_long_copied(alloc: Global) -> Result<bool, Fail> {
+    let long = JsonNumber::from_text(alloc, LONG)?;
+    Ok(long.try_clone(alloc)? == long)
+}
+
+fn is_no_number(alloc: Global) -> bool {
+    matches!(
+        JsonNumber::from_text(alloc, "1."),
+        Err(JsonNumberError::NotANumber)
+    )
+}
+
+fn is_out_of_range(alloc: Global) -> bool {
+    let answer = JsonNumber::from_text(alloc, "1e9223372036854775808");
+    matches!(answer, Err(JsonNumberError::OutOfRange))
+}
+
+fn is_least_kept(alloc: Global) -> Result<bool, Fail> {
+    Ok(JsonNumber::from_i64(alloc, i64::MIN)?.to_i64() == Some(i64::MIN))
+}
+
+fn is_greatest_kept(alloc: Global) -> Result<bool, Fail> {
+    Ok(JsonNumber::from_u64(alloc, u64::MAX)?.to_u64() == Some(u64::MAX))
 }
 
 #[test]
 fn numbers_keep_their_errors(rt: HostRuntime) -> Result<(), Fail> {
     let alloc = rt.alloc();
-    let error = JsonNumber::from_text(alloc, "1.").expect_err(&rt, "no number");
-    assert!(rt; matches!(error, JsonNumberError::NotANumber));
-    let error = JsonNumber::from_text(alloc, "1e9223372036854775808").expect_err(&rt, "too large");
-    assert!(rt; matches!(error, JsonNumberError::OutOfRange));
+    assert!(rt; is_no_number(alloc));
+    assert!(rt; is_out_of_range(alloc));
     assert!(rt; is_short_read(alloc)?);
     assert!(rt; is_long_read(alloc)?);
-    let least = JsonNumber::from_i64(alloc, i64::MIN)?.to_i64();
-    assert_eq!(rt; least, Some(i64::MIN));
-    let greatest = JsonNumber::from_u64(alloc, u64::MAX)?.to_u64();
-    assert_eq!(rt; greatest, Some(u64::MAX));
+    assert!(rt; is_long_copied(alloc)?);
+    assert!(rt; is_least_kept(alloc)?);
+    assert!(rt; is_greatest_kept(alloc)?);
     Ok(())
 }
 
@@ -230,15 +264,23 @@ fn is_made(answer: JsonGenerateResult, expected: &str) -> Result<bool, Fail> {
     Ok(answer?.as_str() == expected)
 }
 
+/// Whether the value of the text has this compact text.
+fn is_stringified(alloc: Global, text: &str, compact: &str) -> Result<bool, Fail> {
+    is_made(JsonValue::from_str(alloc, text)?.stringify(alloc), compact)
+}
+
+/// Whether the value of the text has this indented text.
+fn is_formatted(alloc: Global, text: &str, indented: &str) -> Result<bool, Fail> {
+    is_made(JsonValue::from_str(alloc, text)?.format(alloc), indented)
+}
+
 #[test]
 fn texts_are_made(rt: HostRuntime) -> Result<(), Fail> {
     let alloc = rt.alloc();
-    let value = JsonValue::from_str(alloc, DOCUMENT)?;
-    assert!(rt; is_made(value.stringify(alloc), COMPACT)?);
-    assert!(rt; is_made(value.format(alloc), INDENTED)?);
+    assert!(rt; is_stringified(alloc, DOCUMENT, COMPACT)?);
+    assert!(rt; is_formatted(alloc, DOCUMENT, INDENTED)?);
     let text = wide(alloc)?;
-    let value = JsonValue::from_str(alloc, text.as_str())?;
-    assert!(rt; is_made(value.stringify(alloc), text.as_str())?);
+    assert!(rt; is_stringified(alloc, text.as_str(), text.as_str())?);
     Ok(())
 }
 
