@@ -75,9 +75,7 @@ fn is_answer_without_value(alloc: Global, text: &str, answer: Result<(), JsonPar
         && without_record(parser.parse_events(record)) == answer
 }
 
-fn without_record(
-    answer: Result<Record, (JsonParseError, Record)>,
-) -> Result<(), JsonParseError> {
+fn without_record(answer: Result<Record, (JsonParseError, Record)>) -> Result<(), JsonParseError> {
     match answer {
         Ok(_) => Ok(()),
         Err((error, _)) => Err(error),

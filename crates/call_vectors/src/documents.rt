@@ -59,9 +59,7 @@ fn indented(reply: &mut Reply, text: &str) -> io::Result<()> {
     let document = Document::read(reply.alloc, text)?;
     reply.text(document.root().format(reply.alloc)?.as_str())?;
     let mut bytes = Vec::new(reply.alloc);
-    document
-        .root()
-        .format_line_to(reply.alloc, &mut bytes)?;
+    document.root().format_line_to(reply.alloc, &mut bytes)?;
     reply.bytes(bytes.as_slice())
 }
 

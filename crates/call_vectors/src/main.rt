@@ -7,7 +7,10 @@
 mod agreement;
 mod beginnings;
 mod building;
+mod categories;
 mod documents;
+mod expressions;
+mod formats;
 mod inputs;
 mod merging;
 mod normal;
@@ -16,7 +19,9 @@ mod parts;
 mod places;
 mod reading;
 mod record;
+mod regexps;
 mod reply;
+mod uris;
 mod values;
 mod writer;
 mod writing;
@@ -40,19 +45,45 @@ fn answer(reply: &mut Reply, line: &str) -> io::Result<()> {
         Some((name, rest)) => (name, Inputs::read(reply.alloc, rest)?),
         None => (line, Inputs::read(reply.alloc, "")?),
     };
-    let is_known = reading::answer(reply, name, &inputs)?
-        || writing::answer(reply, name, &inputs)?
-        || numbers::answer(reply, name, &inputs)?
-        || values::answer(reply, name, &inputs)?
-        || parts::answer(reply, name, &inputs)?
-        || places::answer(reply, name, &inputs)?
-        || agreement::answer(reply, name, &inputs)?
-        || documents::answer(reply, name, &inputs)?
-        || merging::answer(reply, name, &inputs)?
-        || beginnings::answer(reply, name, &inputs)?
-        || normal::answer(reply, name, &inputs)?;
+    let is_known = answer_about_text(reply, name, &inputs)?
+        || answer_about_value(reply, name, &inputs)?
+        || answer_about_document(reply, name, &inputs)?;
     if !is_known {
         reply.word("unknown")?;
     }
     Ok(())
+}
+
+/// Calls a library about texts that are no JSON.
+fn answer_about_text(reply: &mut Reply, name: &str, inputs: &Inputs) -> io::Result<bool> {
+    Ok(
+        uris::answer(reply, name, inputs)?
+            || categories::answer(reply, name, inputs)?
+            || formats::answer(reply, name, inputs)?
+            || regexps::answer(reply, name, inputs)?
+            || expressions::answer(reply, name, inputs)?,
+    )
+}
+
+/// Calls `tinyjson`.
+fn answer_about_value(reply: &mut Reply, name: &str, inputs: &Inputs) -> io::Result<bool> {
+    Ok(
+        reading::answer(reply, name, inputs)?
+            || writing::answer(reply, name, inputs)?
+            || numbers::answer(reply, name, inputs)?
+            || values::answer(reply, name, inputs)?
+            || parts::answer(reply, name, inputs)?
+            || beginnings::answer(reply, name, inputs)?,
+    )
+}
+
+/// Calls a library that is about documents.
+fn answer_about_document(reply: &mut Reply, name: &str, inputs: &Inputs) -> io::Result<bool> {
+    Ok(
+        places::answer(reply, name, inputs)?
+            || agreement::answer(reply, name, inputs)?
+            || documents::answer(reply, name, inputs)?
+            || merging::answer(reply, name, inputs)?
+            || normal::answer(reply, name, inputs)?,
+    )
 }
