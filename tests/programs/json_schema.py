@@ -900,7 +900,7 @@ FORMATS = [
     ("uuid", ["2EB8AA08-aa98-11EA-B4Aa-73B441D16380", "00000000-0000-0000-0000-000000000000"], ["2eb8aa08-aa98-11ea-b4aa-73b441d1638", "2eb8aa08aa9811eab4aa73b441d16380", "2eb8aa08-aa98-11ea-b4ga-73b441d16380"]),
     ("json-pointer", ["", "/foo/bar~0/baz~1/%a", "//", "/ "], ["/foo/bar~", "#", "a", "/~2", "0/a"]),
     ("relative-json-pointer", ["1", "0/foo/bar", "0#", "120/foo/bar"], ["/foo/bar", "-1/foo/bar", "01/a", "0##", "", "+1/a"]),
-    # ECMA-262, 22.2.1: more rows are in crates/text_vectors.
+    # ECMA-262, 22.2.1: more rows are in tests/support/regexp_rows.py.
     ("regex", ["([abc])+\\s+$", "", "^\\cC$", "(?<=a)b", "(?<x>a)\\k<x>", "\\p{Lu}[à-😀]"], ["^(abc]", "^\\S(|(.|\\n)*\\S)\\Z", "\\a", "\\c", "(?=a)*", "[b-a]", "\\1", "\\p{Foo}"]),
 ]
 
