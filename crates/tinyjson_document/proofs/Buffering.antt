@@ -1,6 +1,6 @@
 -- Items and members that are buffered in full, or not at all.
 use Rattle.std.proofs.Common.{◌≡◌, ℕ, Bool, true, false, Option, Some, List, [], ◌∷◌, ◌++◌, length, take, refl, sym, ◌∙◌, ap, subst}
-use Rattle.std.proofs.Common.{append_assoc, arith, option_map, slice_get, Result}
+use Rattle.std.proofs.Common.{append_assoc, arith, get_or, option_map, slice_get, Result}
 use Rattle.std.proofs.lemmas.List.{take_at}
 use Rattle.std.specs.Bool.{MatchBool}
 use Rattle.tinyjson_number.specs.Canonical.{IsDecimal}
@@ -63,11 +63,11 @@ both_sent {old} a b h k = written_then b [] (goes {piece = a} b h (written_none 
 
 -- ---- the bytes of a value that holds no others
 
-true_bytes : enc (116 ∷ 114 ∷ 117 ∷ 101 ∷ []) ≡ 116 ∷ 114 ∷ 117 ∷ 101 ∷ []
+pub true_bytes : enc (116 ∷ 114 ∷ 117 ∷ 101 ∷ []) ≡ 116 ∷ 114 ∷ 117 ∷ 101 ∷ []
 true_bytes = enc_cons 116 (114 ∷ 117 ∷ 101 ∷ []) (omega arith)
     ∙ ap (λ z. 116 ∷ z) (enc_cons 114 (117 ∷ 101 ∷ []) (omega arith) ∙ ap (λ z. 114 ∷ z) (two_bytes 117 101 (omega arith) (omega arith)))
 
-false_bytes : enc (102 ∷ 97 ∷ 108 ∷ 115 ∷ 101 ∷ []) ≡ 102 ∷ 97 ∷ 108 ∷ 115 ∷ 101 ∷ []
+pub false_bytes : enc (102 ∷ 97 ∷ 108 ∷ 115 ∷ 101 ∷ []) ≡ 102 ∷ 97 ∷ 108 ∷ 115 ∷ 101 ∷ []
 false_bytes = enc_cons 102 (97 ∷ 108 ∷ 115 ∷ 101 ∷ []) (omega arith)
     ∙ ap (λ z. 102 ∷ z) (enc_cons 97 (108 ∷ 115 ∷ 101 ∷ []) (omega arith)
     ∙ ap (λ z. 97 ∷ z) (enc_cons 108 (115 ∷ 101 ∷ []) (omega arith) ∙ ap (λ z. 108 ∷ z) (two_bytes 115 101 (omega arith) (omega arith))))
@@ -82,6 +82,14 @@ kept_bytes s d i h = number_bytes d (subst IsDecimal h.decimal h.here.canonical)
 -- a kept number is the one that is meant
 pub kept_is : (s : Store) (d : Decimal) (i : ℕ) (x : Canonical) → Some x ≡ slice_get s.kept.items i → IsKeptAt s d i → x.decimal ≡ d
 kept_is s d i x g h = same_decimal x.decimal d (ap (option_map (λ c. c.decimal)) g ∙ kept_there s d i h)
+
+pub kept_got : (s : Store) (d : Decimal) (i : ℕ) (x : Canonical) → x ≡ get_or s.kept.items i x → IsKeptAt s d i → x.decimal ≡ d
+kept_got s d i x g h =
+    ap (λ c. c.decimal) (g ∙ ap (λ j. get_or s.kept.items j x) h.place ∙ ap (λ z. get_or z (length h.front) x) h.whole ∙ at h.front) ∙ h.decimal
+  where
+    at : (xs : List _) → get_or (xs ++ h.here ∷ h.back) (length xs) x ≡ h.here
+    at [] = refl
+    at (y ∷ ys) = at ys
 
 module _ (w : Option (List ℕ)) (k : ℕ) (s : Store) (t : Tree) (n : Cell) where
   pub null_is : n ≡ node.Null → Is s t n → enc (text w k t) ≡ 110 ∷ 117 ∷ 108 ∷ 108 ∷ []

@@ -27,7 +27,8 @@ use Rattle.tinyjson_grammar.specs.Tree.{Tree, null, boolean, number, string, arr
 use Rattle.tinyjson_grammar.specs.Tree.{Items, no_items, item, Members, no_members, member}
 use Rattle.tinyjson.specs.Indent.{indent_of}
 use Rattle.tinyjson_grammar.specs.Text.{text, items_text, members_text, quoted, before, after_colon, has_no_items, has_no_members, closing}
-use Rattle.tinyjson_output.specs.Buffer.{Output, Sent, SentPart, SendsFrom}
+use Rattle.tinyjson_output.specs.Buffer.{Output, Sent, SentPart, Sends, SendsFrom, SendsText}
+use Rattle.tinyjson_output.specs.declared.buffer.Buffer.{Buffer}
 use Rattle.tinyjson_output.specs.Written.{WrittenPart, WritesPrefix}
 use Rattle.tinyjson_output.proofs.Callers.{begins, sent_begins, sent_flushes as flushes, stops as part_stops}
 use Rattle.tinyjson_output.proofs.Callers.{closed, enc, three, two_bytes, sent_goes as goes, sent_stops as stops, sent_stop as stop}
@@ -70,6 +71,11 @@ seen s (array ts) n h =
     subst (λ m. Seen s m (array ts)) (sym h.1) (ts, refl, subst (Are s ts) (sym (run_part s.items.items h.0 h.2 h.3)) h.4)
 seen s (object ms) n h =
     subst (λ m. Seen s m (object ms)) (sym h.1) (ms, refl, subst (AreMembers s ms) (sym (run_part s.members.items h.0 h.2 h.3)) h.4)
+
+-- the head of a tree that is known
+pub head_sent : {W E : Type 0} (contents : W → Option (List ℕ)) (v w : W) (a b : Buffer) (bs : List ℕ) (t u : Tree) (r : Result (Unit {0}) E)
+    → t ≡ u → enc (head u) ≡ bs → Sends contents v w a b bs r → SendsText contents v w a b (head t) r
+head_sent contents v w a b bs t u r e f h = subst (λ z. Sends contents v w a b z r) (sym (ap (λ z. enc (head z)) e ∙ f)) h
 
 no_items_there : (s : Store) (ts : Items) → Are s ts [] → ts ≡ no_items
 no_items_there s no_items h = refl
