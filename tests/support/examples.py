@@ -29,12 +29,12 @@ CACHE = pathlib.Path(tempfile.gettempdir(), f"tinyjson-examples-{os.getuid()}")
 # How many runs of a crate are remembered, and the longest that one takes, in seconds.
 KEPT, LIMIT = 8, 1_200
 
-# The libraries whose public items each have an example. All of these are run.
+# The libraries whose public items each have an example. All of these examples are run.
 LIBRARIES = ("tinyjson", "tinyjson_grammar", "tinyjson_number", "tinyjson_normal", "i_regexp", "marked_regexp",
              "ecma_regexp", "general_category", "text_formats")
 
-# The crates of tests, which run side by side. Of a library that is not one of LIBRARIES the examples are run that
-# assert something; the other ones show a call in the midst of code.
+# The crates of tests, which run side by side: of each the libraries whose examples it has. Of a library that is not one of
+# LIBRARIES the examples are run that assert something; the other ones show a call in the midst of code.
 CRATES = {
     "value_examples": ("tinyjson", "tinyjson_grammar", "tinyjson_number"),
     "document_examples": ("tinyjson_normal", "tinyjson_document", "tinyjson_replay", "tinyjson_buffers", "tinyjson_path_query"),
