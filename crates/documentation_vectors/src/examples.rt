@@ -1,11 +1,4 @@
-//! The examples of the doc comments, to the letter, and of docs/CALLERS.md.
+//! Code of docs/CALLERS.md and of tinyjson/CALLING.md.
 
 mod access;
-mod conversions;
-mod events;
-mod generator;
 mod loops;
-mod numbers;
-mod parser;
-mod places;
-mod values;

@@ -1,8 +1,15 @@
-//! The examples of the documentation of `tinyjson`, `tinyjson_grammar` and `tinyjson_number`, of
-//! the pages for callers, and of the original crate, as tests.
+//! The examples of the original crate's documentation, and code of the pages for callers, as tests.
 #![tactic(auto)]
 
+#[cfg(test)]
+mod conversions;
 #[cfg(test)]
 mod documents;
 #[cfg(test)]
 mod examples;
+#[cfg(test)]
+mod generator;
+#[cfg(test)]
+mod parser;
+#[cfg(test)]
+mod values;
