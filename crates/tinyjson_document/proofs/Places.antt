@@ -3,10 +3,11 @@ use Rattle.std.proofs.Common.{◌≡◌, ℕ, zero, suc, Bool, true, false, List
 use Rattle.std.proofs.Common.{◌++◌, inl, inr, length, refl, sym, ◌∙◌, ap, subst}
 use mathlib.Core.Logic.{∥∥₁_map}
 use Rattle.std.specs.Str.{chars}
-use Rattle.tinyjson.specs.Access.{is_number, is_string}
+use Rattle.tinyjson.specs.Access.{is_array, is_boolean, is_null, is_number, is_object, is_string}
 use Rattle.tinyjson.specs.Index.{item_count, nth, tree_at}
 use Rattle.tinyjson_number.specs.Decimal.{Decimal}
 use Rattle.tinyjson_grammar.specs.Kind.{kind_of}
+use Rattle.tinyjson_grammar.specs.declared.kind.JsonKind.{JsonKind}
 use Rattle.tinyjson_grammar.specs.declared.kind.JsonKind.TheVariants as kind
 use Rattle.tinyjson_grammar.specs.Soundness.{IsTree}
 use Rattle.tinyjson_grammar.specs.Tree.{Tree, null, boolean, number, string, array, object}
@@ -415,3 +416,91 @@ module _ (s : Store) where
   no_number_cell (node.Short p) h k = absurd (h p refl)
   no_number_cell (node.Kept i) h k = absurd (k i refl)
   no_number_cell _ h k = refl
+
+-- ---- whether a cell is of a kind
+
+abbrev null_kind : JsonKind → Bool
+null_kind kind.Null = true
+null_kind _ = false
+
+abbrev boolean_kind : JsonKind → Bool
+boolean_kind kind.Boolean = true
+boolean_kind _ = false
+
+abbrev array_kind : JsonKind → Bool
+array_kind kind.Array = true
+array_kind _ = false
+
+abbrev object_kind : JsonKind → Bool
+object_kind kind.Object = true
+object_kind _ = false
+
+-- the four tests of a tree go by its kind
+by_kind : (t : Tree) → (null_kind (kind_of t) ≡ is_null t) × (boolean_kind (kind_of t) ≡ is_boolean t)
+    × (array_kind (kind_of t) ≡ is_array t) × (object_kind (kind_of t) ≡ is_object t)
+by_kind null = (refl, refl, refl, refl)
+by_kind (boolean b) = (refl, refl, refl, refl)
+by_kind (number d) = (refl, refl, refl, refl)
+by_kind (string cs) = (refl, refl, refl, refl)
+by_kind (array ts) = (refl, refl, refl, refl)
+by_kind (object ms) = (refl, refl, refl, refl)
+
+module _ (s : Store) where
+  null_tested : (n : Cell) (k : Known s n) → null_kind (kind_in n) ≡ is_null k.tree
+  null_tested n k = ap null_kind (kind_known s n k) ∙ (by_kind k.tree).0
+
+  boolean_tested : (n : Cell) (k : Known s n) → boolean_kind (kind_in n) ≡ is_boolean k.tree
+  boolean_tested n k = ap boolean_kind (kind_known s n k) ∙ (by_kind k.tree).1
+
+  array_tested : (n : Cell) (k : Known s n) → array_kind (kind_in n) ≡ is_array k.tree
+  array_tested n k = ap array_kind (kind_known s n k) ∙ (by_kind k.tree).2
+
+  object_tested : (n : Cell) (k : Known s n) → object_kind (kind_in n) ≡ is_object k.tree
+  object_tested n k = ap object_kind (kind_known s n k) ∙ (by_kind k.tree).3
+
+  pub null_there : (n : Cell) (k : Known s n) → n ≡ node.Null → true ≡ is_null k.tree
+  null_there n k e = ap (λ m. null_kind (kind_in m)) (sym e) ∙ null_tested n k
+
+  pub null_not : (n : Cell) (k : Known s n) → (n ≡ node.Null → ⊥) → false ≡ is_null k.tree
+  null_not n k h = sym (by n h) ∙ null_tested n k
+    where
+      by : (n : Cell) → (n ≡ node.Null → ⊥) → null_kind (kind_in n) ≡ false
+      by node.Null h = absurd (h refl)
+      by _ h = refl
+
+  pub boolean_there : (n : Cell) (k : Known s n) (b : Bool) → n ≡ node.Boolean b → true ≡ is_boolean k.tree
+  boolean_there n k b e = ap (λ m. boolean_kind (kind_in m)) (sym e) ∙ boolean_tested n k
+
+  pub boolean_not : (n : Cell) (k : Known s n) → ((b : Bool) → n ≡ node.Boolean b → ⊥) → false ≡ is_boolean k.tree
+  boolean_not n k h = sym (by n h) ∙ boolean_tested n k
+    where
+      by : (n : Cell) → ((b : Bool) → n ≡ node.Boolean b → ⊥) → boolean_kind (kind_in n) ≡ false
+      by (node.Boolean b) h = absurd (h b refl)
+      by _ h = refl
+
+  pub array_there : (n : Cell) (k : Known s n) (p : Span) → n ≡ node.Array p → true ≡ is_array k.tree
+  array_there n k p e = ap (λ m. array_kind (kind_in m)) (sym e) ∙ array_tested n k
+
+  pub array_not : (n : Cell) (k : Known s n) → ((p : Span) → n ≡ node.Array p → ⊥) → false ≡ is_array k.tree
+  array_not n k h = sym (by n h) ∙ array_tested n k
+    where
+      by : (n : Cell) → ((p : Span) → n ≡ node.Array p → ⊥) → array_kind (kind_in n) ≡ false
+      by (node.Array p) h = absurd (h p refl)
+      by _ h = refl
+
+  pub object_there : (n : Cell) (k : Known s n) (p : Span) → n ≡ node.Object p → true ≡ is_object k.tree
+  object_there n k p e = ap (λ m. object_kind (kind_in m)) (sym e) ∙ object_tested n k
+
+  pub object_not : (n : Cell) (k : Known s n) → ((p : Span) → n ≡ node.Object p → ⊥) → false ≡ is_object k.tree
+  object_not n k h = sym (by n h) ∙ object_tested n k
+    where
+      by : (n : Cell) → ((p : Span) → n ≡ node.Object p → ⊥) → object_kind (kind_in n) ≡ false
+      by (node.Object p) h = absurd (h p refl)
+      by _ h = refl
+
+  pub boolean_none : (n : Cell) (k : Known s n) → ((b : Bool) → n ≡ node.Boolean b → ⊥) → None ≡ boolean_in k.tree
+  boolean_none n k h = sym (by n h) ∙ boolean_known s n k
+    where
+      by : (n : Cell) → ((b : Bool) → n ≡ node.Boolean b → ⊥) → boolean_at n ≡ None
+      by (node.Boolean b) h = absurd (h b refl)
+      by _ h = refl

@@ -17,3 +17,13 @@ pub returns-in-Object : goal.returns-in-Object
 returns-in-Object c =
     let n = c.args.self.now in
     ap kind_in (sym c.in-Object.is) ∙ kind_known n.document.now.store n.cell n.known
+
+pub returns-in-Null : goal.returns-in-Null
+returns-in-Null c =
+    let n = c.args.self.now in
+    ap kind_in (sym c.in-Null.is) ∙ kind_known n.document.now.store n.cell n.known
+
+pub returns-in-Boolean : goal.returns-in-Boolean
+returns-in-Boolean c =
+    let n = c.args.self.now in
+    ap kind_in (sym c.in-Boolean.is) ∙ kind_known n.document.now.store n.cell n.known
