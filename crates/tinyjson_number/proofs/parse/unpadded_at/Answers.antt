@@ -74,3 +74,9 @@ unpadded-requires-clause-digits c =
     let d = digits_are text c.args.at p c.args.end c.requires.at in
     c.in_ok-digits.ensures.1 ∙ ap (λ t. take (length p.integer.now) t ++ take (length p.fraction.now)
     (drop (length p.integer.now + 1) t)) (take_rest text (c.args.at + mir.Val.bool_byte p.negative)) ∙ d
+
+pub overflow_cast-text : goal.overflow_cast-text
+overflow_cast-text c = omega arith
+
+pub overflow_sub-bytes : goal.overflow_sub-bytes
+overflow_sub-bytes c = omega arith
