@@ -247,3 +247,22 @@ module _ (root : Node) (states new : List State) (steps : List ℕ) (s : State) 
       → IsRowOf root new row s
   added_next true row is h e = subst (λ ss. IsRowOf root ss row s) (sym is) (row_new root states s row (e ∙ ap length is))
   added_next false row is h e = absurd (true≢false (sym h))
+
+-- ---- a step that is found
+
+module _ (root other : Node) (old new : List State) (row c next : ℕ) (s : State) where
+  pub found_leads : other ≡ root → ((cs : List ℕ) → reads false (placed root s.marks.items) cs ≡ row_reads root old row (c ∷ cs))
+      → IsRowOf other new next s → LeadsTo root old new row c next
+  found_leads same moved is = (
+    is.1,
+    λ cs. ap (λ n. row_reads n new next cs) (sym same)
+        ∙ (is.2 cs ∙ (ap (λ n. reads false (placed n s.marks.items) cs) same ∙ moved cs)),
+  )
+
+  pub found_reads : other ≡ root → row ≤ length old → Extends old new
+      → ((cs : List ℕ) → reads false (placed root s.marks.items) cs ≡ row_reads root old row (c ∷ cs)) → IsRowOf other new next s
+      → (cs : List ℕ) → row_reads other new next cs ≡ row_reads other new row (c ∷ cs)
+  found_reads same within longer moved is cs =
+      is.2 cs ∙ (ap (λ n. reads false (placed n s.marks.items) cs) same ∙ (moved cs
+      ∙ (sym (rows_stay root old longer.0 row (c ∷ cs) within)
+      ∙ (ap (λ ss. row_reads root ss row (c ∷ cs)) (sym longer.1) ∙ ap (λ n. row_reads n new row (c ∷ cs)) (sym same)))))

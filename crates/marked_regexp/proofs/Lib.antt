@@ -2,6 +2,7 @@ pub mod Marking
 pub mod Running
 pub mod Kept
 pub mod Building
+pub mod Changes
 pub mod Callers
 pub mod Rereading
 pub mod Automata
