@@ -1,4 +1,5 @@
 use Rattle.std.proofs.Common.{◌≡◌, ◌∷◌, ◌∙◌, ap, arith, refl, subst, sym}
+use Rattle.std.proofs.lemmas.Result.{IfOk-from_err}
 use Rattle.std.specs.Str.{chars}
 use Rattle.tinyjson.specs.Events.{at_value}
 use Rattle.tinyjson.specs.Tree.{member, put}
@@ -66,3 +67,11 @@ returns-in-Greater g c = λ start ns fs h.
       leads_above (chars c.args.key.now) k (tree c.in-Some-next.node) ns (had c.args.target.now) v.0 _ _ split
           (flip k (chars c.args.key.now) (sym c.order.ensures ∙ c.in-Greater.is)) v.2,
     )
+
+pub returns-in_err-key-in-Less : goal.returns-in_err-key-in-Less
+returns-in_err-key-in-Less g c = λ start ns fs h. IfOk-from_err c.from_residual.result _ c.from_residual.ensures.0
+
+pub returns-in_err-replay-in-Less : goal.returns-in_err-replay-in-Less
+returns-in_err-replay-in-Less g c = λ start ns fs h.
+    let r = c.from_residual-in_err-replay-in-Less in
+    IfOk-from_err r.result _ r.ensures.0
