@@ -1,5 +1,6 @@
 use Rattle.std.proofs.Common.{◌≡◌, [], ◌∷◌, ◌∙◌, OnOk, ap, arith, option_map, refl, reverse, subst, sym, unwrap_or}
 use Rattle.std.proofs.lemmas.List.{reverse-append}
+use Rattle.std.proofs.lemmas.Result.{IfOk-from_err}
 use Rattle.std.specs.Str.{chars}
 use Rattle.tinyjson.specs.Events.{at_value}
 use Rattle.tinyjson.specs.Tree.{null}
@@ -132,3 +133,18 @@ pub returns-clause-less : goal.returns-clause-less
 returns-clause-less g c =
     let same = ap left_weight c.loop-key.invariant.1 in
     ok_always c.close_object.result (omega (arith, same))
+
+pub returns-in_err-old-clause-waits : goal.returns-in_err-old-clause-waits
+returns-in_err-old-clause-waits g c = λ start os t h. IfOk-from_err c.from_residual.result _ c.from_residual.ensures.0
+
+pub returns-in_err-key-clause-waits : goal.returns-in_err-key-clause-waits
+returns-in_err-key-clause-waits g c = λ start os t h. IfOk-from_err c.from_residual-in_err-key.result _ c.from_residual-in_err-key.ensures.0
+
+pub returns-in_err-push-clause-waits : goal.returns-in_err-push-clause-waits
+returns-in_err-push-clause-waits g c = λ start os t h. IfOk-from_err c.from_residual-in_err-push.result _ c.from_residual-in_err-push.ensures.0
+
+pub returns-in_err-replay-clause-waits : goal.returns-in_err-replay-clause-waits
+returns-in_err-replay-clause-waits g c = λ start os t h. IfOk-from_err c.from_residual-in_err-replay.result _ c.from_residual-in_err-replay.ensures.0
+
+pub returns-in_err-pass_all-clause-waits : goal.returns-in_err-pass_all-clause-waits
+returns-in_err-pass_all-clause-waits g c = λ start os t h. IfOk-from_err c.from_residual-in_err-pass_all.result _ c.from_residual-in_err-pass_all.ensures.0
