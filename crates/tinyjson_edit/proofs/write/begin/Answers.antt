@@ -1,5 +1,6 @@
 use Rattle.std.proofs.Common.{[], ◌∷◌, ◌∙◌, ap, arith, reverse, subst, sym}
 use Rattle.std.proofs.lemmas.List.{reverse-append}
+use Rattle.std.proofs.lemmas.Result.{IfOk-from_err}
 use Rattle.std.specs.List.Sorted.{IsStrictlySortedBy}
 use Rattle.std.specs.Map.{keys_of}
 use Rattle.std.specs.String.{string_cmp}
@@ -59,3 +60,15 @@ returns-in_ok-push-in-Object-clause-less g c =
     let all = ap (λ xs. object (members_tree xs)) c.iter-in-Object.ensures.rest ∙ sym (ap tree c.in-Object.is ∙ tree_Object c.in-Object.members) in
     let pushed = ap left_weight c.in_ok-push-in-Object.ensures.items ∙ weight_last c.args.stack.now.items (left.Members es) in
     omega (arith, pushed, object_weight es (tree c.args.part.now) sorted all)
+
+pub returns-in_err-open_array-in-Array-clause-waits : goal.returns-in_err-open_array-in-Array-clause-waits
+returns-in_err-open_array-in-Array-clause-waits g c = λ start os fs t h n. IfOk-from_err c.from_residual.result _ c.from_residual.ensures.0
+
+pub returns-in_err-push-in-Array-clause-waits : goal.returns-in_err-push-in-Array-clause-waits
+returns-in_err-push-in-Array-clause-waits g c = λ start os fs t h n. IfOk-from_err c.from_residual-in_err-push-in-Array.result _ c.from_residual-in_err-push-in-Array.ensures.0
+
+pub returns-in_err-open_object-in-Object-clause-waits : goal.returns-in_err-open_object-in-Object-clause-waits
+returns-in_err-open_object-in-Object-clause-waits g c = λ start os fs t h n. IfOk-from_err c.from_residual-in_err-open_object-in-Object.result _ c.from_residual-in_err-open_object-in-Object.ensures.0
+
+pub returns-in_err-push-in-Object-clause-waits : goal.returns-in_err-push-in-Object-clause-waits
+returns-in_err-push-in-Object-clause-waits g c = λ start os fs t h n. IfOk-from_err c.from_residual-in_err-push-in-Object.result _ c.from_residual-in_err-push-in-Object.ensures.0

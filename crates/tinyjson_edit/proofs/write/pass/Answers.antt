@@ -1,5 +1,6 @@
 use Rattle.std.proofs.Common.{◌≡◌, [], ◌∷◌, ◌∙◌, ap, arith, refl, reverse, subst, sym}
 use Rattle.std.proofs.lemmas.List.{nil_from_length, reverse-append}
+use Rattle.std.proofs.lemmas.Result.{IfOk-from_err}
 use Rattle.tinyjson_edit.specs.Edited.{tree}
 use Rattle.tinyjson_edit.specs.Writing.{Encloses, Waits, left_weight}
 use Rattle.tinyjson_edit.proofs.Left.{weight_last}
@@ -43,3 +44,9 @@ returns g c = λ start os h.
 
 pub begin-requires : goal.begin-requires
 begin-requires g c = c.requires
+
+pub returns-in_err-begin : goal.returns-in_err-begin
+returns-in_err-begin g c = λ start os h. IfOk-from_err c.from_residual.result _ c.from_residual.ensures.0
+
+pub returns-in_err-resume : goal.returns-in_err-resume
+returns-in_err-resume g c = λ start os h. IfOk-from_err c.from_residual-in_err-resume.result _ c.from_residual-in_err-resume.ensures.0

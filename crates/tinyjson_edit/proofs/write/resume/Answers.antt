@@ -1,5 +1,6 @@
 use Rattle.std.proofs.Common.{◌∷◌, ◌∙◌, ap, arith, reverse, subst}
 use Rattle.std.proofs.lemmas.List.{nil_from_length}
+use Rattle.std.proofs.lemmas.Result.{IfOk-from_err}
 use Rattle.std.specs.VecDeque.Iter.{deque_iter_rest}
 use Rattle.tinyjson_document.specs.Comparing.{weight, items_weight, members_weight}
 use Rattle.tinyjson_replay.proofs.Callers.{ok_map}
@@ -44,3 +45,12 @@ returns-in_ok-push-in-Members-clause-less g c =
     let rest = ap (λ r. left_weight (r ∷ stack)) c.in-Members.is in
     ok_map c.begin-in-Members.result (λ h. omega (arith, h, pushed, rest, ap (λ es. members_weight (listed es)) c.in-Some-next.ensures.steps))
     c.begin-in-Members.ensures.less
+
+pub returns-in_err-push-in-Items-clause-waits : goal.returns-in_err-push-in-Items-clause-waits
+returns-in_err-push-in-Items-clause-waits g c = λ start os t h. IfOk-from_err c.from_residual.result _ c.from_residual.ensures.0
+
+pub returns-in_err-key-in-Members-clause-waits : goal.returns-in_err-key-in-Members-clause-waits
+returns-in_err-key-in-Members-clause-waits g c = λ start os t h. IfOk-from_err c.from_residual-in_err-key-in-Members.result _ c.from_residual-in_err-key-in-Members.ensures.0
+
+pub returns-in_err-push-in-Members-clause-waits : goal.returns-in_err-push-in-Members-clause-waits
+returns-in_err-push-in-Members-clause-waits g c = λ start os t h. IfOk-from_err c.from_residual-in_err-push-in-Members.result _ c.from_residual-in_err-push-in-Members.ensures.0
