@@ -8,10 +8,11 @@ use Rattle.tinyjson.specs.View.{members_listed}
 use Rattle.tinyjson_schema_keywords.specs.Applied.{schema_at}
 use Rattle.tinyjson_schema_keywords.specs.declared.keyword.Keyword.TheVariants as kw
 use Rattle.tinyjson_schema_keywords.proofs.Callers.{Listed, text_bytes, drop_item}
-use Rattle.tinyjson_schema_bundle.specs.Bundles.{Marked, Places, Leads, all_marked, pointed_among, put_some}
+use Rattle.tinyjson_schema_bundle.specs.Bundles.{Marked, Places, Leads, marked, all_marked, pointed_among, put_some}
 use Rattle.tinyjson_schema_bundle.specs.Scopes.{Reached, is_same, scope_at, reached, from_root, below, copy_place, place_in_list, placed}
 use Rattle.tinyjson_schema_bundle.specs.Scopes.{moved, longest, longer, copy_key, put_copies, reached_of, leads_of, copy_by, copy_of}
 use Rattle.tinyjson_schema_bundle.specs.Scopes.{defs_in, main_part, with_defs, with_copies}
+use Rattle.tinyjson_schema_bundle.specs.Scopes.{Scope, is_entering, entered_by, entered, is_between, scope_by}
 use Rattle.tinyjson_schema_bundle.specs.declared.mark.Mark.{Mark}
 use Rattle.tinyjson_schema_bundle.specs.declared.scope.State.{State}
 
@@ -25,6 +26,22 @@ unequal [] (y ∷ ys) n = refl
 unequal (x ∷ xs) [] n = refl
 unequal (x ∷ xs) (y ∷ ys) n =
     and_false (bytes_eq (string_bytes x.place) (string_bytes y.place)) _ (unequal xs ys (λ e. n (ap suc e)))
+
+-- ---- one mark more, which may change the scope
+
+module _ (all : List Marked) (r : List ℕ) (ms : List Mark) (i : ℕ) (x : Mark) (here : i < length ms) (e : x ≡ get_or ms i x)
+    (b : Bool) (old new end : Scope) where
+  pub entered_turn : (u : List ℕ) → b ≡ is_entering all r old u (marked x) → new ≡ cond b (old ++ marked x ∷ []) old
+      → entered_by all r (all_marked (drop i ms)) u old ≡ end → entered_by all r (all_marked (drop (i + 1) ms)) u new ≡ end
+  entered_turn u t h left =
+      ap (entered_by all r (all_marked (drop (i + 1) ms)) u) (h ∙ ap (λ d. cond d (old ++ marked x ∷ []) old) t)
+      ∙ (sym (ap (λ xs. entered_by all r (all_marked xs) u old) (drop_item ms i x here e)) ∙ left)
+
+  pub scope_turn : (p q : List ℕ) → b ≡ is_between p q (marked x) → new ≡ cond b (entered all r (string_bytes x.uri) old) old
+      → scope_by all r (all_marked (drop i ms)) p q old ≡ end → scope_by all r (all_marked (drop (i + 1) ms)) p q new ≡ end
+  scope_turn p q t h left =
+      ap (scope_by all r (all_marked (drop (i + 1) ms)) p q) (h ∙ ap (λ d. cond d (entered all r (string_bytes x.uri) old) old) t)
+      ∙ (sym (ap (λ xs. scope_by all r (all_marked xs) p q old) (drop_item ms i x here e)) ∙ left)
 
 -- ---- letters, and the longest key
 
