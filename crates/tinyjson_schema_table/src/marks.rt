@@ -42,70 +42,18 @@ fn mark(name: &str) -> usize
     (2 * (bytes.len() % 64) + 25 * usize::from(bytes[1]) + 38 * usize::from(bytes[2])) % 64
 }
 
+/// The marks of the keywords' names, in the order in which the enum lists them.
+const MARKS: [u8; 58] = [
+    59, 31, 53, 12, 23, 40, 27, 16, 22, 22, 30, 62, 6, 21, 0, 46, 38, 29, 54, 28, 59, 48, 19, 4,
+    54, 28, 38, 57, 36, 53, 9, 23, 10, 35, 10, 27, 39, 63, 25, 37, 42, 31, 43, 35, 47, 51, 31, 15,
+    9, 11, 5, 3, 5, 15, 17, 19, 10, 46,
+];
+
 /// The mark of the keyword's name.
 #[inline(always)]
 pub fn mark_of(keyword: Keyword) -> usize
     ensures is { result ≡ mark (name keyword) }
     ensures below { result < 64 }
 {
-    match keyword {
-        Keyword::Schema => 59,
-        Keyword::Id => 31,
-        Keyword::Comment => 53,
-        Keyword::Defs => 12,
-        Keyword::Definitions => 23,
-        Keyword::Ref => 40,
-        Keyword::Anchor => 27,
-        Keyword::DynamicRef => 16,
-        Keyword::DynamicAnchor => 22,
-        Keyword::Vocabulary => 22,
-        Keyword::AllOf => 30,
-        Keyword::AnyOf => 62,
-        Keyword::OneOf => 6,
-        Keyword::Not => 21,
-        Keyword::If => 0,
-        Keyword::Then => 46,
-        Keyword::Else => 38,
-        Keyword::DependentSchemas => 29,
-        Keyword::PrefixItems => 54,
-        Keyword::Items => 28,
-        Keyword::Contains => 59,
-        Keyword::Properties => 48,
-        Keyword::PatternProperties => 19,
-        Keyword::AdditionalProperties => 4,
-        Keyword::PropertyNames => 54,
-        Keyword::UnevaluatedItems => 28,
-        Keyword::UnevaluatedProperties => 38,
-        Keyword::Type => 57,
-        Keyword::Enum => 36,
-        Keyword::Const => 53,
-        Keyword::MultipleOf => 9,
-        Keyword::Maximum => 23,
-        Keyword::ExclusiveMaximum => 10,
-        Keyword::Minimum => 35,
-        Keyword::ExclusiveMinimum => 10,
-        Keyword::MaxLength => 27,
-        Keyword::MinLength => 39,
-        Keyword::Pattern => 63,
-        Keyword::MaxItems => 25,
-        Keyword::MinItems => 37,
-        Keyword::UniqueItems => 42,
-        Keyword::MaxContains => 31,
-        Keyword::MinContains => 43,
-        Keyword::MaxProperties => 35,
-        Keyword::MinProperties => 47,
-        Keyword::Required => 51,
-        Keyword::DependentRequired => 31,
-        Keyword::Format => 15,
-        Keyword::ContentEncoding => 9,
-        Keyword::ContentMediaType => 11,
-        Keyword::ContentSchema => 5,
-        Keyword::Title => 3,
-        Keyword::Description => 5,
-        Keyword::Default => 15,
-        Keyword::Deprecated => 17,
-        Keyword::ReadOnly => 19,
-        Keyword::WriteOnly => 10,
-        Keyword::Examples => 46,
-    }
+    usize::from(MARKS[keyword as usize])
 }
