@@ -1,6 +1,6 @@
 -- A schema in the words of 2020-12, one item or member after the other.
 use Rattle.std.proofs.Common.{◌≡◌, ◌∷◌, [], ◌++◌, ℕ, suc, ◌<◌, ◌≤◌, ◌+◌, ◌-◌, List, Option, length}
-use Rattle.std.proofs.Common.{Bool, true, false, cond, is_some, Some, None, String, Global, option_map, get_or, drop, chars}
+use Rattle.std.proofs.Common.{Bool, true, false, ◌&&◌, cond, is_some, Some, None, String, Global, option_map, get_or, drop, chars}
 use Rattle.std.proofs.Common.{encode_utf8_all, string_bytes, refl, sym, ap, ◌∙◌, arith}
 use Rattle.std.proofs.lemmas.Str.{is_utf8-from_IsUtf8, IsUtf8-from_is_utf8}
 use Rattle.std.specs.HashMap.{get_by_text}
@@ -8,7 +8,8 @@ use Rattle.std.specs.Option.{option_map_or}
 use Rattle.std.specs.Str.{IsUtf8, is_utf8}
 use Rattle.tinyjson.proofs.Callers.{view_String, find_get}
 use Rattle.tinyjson.specs.Access.{JsonMap}
-use Rattle.tinyjson.specs.Tree.{Tree, string, Items, no_items, item, Members, find}
+use Rattle.tinyjson.specs.Access.{is_array}
+use Rattle.tinyjson.specs.Tree.{Tree, string, Items, no_items, item, Members, find, put}
 use Rattle.tinyjson.specs.View.{view, text, items_view, members_view, members_listed}
 use Rattle.tinyjson.specs.declared.value.JsonValue.{JsonValue}
 use Rattle.tinyjson.specs.declared.value.JsonValue.TheVariants as made
@@ -19,6 +20,7 @@ use Rattle.tinyjson_schema_keywords.specs.declared.keyword.Keyword.{Keyword}
 use Rattle.tinyjson_schema_drafts.specs.Pointers.{is_lost_word, is_lost_text, is_lost_by}
 use Rattle.tinyjson_schema_drafts.specs.Rules.{rule_of}
 use Rattle.tinyjson_schema_drafts.specs.Translated.{in_words, words_among, items_in_words, value_of, put_by, put_lists}
+use Rattle.tinyjson_schema_drafts.specs.Translated.{lists_among, members_in_words}
 use Rattle.tinyjson_schema_drafts.specs.declared.draft.Draft.{Draft}
 use Rattle.tinyjson_schema_drafts.specs.declared.rule.Rule.{Rule}
 use Rattle.tinyjson_schema_drafts.specs.declared.rule.Traits.{Traits}
@@ -58,14 +60,51 @@ module _ (d : Draft) (r : Tree) where
 
 -- ---- members, from the last one on
 
+module _ (ps : List Listed) (n : ℕ) (x : Listed) (more : 0 < n) (among : n ≤ length ps) (is : x ≡ get_or ps (n - 1) x) where
+  one_back : drop (n - 1) ps ≡ x ∷ drop n ps
+  one_back =
+      let here : n - 1 < length ps = omega (arith, more, among) in
+      let next : suc (n - 1) ≡ n = omega (arith, more) in
+      drop_suc ps (n - 1) x here is ∙ ap (λ m. x ∷ drop m ps) next
+
+  module _ (b : Bool) (now : Members) where
+    pub list_kept : b ≡ is_array (view x.1.now) → b ≡ false → now ≡ lists_among (members_listed (drop n ps))
+        → now ≡ lists_among (members_listed (drop (n - 1) ps))
+    list_kept t f left =
+        let rest = lists_among (members_listed (drop n ps)) in
+        left ∙ (ap (λ c. cond c (put (text x.0.now) (view x.1.now) rest) rest) (sym f ∙ t)
+        ∙ ap (λ xs. lists_among (members_listed xs)) (sym one_back))
+
+    pub list_put : (key : List ℕ) (w : Tree) (next : Members) → key ≡ string_bytes x.0.now → w ≡ view x.1.now
+        → b ≡ is_array (view x.1.now) → b ≡ true → now ≡ lists_among (members_listed (drop n ps)) → next ≡ put (chars key) w now
+        → next ≡ lists_among (members_listed (drop (n - 1) ps))
+    list_put key w next same copy t f left h =
+        let rest = lists_among (members_listed (drop n ps)) in
+        h ∙ ((λ i. put (chars (same i)) (copy i) (left i))
+        ∙ (ap (λ c. cond c (put (text x.0.now) (view x.1.now) rest) rest) (sym f ∙ t)
+        ∙ ap (λ xs. lists_among (members_listed xs)) (sym one_back)))
+
+    module _ (has : Bool) (d : Draft) (r : Tree) (t : b ≡ (has && is_array (view x.1.now)))
+        (left : now ≡ members_in_words has d r (members_listed (drop n ps))) where
+      pub member_kept : b ≡ true → now ≡ members_in_words has d r (members_listed (drop (n - 1) ps))
+      member_kept f =
+          let rest = members_in_words has d r (members_listed (drop n ps)) in
+          left ∙ (ap (λ c. cond c rest (put (text x.0.now) (in_words d r (view x.1.now)) rest)) (sym f ∙ t)
+          ∙ ap (λ xs. members_in_words has d r (members_listed xs)) (sym one_back))
+
+      pub member_put : (key : List ℕ) (w : Tree) (next : Members) → key ≡ string_bytes x.0.now → w ≡ in_words d r (view x.1.now)
+          → b ≡ false → next ≡ put (chars key) w now → next ≡ members_in_words has d r (members_listed (drop (n - 1) ps))
+      member_put key w next same made f h =
+          let rest = members_in_words has d r (members_listed (drop n ps)) in
+          h ∙ ((λ i. put (chars (same i)) (made i) (left i))
+          ∙ (ap (λ c. cond c rest (put (text x.0.now) (in_words d r (view x.1.now)) rest)) (sym f ∙ t)
+          ∙ ap (λ xs. members_in_words has d r (members_listed xs)) (sym one_back)))
+
 module _ (ps : List Listed) (n : ℕ) (x : Listed) (key : List ℕ) (more : 0 < n) (among : n ≤ length ps) (is : x ≡ get_or ps (n - 1) x)
     (same : key ≡ string_bytes x.0.now)
   where
     front : drop (n - 1) ps ≡ x ∷ drop n ps
-    front =
-        let here : n - 1 < length ps = omega (arith, more, among) in
-        let next : suc (n - 1) ≡ n = omega (arith, more) in
-        drop_suc ps (n - 1) x here is ∙ ap (λ m. x ∷ drop m ps) next
+    front = one_back ps n x more among is
 
     name : chars key ≡ text x.0.now
     name = ap chars same

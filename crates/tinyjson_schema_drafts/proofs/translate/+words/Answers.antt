@@ -4,7 +4,7 @@ use Rattle.tinyjson.specs.View.{view, items_view, members_view, members_listed}
 use Rattle.tinyjson_schema_keywords.proofs.Callers.{listed_depth, items_depth_at}
 use Rattle.tinyjson_schema_drafts.specs.Rules.{rule_of}
 use Rattle.tinyjson_schema_drafts.specs.Translated.{words_among, members_in_words, value_of, put_by, put_lists}
-use Rattle.tinyjson_schema_drafts.proofs.Wording.{AreMade, item_made, items_made, word_back}
+use Rattle.tinyjson_schema_drafts.proofs.Wording.{AreMade, item_made, items_made, word_back, member_kept, member_put}
 use Rattle.tinyjson_schema_drafts.proofs.translate.+words.Goals as goal
 
 pub items_in_words-in_words-requires : goal.items_in_words-in_words-requires
@@ -73,4 +73,28 @@ words_among-loop-left-preserved t c =
           c.args.traits (members_view c.loop-left.members.entries) (members_view c.put_lists.new.members.entries)
           (members_view c.put_by.new.members.entries) (option_map view c.in_ok-value.value) c.rule_of-rule.result c.rule_of-rule.ensures
           c.loop-left.invariant.1 c.in_ok-value.ensures c.in_ok-put_lists.ensures c.in_ok-put_by.ensures,
+    )
+
+pub members_in_words-loop-left-preserved : goal.members_in_words-loop-left-preserved
+members_in_words-loop-left-preserved t c =
+    let ps = c.args.schemas.now in
+    let n = c.loop-left.left in
+    let before : n - 1 ≤ length ps = omega (arith, c.loop-left.invariant.0) in (
+      before,
+      member_kept ps n c.index-schemas-left.result c.loop-left-test.true c.loop-left.invariant.0 c.index-schemas-left.is
+          c.is_left_out.result (members_view c.loop-left.members.entries) c.args.has_lists c.args.reading.draft
+          (view c.args.reading.resource.now) c.is_left_out.ensures c.loop-left.invariant.1 c.if-not-is_left_out.false,
+    )
+
+pub members_in_words-loop-left-preserved-in-Continue-branch-2 : goal.members_in_words-loop-left-preserved-in-Continue-branch-2
+members_in_words-loop-left-preserved-in-Continue-branch-2 t c =
+    let ps = c.args.schemas.now in
+    let n = c.loop-left.left in
+    let before : n - 1 ≤ length ps = omega (arith, c.loop-left.invariant.0) in (
+      before,
+      member_put ps n c.index-schemas-left.result c.loop-left-test.true c.loop-left.invariant.0 c.index-schemas-left.is
+          c.is_left_out.result (members_view c.loop-left.members.entries) c.args.has_lists c.args.reading.draft
+          (view c.args.reading.resource.now) c.is_left_out.ensures c.loop-left.invariant.1 c.as_str.result.now
+          (view c.in_ok-value.value) (members_view c.put_member.new.members.entries) c.as_str.ensures.value c.in_ok-value.ensures
+          c.if-not-is_left_out.true c.in_ok-put_member.ensures.ok,
     )
