@@ -1,33 +1,9 @@
-//! Values from their content, and back.
+//! The content of values, and errors where it has another type.
 
-use crate::values::{array, object, one, text};
+use crate::values::{object, one, text};
 use std::collections::HashMap;
 use std::test::Fail;
 use tinyjson::{JsonNumber, JsonValue, UnexpectedValue};
-
-#[test]
-fn numbers_and_booleans_that_go_in(rt: HostRuntime) -> Result<(), Fail> {
-    let alloc = rt.alloc();
-    assert!(rt; one(alloc)?.is_number());
-    assert!(rt; JsonValue::from(true).is_bool());
-    Ok(())
-}
-
-#[test]
-fn strings_and_null_that_go_in(rt: HostRuntime) -> Result<(), Fail> {
-    let alloc = rt.alloc();
-    assert!(rt; text(alloc, "foo")?.is_string());
-    assert!(rt; JsonValue::from(()).is_null());
-    Ok(())
-}
-
-#[test]
-fn containers_that_go_in(rt: HostRuntime) -> Result<(), Fail> {
-    let alloc = rt.alloc();
-    assert!(rt; array(alloc)?.is_array());
-    assert!(rt; object(alloc, 1)?.is_object());
-    Ok(())
-}
 
 #[test]
 fn numbers_that_come_back(rt: HostRuntime) -> Result<(), Fail> {

@@ -78,46 +78,36 @@ fn items_that_change_by_their_type(rt: HostRuntime) -> Result<(), Fail> {
 }
 
 #[test]
-fn booleans(rt: HostRuntime) -> Result<(), Fail> {
-    assert!(rt; JsonValue::from(true).is_bool());
-    assert!(rt; !one(rt.alloc())?.is_bool());
-    Ok(())
-}
-
-#[test]
-fn numbers(rt: HostRuntime) -> Result<(), Fail> {
-    assert!(rt; one(rt.alloc())?.is_number());
-    assert!(rt; !JsonValue::from(false).is_number());
-    Ok(())
-}
-
-#[test]
-fn strings(rt: HostRuntime) -> Result<(), Fail> {
+fn kinds(rt: HostRuntime) -> Result<(), Fail> {
     let alloc = rt.alloc();
-    assert!(rt; text(alloc, "foo")?.is_string());
-    assert!(rt; !one(alloc)?.is_string());
+    let (number, text) = (one(alloc)?, text(alloc, "foo")?);
+    let (yes, no, null) = (
+        JsonValue::from(true),
+        JsonValue::from(false),
+        JsonValue::from(()),
+    );
+    assert!(rt; yes.is_bool() && !number.is_bool() && number.is_number() && !no.is_number());
+    assert!(rt; text.is_string() && !number.is_string() && null.is_null() && !no.is_null());
     Ok(())
 }
 
 #[test]
-fn nulls(rt: HostRuntime) -> Result<(), Fail> {
-    assert!(rt; JsonValue::from(()).is_null());
-    assert!(rt; !JsonValue::from(false).is_null());
-    Ok(())
-}
-
-#[test]
-fn arrays(rt: HostRuntime) -> Result<(), Fail> {
+fn kinds_of_empty_containers(rt: HostRuntime) -> Result<(), Fail> {
     let alloc = rt.alloc();
-    assert!(rt; JsonValue::from(Vec::new(alloc)).is_array());
-    assert!(rt; !one(alloc)?.is_array());
+    let number = one(alloc)?;
+    let (array, object) = (
+        JsonValue::from(Vec::new(alloc)),
+        JsonValue::from(HashMap::new(alloc)),
+    );
+    assert!(rt; array.is_array() && !number.is_array());
+    assert!(rt; object.is_object() && !array.is_object());
     Ok(())
 }
 
 #[test]
-fn objects(rt: HostRuntime) -> Result<(), Fail> {
+fn kinds_of_containers(rt: HostRuntime) -> Result<(), Fail> {
     let alloc = rt.alloc();
-    assert!(rt; JsonValue::from(HashMap::new(alloc)).is_object());
-    assert!(rt; !JsonValue::from(Vec::new(alloc)).is_object());
+    assert!(rt; array(alloc)?.is_array());
+    assert!(rt; object(alloc, 1)?.is_object());
     Ok(())
 }
