@@ -1,9 +1,29 @@
-use Rattle.std.proofs.Common.{◌<◌, arith, length, subst}
+use Rattle.std.proofs.Common.{ℕ, ◌<◌, List, Option, Result, Err, arith, length, subst}
+use Rattle.std.proofs.lemmas.Bool.{false≢true}
 use Rattle.std.specs.Prelude.{IfSome, Ok, Some}
+use Rattle.std.specs.Result.{IsErr}
+use Rattle.std.specs.declared.io.Error.{Error}
 use Rattle.tinyjson_lines.proofs.Passing.{rejected_bytes, rejected_text}
+use Rattle.tinyjson_lines.specs.Checked.{ReadsChecked}
+use Rattle.tinyjson_lines.specs.declared.checked.CheckedRead.{CheckedRead}
 use Rattle.tinyjson_lines.specs.private.Beginnings.{Rejects, usize_max}
 use Rattle.tinyjson_lines.specs.private.Pieces.{TakesPiece}
 use Rattle.tinyjson_lines.proofs.checked.read_line_checked.Goals as goal
+
+-- after an error nothing is said
+not_read : (limit : Option ℕ) (unread left : Option (List ℕ)) (line : List ℕ) (r : Result CheckedRead Error) → IsErr r
+    → ReadsChecked limit unread left line r
+not_read limit unread left line (Ok x) e = absurd (false≢true e)
+not_read limit unread left line (Err x) e = tt
+
+pub returns-in_err-take_piece : goal.returns-in_err-take_piece
+returns-in_err-take_piece g c = not_read _ _ _ _ c.from_residual.result c.from_residual.ensures.0
+
+pub returns-in_err-cause : goal.returns-in_err-cause
+returns-in_err-cause g c = not_read _ _ _ _ c.from_residual-in_err-cause.result c.from_residual-in_err-cause.ensures.0
+
+pub returns-in_err-pass_over : goal.returns-in_err-pass_over
+returns-in_err-pass_over g c = not_read _ _ _ _ c.from_residual-in_err-pass_over.result c.from_residual-in_err-pass_over.ensures.0
 
 pub returns-then-branch : goal.returns-then-branch
 returns-then-branch g c =
