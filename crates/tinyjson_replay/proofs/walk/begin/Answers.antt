@@ -1,5 +1,6 @@
 use Rattle.std.proofs.Common.{◌≡◌, [], ◌∷◌, ◌∙◌, ap, arith, reverse, subst, sym}
 use Rattle.std.proofs.lemmas.List.{reverse-append}
+use Rattle.std.proofs.lemmas.Result.{IfOk-from_err}
 use Rattle.tinyjson_document.specs.Comparing.{items_weight, members_weight}
 use Rattle.tinyjson_document.proofs.Callers.{node_sound}
 use Rattle.tinyjson_document.specs.Document.{tree}
@@ -40,3 +41,15 @@ returns-in_default g c =
           (c.put_scalar.ensures start fs h);
       less = let some = some_weight t in ok_always c.put_scalar.result (omega (arith, some));
     }
+
+pub returns-in_err-open_array-in-Array-clause-waits : goal.returns-in_err-open_array-in-Array-clause-waits
+returns-in_err-open_array-in-Array-clause-waits g c = λ start os fs t h n. IfOk-from_err c.from_residual.result _ c.from_residual.ensures.0
+
+pub returns-in_err-push-in-Array-clause-waits : goal.returns-in_err-push-in-Array-clause-waits
+returns-in_err-push-in-Array-clause-waits g c = λ start os fs t h n. IfOk-from_err c.from_residual-in_err-push-in-Array.result _ c.from_residual-in_err-push-in-Array.ensures.0
+
+pub returns-in_err-open_object-in-Object-clause-waits : goal.returns-in_err-open_object-in-Object-clause-waits
+returns-in_err-open_object-in-Object-clause-waits g c = λ start os fs t h n. IfOk-from_err c.from_residual-in_err-open_object-in-Object.result _ c.from_residual-in_err-open_object-in-Object.ensures.0
+
+pub returns-in_err-push-in-Object-clause-waits : goal.returns-in_err-push-in-Object-clause-waits
+returns-in_err-push-in-Object-clause-waits g c = λ start os fs t h n. IfOk-from_err c.from_residual-in_err-push-in-Object.result _ c.from_residual-in_err-push-in-Object.ensures.0

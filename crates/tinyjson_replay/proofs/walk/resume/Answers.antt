@@ -1,4 +1,5 @@
 use Rattle.std.proofs.Common.{◌≡◌, ◌∷◌, ◌∙◌, ap, arith, reverse, subst}
+use Rattle.std.proofs.lemmas.Result.{IfOk-from_err}
 use Rattle.tinyjson_document.specs.Comparing.{items_weight, members_weight}
 use Rattle.tinyjson_replay.specs.Replaying.{Waits, left_weight}
 use Rattle.tinyjson_replay.specs.declared.walk.Left.TheVariants as left
@@ -38,3 +39,12 @@ returns-in_ok-push-in-Members-clause-less g c =
     let rest = ap (λ r. left_weight (r ∷ stack)) c.in-Members.is in
     ok_map c.begin-in-Members.result (λ h. omega (arith, h, pushed, rest, ap members_weight c.in-Some-next.ensures.steps))
     c.begin-in-Members.ensures.less
+
+pub returns-in_err-push-in-Items-clause-waits : goal.returns-in_err-push-in-Items-clause-waits
+returns-in_err-push-in-Items-clause-waits g c = λ start os t h. IfOk-from_err c.from_residual.result _ c.from_residual.ensures.0
+
+pub returns-in_err-key-in-Members-clause-waits : goal.returns-in_err-key-in-Members-clause-waits
+returns-in_err-key-in-Members-clause-waits g c = λ start os t h. IfOk-from_err c.from_residual-in_err-key-in-Members.result _ c.from_residual-in_err-key-in-Members.ensures.0
+
+pub returns-in_err-push-in-Members-clause-waits : goal.returns-in_err-push-in-Members-clause-waits
+returns-in_err-push-in-Members-clause-waits g c = λ start os t h. IfOk-from_err c.from_residual-in_err-push-in-Members.result _ c.from_residual-in_err-push-in-Members.ensures.0
