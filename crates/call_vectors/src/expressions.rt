@@ -10,34 +10,34 @@ use std::io::{self, ErrorKind};
 /// each may take before it.
 pub fn answer(reply: &mut Reply, name: &str, inputs: &Inputs) -> io::Result<bool> {
     match name {
-        "matches" => matched(reply, built(reply.alloc, inputs.text(0))?, inputs.from(1))?,
-        "searches" => found(reply, built(reply.alloc, inputs.text(0))?, inputs.from(1))?,
-        "matches_within" => within(reply, built(reply.alloc, inputs.text(0))?, inputs.from(1))?,
-        "Automaton" => {
-            let automaton = Automaton::new(reply.alloc, built(reply.alloc, inputs.text(0))?);
-            in_turn(reply, automaton, inputs.from(1))?;
-        }
+        "matches" => matched(reply, inputs)?,
+        "searches" => found(reply, inputs)?,
+        "matches_within" => within(reply, inputs)?,
+        "Automaton" => in_turn(reply, inputs)?,
         _ => return Ok(false),
     }
     Ok(true)
 }
 
-fn matched(reply: &mut Reply, mut expression: Expression, texts: &[String]) -> io::Result<()> {
-    for text in texts {
+fn matched(reply: &mut Reply, inputs: &Inputs) -> io::Result<()> {
+    let mut expression = built(reply.alloc, inputs.text(0))?;
+    for text in inputs.from(1) {
         reply.shown(expression.matches(text.as_str()))?;
     }
     Ok(())
 }
 
-fn found(reply: &mut Reply, mut expression: Expression, texts: &[String]) -> io::Result<()> {
-    for text in texts {
+fn found(reply: &mut Reply, inputs: &Inputs) -> io::Result<()> {
+    let mut expression = built(reply.alloc, inputs.text(0))?;
+    for text in inputs.from(1) {
         reply.shown(expression.searches(text.as_str()))?;
     }
     Ok(())
 }
 
-fn within(reply: &mut Reply, mut expression: Expression, pairs: &[String]) -> io::Result<()> {
-    for pair in pairs.chunks(2) {
+fn within(reply: &mut Reply, inputs: &Inputs) -> io::Result<()> {
+    let mut expression = built(reply.alloc, inputs.text(0))?;
+    for pair in inputs.from(1).chunks(2) {
         if let [units, text] = pair {
             let mut work = work_of(units.as_str());
             let matches = expression.matches_within(text.as_str(), &mut work);
@@ -47,20 +47,24 @@ fn within(reply: &mut Reply, mut expression: Expression, pairs: &[String]) -> io
     Ok(())
 }
 
-/// What an automaton answers, without a bound on the work where no number is there.
-fn in_turn(reply: &mut Reply, mut automaton: Automaton, pairs: &[String]) -> io::Result<()> {
-    for pair in pairs.chunks(2) {
+fn in_turn(reply: &mut Reply, inputs: &Inputs) -> io::Result<()> {
+    let mut automaton = Automaton::new(reply.alloc, built(reply.alloc, inputs.text(0))?);
+    for pair in inputs.from(1).chunks(2) {
         if let [units, text] = pair {
-            if units.is_empty() {
-                reply.shown(automaton.matches(text.as_str()))?;
-            } else {
-                let mut work = work_of(units.as_str());
-                let matches = automaton.matches_within(text.as_str(), &mut work);
-                judged(reply, matches, work)?;
-            }
+            asked(reply, &mut automaton, units.as_str(), text.as_str())?;
         }
     }
     Ok(())
+}
+
+/// What an automaton answers, without a bound on the work where no number is there.
+fn asked(reply: &mut Reply, automaton: &mut Automaton, units: &str, text: &str) -> io::Result<()> {
+    if units.is_empty() {
+        return reply.shown(automaton.matches(text));
+    }
+    let mut work = work_of(units);
+    let matches = automaton.matches_within(text, &mut work);
+    judged(reply, matches, work)
 }
 
 /// This much work, or any where it is no number.
@@ -150,13 +154,10 @@ impl Builder {
     }
 
     fn repeat(&mut self, content: &str) -> io::Result<Expression> {
+        let part = self.part()?;
         let (least, most) = content.split_once(',').unwrap_or((content, ""));
-        let (least, part) = (least.parse::<usize>().unwrap_or(0), self.part()?);
-        match most.parse::<usize>() {
-            Ok(most) if most < least => Err(invalid()),
-            Ok(most) => Ok(part.repeat(self.alloc, least, Some(most))?),
-            Err(_) => Ok(part.repeat(self.alloc, least, None)?),
-        }
+        let least = least.parse::<usize>().unwrap_or(0);
+        repeated(self.alloc, &part, least, most.parse::<usize>().ok())
     }
 
     fn concat(&mut self) -> io::Result<Expression> {
@@ -190,6 +191,21 @@ impl Builder {
         let place = self.parts.len().saturating_sub(count);
         Ok(self.parts.split_off(place)?)
     }
+}
+
+fn repeated(
+    alloc: Global,
+    part: &Expression,
+    least: usize,
+    most: Option<usize>,
+) -> io::Result<Expression> {
+    let Some(most) = most else {
+        return Ok(part.repeat(alloc, least, None)?);
+    };
+    if most < least {
+        return Err(invalid());
+    }
+    Ok(part.repeat(alloc, least, Some(most))?)
 }
 
 fn assertion(name: &str) -> Option<Assertion> {

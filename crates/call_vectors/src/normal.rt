@@ -4,23 +4,25 @@ use crate::inputs::Inputs;
 use crate::reading::error_of;
 use crate::reply::Reply;
 use crate::writer::{Failure, Sink};
-use crate::writing::outcome;
+use crate::writing::{outcome, text_of};
 use std::io;
 use tinyjson::{JsonParseError, JsonValue};
 use tinyjson_normal::{NormalReader, NormalText, is_normal};
 
 /// The inputs are texts. For a writer follow how many bytes it takes a call, at which call it fails and how.
 pub fn answer(reply: &mut Reply, name: &str, inputs: &Inputs) -> io::Result<bool> {
-    let text = inputs.text(0);
     match name {
-        "NormalText::to_string" => compact(reply, text)?,
-        "NormalText::format" => indented(reply, text)?,
+        "NormalText::to_string"
+        | "NormalText::format"
+        | "NormalText::write_to"
+        | "NormalText::format_to" => {
+            let normal = NormalText::read(reply.alloc, inputs.text(0))?;
+            written(reply, name, inputs, &normal)?;
+        }
         "is_normal" => {
-            let is_normal = is_normal(reply.alloc, text)?;
+            let is_normal = is_normal(reply.alloc, inputs.text(0))?;
             reply.shown(is_normal)?;
         }
-        "NormalText::write_to" => written_to(reply, inputs, false)?,
-        "NormalText::format_to" => written_to(reply, inputs, true)?,
         "texts by NormalText" => alone(reply, inputs.from(0))?,
         "texts by NormalReader" => in_turn(reply, inputs.from(0))?,
         "texts by JsonValue" => by_values(reply, inputs.from(0))?,
@@ -29,24 +31,25 @@ pub fn answer(reply: &mut Reply, name: &str, inputs: &Inputs) -> io::Result<bool
     Ok(true)
 }
 
-fn compact(reply: &mut Reply, text: &str) -> io::Result<()> {
-    let normal = NormalText::read(reply.alloc, text)?;
-    reply.text(normal.to_string(reply.alloc)?.as_str())
-}
-
-fn indented(reply: &mut Reply, text: &str) -> io::Result<()> {
-    let normal = NormalText::read(reply.alloc, text)?;
-    reply.text(normal.format(reply.alloc)?.as_str())
+fn written(reply: &mut Reply, name: &str, inputs: &Inputs, normal: &NormalText) -> io::Result<()> {
+    let alloc = reply.alloc;
+    match name {
+        "NormalText::to_string" => text_of(reply, &normal.to_string(alloc)),
+        "NormalText::format" => text_of(reply, &normal.format(alloc)),
+        _ => written_to(reply, name, sink_of(reply, inputs), normal),
+    }
 }
 
 /// That all was written, or the error; the bytes that the writer has, and how often it was called.
-fn written_to(reply: &mut Reply, inputs: &Inputs, is_indented: bool) -> io::Result<()> {
-    let normal = NormalText::read(reply.alloc, inputs.text(0))?;
-    let mut sink = sink_of(reply, inputs);
-    let answer = if is_indented {
-        normal.format_to(reply.alloc, &mut sink)
-    } else {
-        normal.write_to(reply.alloc, &mut sink)
+fn written_to(
+    reply: &mut Reply,
+    name: &str,
+    mut sink: Sink,
+    normal: &NormalText,
+) -> io::Result<()> {
+    let answer = match name {
+        "NormalText::write_to" => normal.write_to(reply.alloc, &mut sink),
+        _ => normal.format_to(reply.alloc, &mut sink),
     };
     outcome(reply, answer)?;
     reply.bytes(sink.bytes.as_slice())?;
@@ -82,11 +85,12 @@ fn in_turn(reply: &mut Reply, texts: &[String]) -> io::Result<()> {
 
 /// The compact and the indented text, or the error.
 fn both_texts(reply: &mut Reply, read: &Result<NormalText, JsonParseError>) -> io::Result<()> {
+    let alloc = reply.alloc;
     match read {
         Ok(normal) => {
             reply.word("texts")?;
-            reply.text(normal.to_string(reply.alloc)?.as_str())?;
-            reply.text(normal.format(reply.alloc)?.as_str())
+            text_of(reply, &normal.to_string(alloc))?;
+            text_of(reply, &normal.format(alloc))
         }
         Err(error) => error_of(reply, *error),
     }
@@ -104,7 +108,8 @@ fn by_values(reply: &mut Reply, texts: &[String]) -> io::Result<()> {
 }
 
 fn texts_of_value(reply: &mut Reply, value: &JsonValue) -> io::Result<()> {
+    let text = value.format(reply.alloc);
     reply.word("texts")?;
     reply.value(value)?;
-    reply.text(value.format(reply.alloc)?.as_str())
+    text_of(reply, &text)
 }

@@ -11,8 +11,8 @@ use i_regexp::{
 use std::io;
 use text_formats::Format;
 
-/// The first input is the regular expression, and the others are texts; for `is_found_within` texts
-/// with the work that each may take before it.
+/// The first input is the regular expression, and the others are texts; for `is_found_within` texts with the work that each may take
+/// before it.
 pub fn answer(reply: &mut Reply, name: &str, inputs: &Inputs) -> io::Result<bool> {
     match name {
         "IRegexp" => regexp(reply, inputs)?,
@@ -47,14 +47,18 @@ fn matched(reply: &mut Reply, regexp: &mut IRegexp, texts: &[String]) -> io::Res
 /// Why a text is rejected, where, and the message.
 fn regexp_error(reply: &mut Reply, error: IRegexpError) -> io::Result<()> {
     reply.word("error")?;
-    reply.word(match error.kind {
+    reply.word(kind_name(error.kind))?;
+    reply.shown(error.place)?;
+    reply.message(error)
+}
+
+fn kind_name(kind: IRegexpErrorKind) -> &'static str {
+    match kind {
         IRegexpErrorKind::Invalid => "Invalid",
         IRegexpErrorKind::TooDeep => "TooDeep",
         IRegexpErrorKind::TooLarge => "TooLarge",
         IRegexpErrorKind::OutOfMemory => "OutOfMemory",
-    })?;
-    reply.shown(error.place)?;
-    reply.message(error)
+    }
 }
 
 fn pattern(reply: &mut Reply, inputs: &Inputs) -> io::Result<()> {
@@ -97,13 +101,17 @@ fn found_within(
 
 fn pattern_error(reply: &mut Reply, error: SchemaPatternError) -> io::Result<()> {
     reply.word("error")?;
-    reply.word(match error.kind {
+    reply.word(reason_name(error.kind))?;
+    reply.shown(error.place)?;
+    reply.message(error)
+}
+
+fn reason_name(kind: SchemaPatternErrorKind) -> &'static str {
+    match kind {
         SchemaPatternErrorKind::Invalid => "Invalid",
         SchemaPatternErrorKind::Outside => "Outside",
         SchemaPatternErrorKind::TooDeep => "TooDeep",
         SchemaPatternErrorKind::TooLarge => "TooLarge",
         SchemaPatternErrorKind::OutOfMemory => "OutOfMemory",
-    })?;
-    reply.shown(error.place)?;
-    reply.message(error)
+    }
 }

@@ -41,7 +41,7 @@ fn written(reply: &mut Reply, name: &str, inputs: &Inputs, value: &JsonValue) ->
     }
 }
 
-fn text_of(reply: &mut Reply, answer: &JsonGenerateResult) -> io::Result<()> {
+pub fn text_of(reply: &mut Reply, answer: &JsonGenerateResult) -> io::Result<()> {
     match answer {
         Ok(text) => reply.text(text.as_str()),
         Err(error) => reply.text(error.message()),

@@ -28,24 +28,35 @@ pub(crate) fn agrees(
     answer: JsonParseResult,
     expected: Answer,
 ) -> Result<bool, Fail> {
-    match (answer, expected) {
-        (Ok(value), Answer::Text(text)) => Ok(value.stringify(alloc)?.as_str() == text),
-        (Err(error), Answer::Refusal(kind, line, column)) => {
-            let place = (error.line(), error.column());
-            Ok(error.kind() == kind && place == (line, column))
-        }
-        _ => Ok(false),
+    match answer {
+        Ok(value) => has_text(alloc, &value, expected),
+        Err(error) => Ok(is_refusal(error, expected)),
     }
 }
 
 /// Whether a call that builds no value returned this, but for the value.
 pub(crate) fn is_answer(told: Result<(), JsonParseError>, expected: Answer) -> bool {
-    match (told, expected) {
-        (Ok(()), Answer::Text(_)) => true,
-        (Err(error), Answer::Refusal(kind, line, column)) => {
-            error.kind() == kind && (error.line(), error.column()) == (line, column)
+    match told {
+        Ok(()) => matches!(expected, Answer::Text(_)),
+        Err(error) => is_refusal(error, expected),
+    }
+}
+
+/// Whether a value with this compact text is expected.
+fn has_text(alloc: Global, value: &JsonValue, expected: Answer) -> Result<bool, Fail> {
+    match expected {
+        Answer::Text(text) => Ok(value.stringify(alloc)?.as_str() == text),
+        Answer::Refusal(..) => Ok(false),
+    }
+}
+
+/// Whether this error is expected.
+fn is_refusal(error: JsonParseError, expected: Answer) -> bool {
+    match expected {
+        Answer::Text(_) => false,
+        Answer::Refusal(kind, line, column) => {
+            error.kind() == kind && error.line() == line && error.column() == column
         }
-        _ => false,
     }
 }
 
@@ -97,4 +108,25 @@ pub(crate) fn told(alloc: Global, text: &str) -> Result<(), JsonParseError> {
         Ok(_) => Ok(()),
         Err((error, _)) => Err(error),
     }
+}
+
+/// Pushes a member for each pair of these characters, whose key they are, with a comma before it.
+pub(crate) fn push_members(
+    text: &mut String,
+    firsts: &str,
+    seconds: &str,
+) -> Result<(), AllocError> {
+    for first in firsts.chars() {
+        for second in seconds.chars() {
+            push_member(text, first, second)?;
+        }
+    }
+    Ok(())
+}
+
+fn push_member(text: &mut String, first: char, second: char) -> Result<(), AllocError> {
+    text.push_str(",\"")?;
+    text.push(first)?;
+    text.push(second)?;
+    text.push_str("\":0")
 }

@@ -4,6 +4,7 @@
 //! requests for memory refused from one on: then a test passes too, or it ends with the out of memory
 //! that a call returned.
 
+use crate::common::push_members;
 use std::alloc::{AllocError, Global};
 use std::collections::HashMap;
 use std::test::Fail;
@@ -13,22 +14,14 @@ use tinyjson::{JsonValue, discard_member, insert_member};
 const AMONG_OTHERS: &str = r#"[{"a":"x","b":["x"],"c":@,"d":"x","e":["x"]},"x",["x"]]"#;
 
 /// The first of 66 members, which a map takes before the object ends.
-const FIRST_OF_MANY: &str = r#"{"a":@,*,"c":"x"}"#;
+const FIRST_OF_MANY: &str = r#"{"a":@*,"c":"x"}"#;
 
-/// 64 members of an object.
-const OTHERS: &str =
-    "\"b00\":0,\"b01\":0,\"b02\":0,\"b03\":0,\"b04\":0,\"b05\":0,\"b06\":0,\"b07\":0,\"b08\":0,\"b09\":0,\
-    \"b10\":0,\"b11\":0,\"b12\":0,\"b13\":0,\"b14\":0,\"b15\":0,\"b16\":0,\"b17\":0,\"b18\":0,\"b19\":0,\
-    \"b20\":0,\"b21\":0,\"b22\":0,\"b23\":0,\"b24\":0,\"b25\":0,\"b26\":0,\"b27\":0,\"b28\":0,\"b29\":0,\
-    \"b30\":0,\"b31\":0,\"b32\":0,\"b33\":0,\"b34\":0,\"b35\":0,\"b36\":0,\"b37\":0,\"b38\":0,\"b39\":0,\
-    \"b40\":0,\"b41\":0,\"b42\":0,\"b43\":0,\"b44\":0,\"b45\":0,\"b46\":0,\"b47\":0,\"b48\":0,\"b49\":0,\
-    \"b50\":0,\"b51\":0,\"b52\":0,\"b53\":0,\"b54\":0,\"b55\":0,\"b56\":0,\"b57\":0,\"b58\":0,\"b59\":0,\
-    \"b60\":0,\"b61\":0,\"b62\":0,\"b63\":0";
-
-/// The text with this value and these members in their places.
+/// The text with this value in the place of `@`, and 64 members in that of `*`, with a comma before each.
 fn placed(alloc: Global, place: &str, value: &str) -> Result<String, AllocError> {
+    let mut others = String::new(alloc);
+    push_members(&mut others, "01234567", "01234567")?;
     place
-        .replace(alloc, "*", OTHERS)?
+        .replace(alloc, "*", others.as_str())?
         .replace(alloc, "@", value)
 }
 
