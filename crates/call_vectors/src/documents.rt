@@ -1,4 +1,4 @@
-//! Documents: their parts, their texts, and what they are equal to.
+//! Documents: their parts, their texts, what they are equal to, and what is made of them.
 
 use crate::building::built;
 use crate::inputs::Inputs;
@@ -6,60 +6,42 @@ use crate::reading::error_of;
 use crate::reply::Reply;
 use crate::writing::text_of;
 use std::io;
-use tinyjson::JsonValue;
 use tinyjson_buffers::Buffers;
 use tinyjson_document::{Document, JsonView, Node};
 
-/// The first input is a text. The second is a key, another text, what describes a value, or a limit on depth.
+/// The first input is a text. The second is a limit on depth, a key, another text, or what describes a value.
 pub fn answer(reply: &mut Reply, name: &str, inputs: &Inputs) -> io::Result<bool> {
-    let limit = inputs.count(1).unwrap_or(usize::MAX);
+    let text = inputs.text(0);
     match name {
+        "Node::members" => keys(reply, text)?,
+        "Node::items" => items(reply, text, inputs.text(1))?,
+        "Node::to_value" => value(reply, text, inputs.count(1).unwrap_or(usize::MAX))?,
+        "Node::format" => indented(reply, text)?,
+        "Node::eq" => equal(reply, text, inputs.text(1))?,
+        "Node::equals_value" => equal_to_value(reply, text, inputs.text(1))?,
         "Buffers::read" => in_turn(reply, inputs.from(0))?,
-        "Buffers::read_with_depth_limit" => limited(reply, inputs.text(0), limit)?,
-        "Node::members"
-        | "Node::items"
-        | "Node::to_value"
-        | "Node::format"
-        | "Node::eq"
-        | "Node::equals_value" => {
-            let document = Document::read_with_depth_limit(reply.alloc, inputs.text(0), limit)?;
-            answer_of_root(reply, name, inputs.text(1), document.root())?;
-        }
+        "Buffers::read_with_depth_limit" => limited(reply, text, inputs.count(1).unwrap_or(0))?,
         _ => return Ok(false),
     }
     Ok(true)
 }
 
-fn answer_of_root(reply: &mut Reply, name: &str, second: &str, root: Node<'_>) -> io::Result<()> {
-    let alloc = reply.alloc;
-    match name {
-        "Node::members" => keys(reply, root),
-        "Node::items" => items(reply, root.member(second)),
-        "Node::to_value" => value(reply, root, &root.to_value(alloc)?),
-        "Node::format" => indented(reply, root),
-        "Node::eq" => {
-            let other = Document::read(alloc, second)?;
-            reply.shown(root == other.root())
-        }
-        _ => reply.shown(root.equals_value(&built(alloc, second)?)),
-    }
-}
-
 /// The keys of the members, as the document lists them.
-fn keys(reply: &mut Reply, root: Node<'_>) -> io::Result<()> {
-    for (key, _) in root.members() {
+fn keys(reply: &mut Reply, text: &str) -> io::Result<()> {
+    let document = Document::read(reply.alloc, text)?;
+    for (key, _) in document.root().members() {
         reply.text(key)?;
     }
     Ok(())
 }
 
-/// The compact texts of the items, if there is such a member.
-fn items(reply: &mut Reply, member: Option<Node<'_>>) -> io::Result<()> {
-    let Some(member) = member else {
-        return Ok(());
-    };
-    for item in member.items() {
-        compact(reply, item)?;
+/// The compact texts of the items of the member with the key.
+fn items(reply: &mut Reply, text: &str, key: &str) -> io::Result<()> {
+    let document = Document::read(reply.alloc, text)?;
+    if let Some(member) = document.root().member(key) {
+        for item in member.items() {
+            reply.text(item.to_string(reply.alloc)?.as_str())?;
+        }
     }
     Ok(())
 }
@@ -70,20 +52,34 @@ pub fn compact(reply: &mut Reply, node: Node<'_>) -> io::Result<()> {
     text_of(reply, &text)
 }
 
-/// The compact text of the value of a node, how many members or items the value has, and how many the node.
-fn value(reply: &mut Reply, node: Node<'_>, value: &JsonValue) -> io::Result<()> {
-    reply.value(value)?;
-    reply.shown(JsonView::len(&value))?;
-    reply.shown(node.len())
+/// The compact text of the value of the document, how many members or items the value has, and how many the document.
+fn value(reply: &mut Reply, text: &str, limit: usize) -> io::Result<()> {
+    let document = Document::read_with_depth_limit(reply.alloc, text, limit)?;
+    let value = document.root().to_value(reply.alloc)?;
+    reply.value(&value)?;
+    reply.shown(JsonView::len(&&value))?;
+    reply.shown(document.root().len())
 }
 
 /// The indented text, and what is written as a line.
-fn indented(reply: &mut Reply, node: Node<'_>) -> io::Result<()> {
-    let text = node.format(reply.alloc);
-    text_of(reply, &text)?;
+fn indented(reply: &mut Reply, text: &str) -> io::Result<()> {
+    let document = Document::read(reply.alloc, text)?;
+    reply.text(document.root().format(reply.alloc)?.as_str())?;
     let mut bytes = Vec::new(reply.alloc);
-    node.format_line_to(reply.alloc, &mut bytes)?;
+    document.root().format_line_to(reply.alloc, &mut bytes)?;
     reply.bytes(bytes.as_slice())
+}
+
+fn equal(reply: &mut Reply, one: &str, other: &str) -> io::Result<()> {
+    let one = Document::read(reply.alloc, one)?;
+    let other = Document::read(reply.alloc, other)?;
+    reply.shown(one.root() == other.root())
+}
+
+fn equal_to_value(reply: &mut Reply, text: &str, words: &str) -> io::Result<()> {
+    let document = Document::read(reply.alloc, text)?;
+    let value = built(reply.alloc, words)?;
+    reply.shown(document.root().equals_value(&value))
 }
 
 /// What each of the texts is read as, in the memory of those before it.
@@ -92,7 +88,7 @@ fn in_turn(reply: &mut Reply, texts: &[String]) -> io::Result<()> {
     for text in texts {
         match buffers.read(text.as_str()) {
             Ok(document) => {
-                read(reply, document.root(), text.as_str())?;
+                read(reply, &document, text.as_str())?;
                 buffers.recycle(document);
             }
             Err(error) => error_of(reply, error)?,
@@ -102,16 +98,16 @@ fn in_turn(reply: &mut Reply, texts: &[String]) -> io::Result<()> {
 }
 
 /// The compact text of a document, and whether it is equal to the one that is read alone.
-fn read(reply: &mut Reply, root: Node<'_>, text: &str) -> io::Result<()> {
+fn read(reply: &mut Reply, document: &Document, text: &str) -> io::Result<()> {
     let alone = Document::read(reply.alloc, text)?;
     reply.word("document")?;
-    compact(reply, root)?;
-    reply.shown(root == alone.root())
+    reply.text(document.root().to_string(reply.alloc)?.as_str())?;
+    reply.shown(document.root() == alone.root())
 }
 
 fn limited(reply: &mut Reply, text: &str, limit: usize) -> io::Result<()> {
     match Buffers::new(reply.alloc).read_with_depth_limit(text, limit) {
-        Ok(document) => read(reply, document.root(), text),
+        Ok(document) => read(reply, &document, text),
         Err(error) => error_of(reply, error),
     }
 }

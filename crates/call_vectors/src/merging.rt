@@ -10,21 +10,25 @@ use tinyjson_replay::copy;
 
 /// The inputs are texts.
 pub fn answer(reply: &mut Reply, name: &str, inputs: &Inputs) -> io::Result<bool> {
-    let alloc = reply.alloc;
     match name {
-        "merge_documents" => {
-            let target = Document::read(alloc, inputs.text(0))?;
-            let patch = Document::read(alloc, inputs.text(1))?;
-            merged(reply, target.root(), patch.root())?;
-        }
-        "copy" => {
-            let document = Document::read(alloc, inputs.text(0))?;
-            let copied = copy(alloc, document.root())?;
-            compact(reply, copied.root())?;
-        }
+        "merge_documents" => merge(reply, inputs.text(0), inputs.text(1))?,
+        "copy" => copied(reply, inputs.text(0))?,
         _ => return Ok(false),
     }
     Ok(true)
+}
+
+fn merge(reply: &mut Reply, target: &str, patch: &str) -> io::Result<()> {
+    let target = Document::read(reply.alloc, target)?;
+    let patch = Document::read(reply.alloc, patch)?;
+    merged(reply, target.root(), patch.root())
+}
+
+/// The compact text of a copy of the document.
+fn copied(reply: &mut Reply, text: &str) -> io::Result<()> {
+    let document = Document::read(reply.alloc, text)?;
+    let copied = copy(reply.alloc, document.root())?;
+    compact(reply, copied.root())
 }
 
 /// The compact text of what a patch makes of a target, and whether it is equal to the patch.
