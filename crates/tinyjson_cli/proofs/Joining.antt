@@ -1,10 +1,11 @@
 -- What words give, one after the other.
-use Rattle.std.proofs.Common.{◌≡◌, ℕ, suc, ◌+◌, ◌<◌, List, [], ◌∷◌, length, drop, get_or, map, Result, Ok, Err, refl, sym, ap, ◌∙◌}
+use Rattle.std.proofs.Common.{◌≡◌, ℕ, suc, ◌+◌, ◌<◌, List, [], ◌∷◌, length, drop, get_or, map, Result, Ok, Err, refl, sym, ap, ◌∙◌, subst}
 use Rattle.std.proofs.Common.{append-nil, append_assoc, add-one, arith, cond, Bool, true, false, Option, Some, None, ◌==◌, ◌≢◌, ◌≤◌, eq-eqb}
 use Rattle.std.proofs.lemmas.Bool.{ne_eqb}
 use Rattle.std.proofs.lemmas.Str.{is_utf8-from_IsUtf8, IsUtf8-from_is_utf8}
 use Rattle.std.proofs.Math.Seq.{drop-cons}
 use Rattle.std.specs.Option.{option_map_or}
+use Rattle.std.specs.Result.{IsErrAnd}
 use Rattle.std.specs.Str.{IsUtf8, is_utf8}
 use Rattle.tinyjson_cli.specs.Arguments.{Given, Fault, Word, Takes, nothing, flag, with_text, operand, join, and_word, and_words, and_rest}
 use Rattle.tinyjson_cli.specs.Arguments.{text_or, no_text, taken_gives, value_gives, by_letter}
@@ -62,6 +63,11 @@ takes_after a old mid new w (Err (misuse.NoText c)) e h = (h.0, ap (and_word a) 
 takes_after a old mid new w (Err (misuse.Missing s)) e h = absurd h.2
 takes_after a old mid new w (Err misuse.NotUtf8) e h = absurd h.2
 takes_after a old mid new w (Err misuse.OutOfMemory) e h = tt
+
+-- memory ran out
+pub no_memory : (w : Word) (old new : Given) (r : Result Next Misuse) → IsErrAnd r (λ m. m ≡ misuse.OutOfMemory) → Takes w old new r
+no_memory w old new (Ok n) h = absurd h
+no_memory w old new (Err m) h = subst (λ x. Takes w old new (Err x)) (sym h) tt
 
 pub value_none : (t : Taken) (c : ℕ) (ds : List ℕ) → length ds ≡ 0 → value_gives t c ds ≡ Ok (nothing, Value t c)
 value_none t c [] e = refl

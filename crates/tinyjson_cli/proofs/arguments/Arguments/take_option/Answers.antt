@@ -1,7 +1,7 @@
 use Rattle.std.proofs.Common.{◌≡◌, ap, sym, ◌∙◌, Ok, arith, subst, drop, length-drop}
-use Rattle.tinyjson_cli.specs.Arguments.{nothing, operand, option_gives}
+use Rattle.tinyjson_cli.specs.Arguments.{given_of, nothing, operand, option_gives}
 use Rattle.tinyjson_cli.specs.declared.arguments.Next.TheVariants.{Any}
-use Rattle.tinyjson_cli.proofs.Joining.{join_nothing, short_word, plain_word, dashed_word, dashes_alone}
+use Rattle.tinyjson_cli.proofs.Joining.{join_nothing, no_memory, short_word, plain_word, dashed_word, dashes_alone}
 use Rattle.tinyjson_cli.proofs.arguments.Arguments.take_option.Goals as goal
 use Rattle.tinyjson_cli.proofs.arguments.Arguments.take_option.Goals.{then-bytes-lt2-via-then-bytes-lt2}
 use Rattle.tinyjson_cli.proofs.arguments.Arguments.take_option.Goals.{then-bytes-lt2-via-else-bytes-lt2+then-bytes-ne45}
@@ -26,3 +26,8 @@ returns-then-bytes-eq2 c =
           ∙ dashes_alone known w (drop 2 w) (omega (arith, length-drop 2 w, c.if-bytes-eq2.true))),
       join_nothing _,
     )
+
+pub returns-in_err-add_operand : goal.returns-in_err-add_operand
+returns-in_err-add_operand c =
+    no_memory (option_gives c.args.known.now c.args.word.now) (given_of c.args.self.now) (given_of c.add_operand.new.self) c.from_residual.result
+    c.from_residual.ensures.1
