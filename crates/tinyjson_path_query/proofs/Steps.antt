@@ -68,6 +68,15 @@ pub quoted_at : (xs cs : List ℕ) (c : ℕ) (ds ys zs : List ℕ) → xs ≡ c 
 quoted_at xs cs c ds ys zs e q h f =
     ap plain_front e ∙ (cond-true (is_quote c) _ _ q ∙ (ap (option_map named) h ∙ ap (λ us. Some (form.name ds, us)) (sym f)))
 
+pub quoted_none : (xs cs : List ℕ) (c : ℕ) → xs ≡ c ∷ cs → is_quote c ≡ true → quoted_front c cs ≡ None → plain_front xs ≡ None
+quoted_none xs cs c e q h = ap plain_front e ∙ (cond-true (is_quote c) _ _ q ∙ ap (option_map named) h)
+
+pub wildcard_at : (xs cs zs : List ℕ) (c : ℕ) → xs ≡ c ∷ cs → c ≡ 42 → zs ≡ after_blanks cs → plain_front xs ≡ Some (form.wildcard, zs)
+wildcard_at xs cs zs c e f z = ap plain_front (e ∙ ap (λ d. d ∷ cs) f) ∙ ap (λ ys. Some (form.wildcard, ys)) (sym z)
+
+pub colon_at : (xs cs : List ℕ) (c : ℕ) → xs ≡ c ∷ cs → c ≡ 58 → plain_front xs ≡ slice_front None cs
+colon_at xs cs c e f = ap plain_front (e ∙ ap (λ d. d ∷ cs) f)
+
 pub shorthand_at : (xs cs : List ℕ) (c : ℕ) (ds ys : List ℕ) → xs ≡ c ∷ cs → c ≢ 42 → is_name_first c ≡ true
     → ds ≡ c ∷ (name_chars cs).0 → ys ≡ (name_chars cs).1 → shorthand_front xs ≡ Some (form.name ds, ys)
 shorthand_at xs cs c ds ys e n h f g =

@@ -107,7 +107,10 @@ fn low_surrogate(high: u32, text: &[char]) -> Result<(char, &[char]), Refusal>
     requires { is_high high ≡ true }
     ensures { FrontsAs (pair_front high text.now) result }
 {
-    let [first, second, rest @ ..] = text else {
+    let Some((first, rest)) = text.split_first() else {
+        return Err(Refusal::at(Cause::Character, text));
+    };
+    let Some((second, rest)) = rest.split_first() else {
         return Err(Refusal::at(Cause::Character, text));
     };
     if *first != '\\' || *second != 'u' {

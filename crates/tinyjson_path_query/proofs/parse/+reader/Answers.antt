@@ -510,3 +510,91 @@ pub argument-returns : goal.argument-returns
 argument-returns t c =
     argument_at c.args.levels (c.args.levels - 1) c.args.text.now c.comparable.result (omega (arith, c.if-levels-eq0.false))
     c.comparable.ensures
+
+pub basic-returns-in_err-condition : goal.basic-returns-in_err-condition
+basic-returns-in_err-condition t c =
+    refused_as _ _ _ c.in_err-condition.field-0.0 _ c.from_residual.ensures.1 c.in_err-condition.ensures (λ none. search rules)
+
+pub basic-returns-in_err-left : goal.basic-returns-in_err-left
+basic-returns-in_err-left t c =
+    refused_as _ _ _ c.in_err-left.field-0.0 _ c.from_residual-in_err-left.ensures.1 c.in_err-left.ensures (λ none. search rules)
+
+pub basic-returns-in_err-right : goal.basic-returns-in_err-right
+basic-returns-in_err-right t c =
+    refused_as _ _ _ c.in_err-right.field-0.0 _ c.from_residual-in_err-right.ensures.1 c.in_err-right.ensures (λ none. search rules)
+
+pub comparable-returns-in_err-function : goal.comparable-returns-in_err-function
+comparable-returns-in_err-function t c =
+    refused_as _ _ _ c.in_err-function.field-0.0 _ c.from_residual-in_err-function.ensures.1 c.in_err-function.ensures (λ none. search rules)
+
+pub comparable-returns-in_err-literal : goal.comparable-returns-in_err-literal
+comparable-returns-in_err-literal t c =
+    refused_as _ _ _ c.in_err-literal.field-0.0 _ c.from_residual-in_err-literal.ensures.1 c.in_err-literal.ensures (λ none. search rules)
+
+pub comparable-returns-in_err-segments : goal.comparable-returns-in_err-segments
+comparable-returns-in_err-segments t c =
+    refused_as _ _ _ c.in_err-segments.field-0.0 _ c.from_residual.ensures.1 c.in_err-segments.ensures (λ none. search rules)
+
+pub conjunction-returns-in_err-condition : goal.conjunction-returns-in_err-condition
+conjunction-returns-in_err-condition t c =
+    refused_as _ _ _ c.in_err-condition.field-0.0 _ c.from_residual.ensures.1 c.in_err-condition.ensures (λ none. search rules)
+
+pub descendant-returns-in_err-selectors : goal.descendant-returns-in_err-selectors
+descendant-returns-in_err-selectors t c =
+    refused_as _ _ _ c.in_err-selectors.field-0.0 _ c.from_residual.ensures.1 c.in_err-selectors.ensures (λ none. search rules)
+
+pub descendant-returns-in_err-selectors-2 : goal.descendant-returns-in_err-selectors-2
+descendant-returns-in_err-selectors-2 t c =
+    refused_as _ _ _ c.in_err-selectors-2.field-0.0 _ c.from_residual-in_err-selectors-2.ensures.1 c.in_err-selectors-2.ensures (λ none. search rules)
+
+pub filter_query-returns-in_err-segments : goal.filter_query-returns-in_err-segments
+filter_query-returns-in_err-segments t c =
+    refused_as _ _ _ c.in_err-segments.field-0.0 _ c.from_residual.ensures.1 c.in_err-segments.ensures (λ none. search rules)
+
+pub function-returns-in_err-query : goal.function-returns-in_err-query
+function-returns-in_err-query t c =
+    refused_as _ _ _ c.in_err-query.field-0.0 _ c.from_residual-in_err-query.ensures.1 c.in_err-query.ensures (λ none. search rules)
+
+pub function-returns-in_err-query-2 : goal.function-returns-in_err-query-2
+function-returns-in_err-query-2 t c =
+    refused_as _ _ _ c.in_err-query-2.field-0.0 _ c.from_residual-in_err-query-2.ensures.1 c.in_err-query-2.ensures (λ none. search rules)
+
+pub function-returns-in_err-value : goal.function-returns-in_err-value
+function-returns-in_err-value t c =
+    refused_as _ _ _ c.in_err-value.field-0.0 _ c.from_residual.ensures.1 c.in_err-value.ensures (λ none. search rules)
+
+pub operand-returns-in_err-condition : goal.operand-returns-in_err-condition
+operand-returns-in_err-condition t c =
+    refused_as _ _ _ c.in_err-condition.field-0.0 _ c.from_residual.ensures.1 c.in_err-condition.ensures (λ none. search rules)
+
+pub operand-returns-in_err-segments : goal.operand-returns-in_err-segments
+operand-returns-in_err-segments t c =
+    refused_as _ _ _ c.in_err-segments.field-0.0 _ c.from_residual-in_err-segments.ensures.1 c.in_err-segments.ensures (λ none. search rules)
+
+pub pattern_arguments-returns-in_err-pattern : goal.pattern_arguments-returns-in_err-pattern
+pattern_arguments-returns-in_err-pattern t c =
+    refused_as _ _ _ c.in_err-pattern.field-0.0 _ c.from_residual-in_err-pattern.ensures.1 c.in_err-pattern.ensures (λ none. search rules)
+
+pub pattern_arguments-returns-in_err-value : goal.pattern_arguments-returns-in_err-value
+pattern_arguments-returns-in_err-value t c =
+    refused_as _ _ _ c.in_err-value.field-0.0 _ c.from_residual.ensures.1 c.in_err-value.ensures (λ none. search rules)
+
+pub query_argument-returns-in_err-query : goal.query_argument-returns-in_err-query
+query_argument-returns-in_err-query t c =
+    refused_as _ _ _ c.in_err-query.field-0.0 _ c.from_residual.ensures.1 c.in_err-query.ensures (λ none. search rules)
+
+pub segment-returns-in_err-selectors : goal.segment-returns-in_err-selectors
+segment-returns-in_err-selectors t c =
+    refused_as _ _ _ c.in_err-selectors.field-0.0 _ c.from_residual.ensures.1 c.in_err-selectors.ensures (λ none. search rules)
+
+pub segment-returns-in_err-selectors-2 : goal.segment-returns-in_err-selectors-2
+segment-returns-in_err-selectors-2 t c =
+    refused_as _ _ _ c.in_err-selectors-2.field-0.0 _ c.from_residual-in_err-selectors-2.ensures.1 c.in_err-selectors-2.ensures (λ none. search rules)
+
+pub selector-returns-in_err-condition : goal.selector-returns-in_err-condition
+selector-returns-in_err-condition t c =
+    refused_as _ _ _ c.in_err-condition.field-0.0 _ c.from_residual.ensures.1 c.in_err-condition.ensures (λ none. search rules)
+
+pub value_argument-returns-in_err-value : goal.value_argument-returns-in_err-value
+value_argument-returns-in_err-value t c =
+    refused_as _ _ _ c.in_err-value.field-0.0 _ c.from_residual.ensures.1 c.in_err-value.ensures (λ none. search rules)
