@@ -6,7 +6,7 @@ rows within the limit of a run.
 
 import regexp_rows as regexps
 import text_rows as texts
-from library import calls_of, digits, word
+from library_calls import calls_of, digits, word
 
 # What the rows run.
 PROGRAMS = ("call_vectors",)
