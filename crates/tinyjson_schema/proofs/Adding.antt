@@ -14,10 +14,11 @@ use Rattle.tinyjson_schema.specs.Evaluated.{Answers}
 use Rattle.tinyjson_schema.specs.Every.{index, key, token, word, Spot, spot_of, Use, failing, every}
 use Rattle.tinyjson_schema.specs.Parts.{is_by_part}
 use Rattle.tinyjson_schema.specs.Places.{IsAt, place}
-use Rattle.tinyjson_schema.specs.Steps.{AddsFirst, AddsUses, use_of, place_of}
+use Rattle.tinyjson_schema.specs.Steps.{AddsFirst, AddsUses, use_of, place_of, placed, stepped}
 use Rattle.tinyjson_schema.specs.Valid.{root_of}
 use Rattle.tinyjson_schema.specs.Walks.{IsDeeper}
 use Rattle.tinyjson_schema.specs.declared.validate.pending.Pending.{Pending}
+use Rattle.tinyjson_schema.specs.declared.validate.pending.Step.{Step}
 use Rattle.tinyjson_schema.specs.declared.violation.Violation.{Violation}
 use Rattle.tinyjson_schema.specs.declared.walk.Walk.{Walk}
 use Rattle.tinyjson_schema.proofs.Validity.{same_root}
@@ -124,7 +125,23 @@ failing_next q k ks b xs ys zs e h l = l ∙ (ap (λ l. l ++ failing q ks) h
 pub failing_end : (q : Keyword → Bool) (xs : List Keyword) → xs ≡ xs ++ failing q []
 failing_end q xs = sym (append-nil xs)
 
+-- one keyword more of those that a loop asks
+pub failing_turn : (q : Keyword → Bool) (ks : List Keyword) (i : ℕ) (d : Keyword) (b : Bool) (old new ws : List Keyword) → i < length ks
+    → b ≡ q (get_or ks i d) → new ≡ old ++ cond b [] (get_or ks i d ∷ []) → old ++ failing q (drop i ks) ≡ ws
+    → new ++ failing q (drop (i + 1) ks) ≡ ws
+failing_turn q ks i d b old new ws h e more left =
+    let k = get_or ks i d in
+    gather_next (failing q) ks i ws k old new (cond b [] (k ∷ [])) h (get_or_default ks i d k h)
+    (ap (λ c. cond c [] (k ∷ []) ++ failing q (drop (i + 1) ks)) (sym e)) more left
+
 -- ---- places
+
+-- one step more of a path
+pub placed_turn : (ps : List Step) (i : ℕ) (d : Step) (old new end : Spot) → i < length ps → new ≡ stepped (get_or ps i d) old
+    → placed (drop i ps) old ≡ end → placed (drop (i + 1) ps) new ≡ end
+placed_turn ps i d old new end h e left =
+    ap (placed (drop (i + 1) ps)) e
+    ∙ (sym (ap (λ xs. placed xs old) (drop_item ps i (get_or ps i d) h (get_or_default ps i d (get_or ps i d) h))) ∙ left)
 
 pub spot_at_tokens : (ks js : List (List ℕ)) (v : Violation) → IsAt ks js v
     → spot_of v ≡ record { in_schema = map token ks; in_value = map token js }
