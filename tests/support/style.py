@@ -11,7 +11,7 @@ import re
 WORDS = {
     "README.md": 600,
     "CHANGELOG.md": 1_500,
-    "CONTRIBUTING.md": 1_700,
+    "CONTRIBUTING.md": 1_800,
     "bench/results.md": 800,
     "bindings/README.md": 650,
     "docs/ARCHITECTURE.md": 1_100,
