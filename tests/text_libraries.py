@@ -4,9 +4,15 @@ Each is a call of `call_vectors`, as those of `library.py` are. A matcher that t
 rows within the limit of a run.
 """
 
+import hashlib
+import pathlib
+import re
+
+import published
 import regexp_rows as regexps
 import text_rows as texts
 from library_calls import calls_of, digits, word
+from places import TOP
 
 # What the rows run.
 PROGRAMS = ("call_vectors",)
@@ -131,6 +137,18 @@ def check_categories(calls):
         calls.add(row, "Category::value_named", name, member + other, gives=["true", "false"])
 
 
+def table_sum():
+    """The checksum of the table of categories, as `published.py` has it."""
+    source = pathlib.Path(TOP, "crates/general_category/src/table.rt").read_text()
+    runs = [divmod(int(it, 16), 32) for it in re.findall(r"0x([0-9A-F]{8})", source)]
+    return hashlib.sha256("".join(f"{end} {texts.NAMES[number]}\n" for end, number in runs).encode()).hexdigest()
+
+
+def check_table(checks):
+    """The table of categories is that of Unicode."""
+    checks.row("general_category: the table", published.CATEGORIES, table_sum)
+
+
 @calls_of
 def check_references(calls):
     """References that are resolved against bases, and their fragments."""
@@ -165,6 +183,7 @@ PARTS = (
     check_built,
     check_work,
     check_categories,
+    check_table,
     check_references,
     check_formats,
 )

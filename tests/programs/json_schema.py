@@ -1,5 +1,6 @@
 """Rows of `json_schema`: a value, or each line of some, checked against a schema (JSON Schema 2020-12, 2019-09, drafts 4, 6 and 7)."""
 
+import hashlib
 import itertools
 import json
 import os
@@ -7,6 +8,7 @@ import pathlib
 import re
 import tempfile
 
+import published
 from checks import shared
 from faults import BROKEN, FOLDER, FULL, NO_TEXT, Faults
 from long_lines import LongLines
@@ -950,6 +952,8 @@ BY_LINES = [
     # Nothing in a value ends a line.
     ('{"additionalProperties":false}', b'{"x\\nvalid":1}\n{"\\u001b":1}', [(1, "/x\nvalid", "/additionalProperties"), (2, "/\x1b", "/additionalProperties")], [], 1),
     ('{"items":{"properties":{"a":{"minimum":0}}}}', b'[{"a":0}]\n[{},{"a":-1}]', [(2, "/1/a", "/items/properties/a/minimum")], [], 1),
+    # The steps of each line are counted anew: in all these take six million.
+    (json.dumps({"enum": [*range(9_999, -1, -1)]}), b"0\n" * 600, [], [], 0),
     # More lines than 16 bits count.
     ('{"minimum":0}', b"0\n" * 70_000 + b"-1\n" + b"1", [(70_001, "", "/minimum")], [], 1),
     ('{"minimum":0}', b"-1\n" * 70_000 + b"x\n", [(i + 1, "", "/minimum") for i in range(70_000)], ["line 70001, col 0: Invalid character: x"], 1),
@@ -1926,14 +1930,28 @@ def check_meta(checks):
     check_meta_texts(checks)
 
 
+def without_comments(value):
+    if isinstance(value, dict):
+        return {key: without_comments(it) for key, it in value.items() if key != "$comment"}
+    return [without_comments(it) for it in value] if isinstance(value, list) else value
+
+
+def sum_of(schema):
+    """The checksum of a meta-schema, as `published.py` has it."""
+    text = json.dumps(without_comments(schema), sort_keys=True, separators=(",", ":"), ensure_ascii=False)
+    return hashlib.sha256(text.encode()).hexdigest()
+
+
 def check_meta_texts(checks):
-    """Each text has the URI that it is found at, and is valid by its own meta-schema."""
+    """Each text is the published one, has the URI that it is found at, and is valid by its own meta-schema."""
     for path in sorted(pathlib.Path(TOP, "crates/tinyjson_schema_meta/src").glob("draft_*.rt")):
         source = path.read_text()
         texts = dict(re.findall(r'^const (\w+): &str = r##"(.*?)"##;$', source, re.M | re.S))
         for uri, name in re.findall(r'uri: "(.*)",\n *text: (\w+),', source):
             schema = json.loads(texts[name])
             checks.row(f"json_schema: the text at {uri}", uri, lambda: schema.get("$id", schema.get("id")).rstrip("#"))
+            if uri in published.META_SCHEMAS:
+                checks.row(f"json_schema: the published text at {uri}", published.META_SCHEMAS[uri], sum_of, schema)
             checks.row(f"json_schema: --meta of {uri}", (0, b"", b""), by_meta, checks.folder, {}, [], texts[name].encode())
 
 

@@ -1,5 +1,8 @@
 """Rows of categories of characters, of references, and of formats."""
 
+# The names of the categories, by their numbers in the table; the last one has no characters.
+NAMES = "Lu Ll Lt Lm Lo Mn Mc Me Nd Nl No Pc Pd Ps Pe Pi Pf Po Zs Zl Zp Sm Sc Sk So Cc Cf Cn Co Cs".split()
+
 # The letter of a group, that of a category, and characters of this category (Unicode, `UnicodeData.txt`).
 CATEGORIES = [
     ("L", "u", "AZÀΩЖ𝐀"),
