@@ -2016,7 +2016,7 @@ def check_padded(checks):
 
 def check_padded_lines(checks):
     rows = [(row, *row[:2]) for row in BY_LINES]
-    for row, (schema, given) in padded_rows(checks, "json_schema -l", rows, padded_lines, {"a large text": 2}):
+    for row, (schema, given) in padded_rows(checks, "json_schema -l", rows, padded_lines, {"a large text": 3}):
         _, _, reports, lines, status = row
         output = b"".join(unit_of(instance, keyword, line=line) for line, instance, keyword in reports)
         name, expected = f"json_schema: padded -l {row[0][:60]} {row[1][:60]}", located(given, (status, output, told(lines)))
