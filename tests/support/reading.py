@@ -18,7 +18,7 @@ ANSWERS = [
     ("From Python?", "docs/RECIPES.md", "from-python-and-other-languages", "`tinyjson.valid`"),
     ("How do I read a file of 40 GB?", "docs/RECIPES.md", "files-larger-than-memory", "`JsonParser::parse_events`"),
     ("What is not proved?", "docs/GUARANTEES.md", "what-is-not-proved", "Stack and time"),
-    ("How long does the gate take?", "CONTRIBUTING.md", "build-and-check", "From nothing the gate took 48 minutes"),
+    ("How long does the gate take?", "CONTRIBUTING.md", "build-and-check", "From nothing the proofs of the gate take some 155 minutes"),
     ("Where is the grammar?", "docs/DEFINITIONS.md", "grammar", "In `tinyjson_grammar/specs`"),
     ("How do I report a weak contract?", "CONTRIBUTING.md", "reports", "weak_contract.md"),
 ]
