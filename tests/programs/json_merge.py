@@ -9,6 +9,7 @@ from padding import padded_merge, padded_rows
 from pages import Page, misused
 from places import TOP
 from replaced import InPlace
+from document_rows import MERGES
 from running import printed, program, reported, run_of
 from values import DEEP, LONG, NESTED, NOT_UTF8, normal
 
@@ -19,23 +20,7 @@ PATCH = f"{TOP}/crates/json_merge/data/patch.json"
 ADDED = b'"author":{},"phoneNumber":"+01-123-456-7890","tags":["example"],"title":"Hello!"'
 
 # RFC 7396, appendix A: the value, the patch, and the result.
-MERGED = [
-    ('{"a":"b"}', '{"a":"c"}', '{"a":"c"}'),
-    ('{"a":"b"}', '{"b":"c"}', '{"a":"b","b":"c"}'),
-    ('{"a":"b"}', '{"a":null}', "{}"),
-    ('{"a":"b","b":"c"}', '{"a":null}', '{"b":"c"}'),
-    ('{"a":["b"]}', '{"a":"c"}', '{"a":"c"}'),
-    ('{"a":"c"}', '{"a":["b"]}', '{"a":["b"]}'),
-    ('{"a":{"b":"c"}}', '{"a":{"b":"d","c":null}}', '{"a":{"b":"d"}}'),
-    ('{"a":[{"b":"c"}]}', '{"a":[1]}', '{"a":[1]}'),
-    ('["a","b"]', '["c","d"]', '["c","d"]'),
-    ('{"a":"b"}', '["c"]', '["c"]'),
-    ('{"a":"foo"}', "null", "null"),
-    ('{"a":"foo"}', '"bar"', '"bar"'),
-    ('{"e":null}', '{"a":1}', '{"a":1,"e":null}'),
-    ("[1,2]", '{"a":"b","c":null}', '{"a":"b"}'),
-    ("{}", '{"a":{"bb":{"ccc":null}}}', '{"a":{"bb":{}}}'),
-]
+MERGED = [*MERGES]
 
 # Its section 2: the kinds of the value, nulls, members that are missing, and of equal members the last.
 MERGED += [
