@@ -139,14 +139,14 @@ def check_categories(calls):
 
 def table_sum():
     """The checksum of the table of categories, as `published.py` has it."""
-    source = pathlib.Path(TOP, "crates/general_category/src/table.rt").read_text()
+    source = pathlib.Path(TOP, "crates/text_categories/src/table.rt").read_text()
     runs = [divmod(int(it, 16), 32) for it in re.findall(r"0x([0-9A-F]{8})", source)]
     return hashlib.sha256("".join(f"{end} {texts.NAMES[number]}\n" for end, number in runs).encode()).hexdigest()
 
 
 def check_table(checks):
     """The table of categories is that of Unicode."""
-    checks.row("general_category: the table", published.CATEGORIES, table_sum)
+    checks.row("text_categories: the table", published.CATEGORIES, table_sum)
 
 
 @calls_of

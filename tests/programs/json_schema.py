@@ -1185,7 +1185,7 @@ def grouped(depth):
     return "(" * depth + "a" + ")" * depth
 
 
-# Patterns above the limits of `i_regexp`, which are 200 groups open at once and a size of 10,100; also as keys.
+# Patterns above the limits of `text_iregexp`, which are 200 groups open at once and a size of 10,100; also as keys.
 LARGE_PATTERNS = [
     ('{"pattern":"%s"}' % grouped(201), "/pattern"),
     ('{"properties":{"a":{"pattern":"%s"}}}' % grouped(201), "/properties/a/pattern"),

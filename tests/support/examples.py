@@ -30,15 +30,15 @@ CACHE = pathlib.Path(tempfile.gettempdir(), f"tinyjson-examples-{os.getuid()}")
 KEPT, LIMIT = 8, 1_200
 
 # The libraries whose public items each have an example. All of these examples are run.
-LIBRARIES = ("tinyjson", "tinyjson_grammar", "tinyjson_number", "tinyjson_normal", "i_regexp", "marked_regexp",
-             "ecma_regexp", "general_category", "text_formats")
+LIBRARIES = ("tinyjson", "tinyjson_grammar", "tinyjson_number", "tinyjson_normal", "text_iregexp", "text_regexp",
+             "text_ecma_regexp", "text_categories", "text_formats")
 
 # The crates of tests, which run side by side: of each the libraries whose examples it has. Of a library that is not one of
 # LIBRARIES the examples are run that assert something; the other ones show a call in the midst of code.
 CRATES = {
     "value_examples": ("tinyjson", "tinyjson_grammar", "tinyjson_number"),
     "document_examples": ("tinyjson_normal", "tinyjson_document", "tinyjson_replay", "tinyjson_buffers", "tinyjson_path_query"),
-    "text_examples": ("i_regexp", "marked_regexp", "ecma_regexp", "general_category", "text_formats", "uri_reference"),
+    "text_examples": ("text_iregexp", "text_regexp", "text_ecma_regexp", "text_categories", "text_formats", "text_uri"),
 }
 
 # The paths of names of the standard library.

@@ -2,8 +2,8 @@
 
 use crate::inputs::Inputs;
 use crate::reply::Reply;
-use general_category::Category;
 use std::io;
+use text_categories::Category;
 
 /// The inputs are the letter of a group and that of a category, or a value's name, and then characters.
 pub fn answer(reply: &mut Reply, name: &str, inputs: &Inputs) -> io::Result<bool> {

@@ -2,9 +2,9 @@
 
 use crate::inputs::{Inputs, text_of};
 use crate::reply::Reply;
-use marked_regexp::{Assertion, Automaton, Class, Expression, Item, Work};
 use std::alloc::Global;
 use std::io::{self, ErrorKind};
+use text_regexp::{Assertion, Automaton, Class, Expression, Item, Work};
 
 /// The first input describes the expression, and the others are texts; for `matches_within` and an automaton texts with the work that
 /// each may take before it.

@@ -2,8 +2,8 @@
 
 use crate::inputs::Inputs;
 use crate::reply::Reply;
-use ecma_regexp::is_regex;
 use std::io;
+use text_ecma_regexp::is_regex;
 use text_formats::{
     Format, is_date, is_date_time, is_duration, is_email, is_hostname, is_ipv4, is_ipv6,
     is_json_pointer, is_relative_json_pointer, is_time, is_uri, is_uri_reference, is_uri_template,

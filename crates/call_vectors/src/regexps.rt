@@ -3,13 +3,13 @@
 use crate::expressions::{judged, work_of};
 use crate::inputs::Inputs;
 use crate::reply::Reply;
-use ecma_regexp::is_regex;
-use i_regexp::{
+use std::io;
+use text_ecma_regexp::is_regex;
+use text_formats::Format;
+use text_iregexp::{
     IRegexp, IRegexpError, IRegexpErrorKind, SchemaPattern, SchemaPatternError,
     SchemaPatternErrorKind,
 };
-use std::io;
-use text_formats::Format;
 
 /// The first input is the regular expression, and the others are texts; for `is_found_within` texts with the work that each may take
 /// before it.

@@ -3,7 +3,7 @@
 use crate::inputs::Inputs;
 use crate::reply::Reply;
 use std::io;
-use uri_reference::{fragment, resolve, without_fragment};
+use text_uri::{fragment, resolve, without_fragment};
 
 /// The inputs are a base and a reference, or a text.
 pub fn answer(reply: &mut Reply, name: &str, inputs: &Inputs) -> io::Result<bool> {

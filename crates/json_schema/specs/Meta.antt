@@ -22,7 +22,7 @@ use Rattle.tinyjson_schema_keywords.specs.Applied.{schema_at}
 use Rattle.tinyjson_schema_keywords.specs.Names.{name}
 use Rattle.tinyjson_schema_keywords.specs.declared.keyword.Keyword.TheVariants as kw
 use Rattle.tinyjson_schema_references.specs.References.{HasMetaSchemas, Seen, embed, meta_schema_of, referring}
-use Rattle.uri_reference.specs.Resolving.{resolved, without_fragment}
+use Rattle.text_uri.specs.Resolving.{resolved, without_fragment}
 use Rattle.json_schema.specs.Every.{TextGivesAs}
 use Rattle.json_schema.specs.Failures.{Is}
 use Rattle.json_schema.specs.Names.{joined, plain, reference}

@@ -2,8 +2,8 @@
 use Rattle.std.specs.Prelude.{ℕ, Bool, ◌&&◌, ◌||◌, ◌==◌, nat_eq, nat_lt, List, [], ◌∷◌}
 use Rattle.std.specs.Prelude.{◌++◌, Option, Some, None, unwrap_or, cond, codes, length, drop}
 use Rattle.std.specs.List.{ends_with, position_or_len, before_first, after_first}
-use Rattle.uri_reference.specs.Letters.{is_slash, after, through_last_slash}
-use Rattle.uri_reference.specs.Resolving.{begins_with_slash, is_empty}
+use Rattle.text_uri.specs.Letters.{is_slash, after, through_last_slash}
+use Rattle.text_uri.specs.Resolving.{begins_with_slash, is_empty}
 
 -- `URI=NAME`, or a name alone
 abbrev pub is_equals : ℕ → Bool

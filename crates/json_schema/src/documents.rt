@@ -16,6 +16,7 @@ use std::alloc::{AllocError, Global};
 use std::collections::HashMap;
 use std::fs;
 use std::os::unix::fs::MetadataExt;
+use text_uri::{resolve, without_fragment};
 use tinyjson::JsonValue;
 use tinyjson_cli::{Failure, Text, read_named};
 use tinyjson_pointer::put_member;
@@ -23,7 +24,6 @@ use tinyjson_schema_documents::{found_at, has_definition};
 use tinyjson_schema_drafts::Draft;
 use tinyjson_schema_keywords::{Keyword, operand, schema_at};
 use tinyjson_schema_references::{Compound, embed};
-use uri_reference::{resolve, without_fragment};
 
 /// The schema of this file with the documents that the texts of `-r` name. A document that names no draft is read in the
 /// schema's. The schema was found at `/` and its file's name, so that they can refer to it.

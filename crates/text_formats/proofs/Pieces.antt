@@ -2,7 +2,7 @@
 use Rattle.std.proofs.Common.{◌≡◌, ◌≢◌, ◌∙◌, ◌∷◌, [], ◌-◌, ◌&&◌, ◌||◌, ℕ, suc, Bool, true, not, cond, List, length, ap, sym, refl, arith}
 use Rattle.text_formats.specs.Ip.{are_pieces, after_colon, is_last, is_piece}
 use Rattle.text_formats.specs.Letters.{is_empty, is_colon}
-use Rattle.uri_reference.specs.Letters.{before, from}
+use Rattle.text_uri.specs.Letters.{before, from}
 
 abbrev pub body : ℕ → Bool → List ℕ → List ℕ → Bool
 body n gap front rest = cond (is_empty rest) (is_last n gap front)

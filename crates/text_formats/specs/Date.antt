@@ -4,7 +4,7 @@ use Rattle.std.specs.Prelude.{Option, Some, None, option_map, cond, codes, take,
 use Rattle.std.specs.Char.{is_ascii_digit}
 use Rattle.text_formats.specs.Form.{has_form, two}
 use Rattle.text_formats.specs.Letters.{begins, is_empty, is_not_digit}
-use Rattle.uri_reference.specs.Letters.{from}
+use Rattle.text_uri.specs.Letters.{from}
 
 -- the leap years of the Gregorian calendar (appendix C)
 abbrev pub is_leap : ℕ → Bool

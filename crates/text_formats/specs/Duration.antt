@@ -2,7 +2,7 @@
 use Rattle.std.specs.Prelude.{ℕ, Bool, true, false, ◌&&◌, ◌||◌, ◌==◌, not, List, [], ◌∷◌, Option, Some, None, cond, codes}
 use Rattle.std.specs.Option.{option_map_or}
 use Rattle.text_formats.specs.Letters.{is_empty, is_not_digit}
-use Rattle.uri_reference.specs.Letters.{before, from, after}
+use Rattle.text_uri.specs.Letters.{before, from, after}
 
 -- what follows digits and the unit, as in `1*DIGIT "M"`
 abbrev pub after_unit : ℕ → List ℕ → Option (List ℕ)

@@ -4,7 +4,7 @@ use Rattle.std.specs.List.{list_all, slice_split}
 use Rattle.text_formats.specs.Host.{is_hostname}
 use Rattle.text_formats.specs.Ip.{is_ipv4, is_ipv6}
 use Rattle.text_formats.specs.Letters.{each, is_empty, is_at_sign, is_bracket_end, is_atom_letter}
-use Rattle.uri_reference.specs.Letters.{before, from, after}
+use Rattle.text_uri.specs.Letters.{before, from, after}
 
 abbrev pub is_atom : List ℕ → Bool
 is_atom text = not (is_empty text) && each (λ c cs. is_atom_letter c) text

@@ -2,7 +2,7 @@
 use Rattle.std.specs.Prelude.{ℕ, Bool, List, [], ◌∷◌, Option, codes}
 use Rattle.std.specs.List.{find}
 use Rattle.std.specs.Str.{bytes_eq}
-use Rattle.ecma_regexp.specs.Regex.{is_regex}
+use Rattle.text_ecma_regexp.specs.Regex.{is_regex}
 use Rattle.text_formats.specs.Date.{is_date, is_time, is_date_time}
 use Rattle.text_formats.specs.Duration.{is_duration}
 use Rattle.text_formats.specs.Email.{is_email}

@@ -3,7 +3,7 @@ use Rattle.std.specs.Prelude.{ℕ, zero, suc, ◌+◌, ◌*◌, ◌-◌, Bool, t
 use Rattle.std.specs.Char.{is_ascii_digit, is_ascii_hexdigit}
 use Rattle.std.specs.List.{list_all, slice_split}
 use Rattle.text_formats.specs.Letters.{each, begins, is_empty, is_colon}
-use Rattle.uri_reference.specs.Letters.{before, from}
+use Rattle.text_uri.specs.Letters.{before, from}
 
 -- the number that one to three digits write, without leading zeros
 abbrev pub is_octet : List ℕ → Bool

@@ -1,7 +1,7 @@
 -- Letters, and texts of them. A test gets a byte and the bytes after it.
 use Rattle.std.specs.Prelude.{ℕ, Bool, true, false, ◌&&◌, ◌||◌, ◌==◌, not, List, [], ◌∷◌, codes}
 use Rattle.std.specs.Char.{is_ascii_hexdigit, is_ascii_alphanumeric}
-pub use Rattle.ecma_regexp.specs.Letters.{is_empty, begins, is_among, is_not_digit, is_brace_end}
+pub use Rattle.text_ecma_regexp.specs.Letters.{is_empty, begins, is_among, is_not_digit, is_brace_end}
 
 abbrev pub each : (ℕ → List ℕ → Bool) → List ℕ → Bool
 each test [] = true

@@ -1,7 +1,7 @@
 -- JSON Pointers (RFC 6901, section 3), and relative ones (draft-bhutton-relative-json-pointer-00, section 3).
 use Rattle.std.specs.Prelude.{ℕ, Bool, true, false, ◌&&◌, ◌||◌, ◌==◌, not, List, [], ◌∷◌}
 use Rattle.text_formats.specs.Letters.{each, is_empty, is_not_digit, is_pointer_letter}
-use Rattle.uri_reference.specs.Letters.{before, from}
+use Rattle.text_uri.specs.Letters.{before, from}
 
 abbrev pub is_pointer : List ℕ → Bool
 is_pointer [] = true

@@ -4,8 +4,8 @@ use Rattle.std.specs.Char.{is_ascii_digit, is_ascii_hexdigit}
 use Rattle.text_formats.specs.Letters.{is_not_digit, is_at_sign, is_colon, is_dot, is_bracket_end, is_brace, is_brace_end, is_modifier}
 use Rattle.text_formats.specs.Letters.{is_uri_letter, is_label_letter, is_atom_letter, is_pointer_letter, is_unreserved, is_sub_delimiter}
 use Rattle.text_formats.specs.Template.{is_literal, is_name_letter}
-use Rattle.uri_reference.specs.Parts.{ends_path, ends_authority, ends_scheme, is_scheme_letter}
-use Rattle.uri_reference.specs.Letters.{is_number_sign}
+use Rattle.text_uri.specs.Parts.{ends_path, ends_authority, ends_scheme, is_scheme_letter}
+use Rattle.text_uri.specs.Letters.{is_number_sign}
 use Rattle.text_formats.specs.declared.letters.End.{End}
 use Rattle.text_formats.specs.declared.letters.End.TheVariants as at
 use Rattle.text_formats.specs.declared.letters.Letters.{Letters}

@@ -2,7 +2,7 @@
 use Rattle.std.specs.Prelude.{ℕ, List, Option, option_map}
 use denote.Ref.{Bor}
 use Rattle.text_formats.specs.declared.uri.Parts.{Parts}
-use Rattle.uri_reference.specs.Parts as uri
+use Rattle.text_uri.specs.Parts as uri
 
 abbrev pub now : Option (Bor (List ℕ)) → Option (List ℕ)
 now part = option_map (λ x. x.now) part

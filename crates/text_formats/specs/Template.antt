@@ -4,7 +4,7 @@ use Rattle.std.specs.Char.{is_ascii_digit, is_ascii_alphanumeric}
 use Rattle.std.specs.List.{list_all, list_any, slice_split}
 use Rattle.std.specs.Str.{chars}
 use Rattle.text_formats.specs.Letters.{each, is_empty, is_among, is_brace, is_brace_end, is_modifier, begins_with_pair}
-use Rattle.uri_reference.specs.Letters.{before, from}
+use Rattle.text_uri.specs.Letters.{before, from}
 
 -- `ucschar` and `iprivate` (section 1.5): the first and the last character of each range
 abbrev pub wide_ranges : List (ℕ × ℕ)

@@ -1,12 +1,12 @@
--- URIs and references (RFC 3986, section 3), by the parts that `uri_reference` defines.
+-- URIs and references (RFC 3986, section 3), by the parts that `text_uri` defines.
 use Rattle.std.specs.Prelude.{ℕ, Bool, true, false, ◌&&◌, ◌||◌, ◌==◌, not, List, [], ◌∷◌, Option, is_some, cond, codes}
 use Rattle.std.specs.Option.{option_map_or}
 use Rattle.std.specs.Char.{is_ascii_digit, is_ascii_hexdigit}
 use Rattle.text_formats.specs.Ip.{is_ipv6}
 use Rattle.text_formats.specs.Letters.{each, is_empty, is_colon, is_at_sign, is_bracket_end, is_dot}
 use Rattle.text_formats.specs.Letters.{is_uri_letter, is_unreserved, is_sub_delimiter}
-use Rattle.uri_reference.specs.Letters.{before, from}
-use Rattle.uri_reference.specs.Parts.{Parts, split}
+use Rattle.text_uri.specs.Letters.{before, from}
+use Rattle.text_uri.specs.Parts.{Parts, split}
 
 -- letters of a part, and those others (section 2)
 abbrev pub are_letters : List ℕ → List ℕ → Bool

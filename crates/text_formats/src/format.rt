@@ -11,7 +11,7 @@ use crate::ip::{is_ipv4, is_ipv6};
 use crate::pointer::{is_json_pointer, is_relative_json_pointer};
 use crate::template::is_uri_template;
 use crate::uri::{is_uri, is_uri_reference};
-use ecma_regexp::is_regex;
+use text_ecma_regexp::is_regex;
 
 /// A format that this library checks.
 ///

@@ -5,8 +5,8 @@ ghost use Rattle.text_formats.specs.Letters.{is_uri_letter, is_label_letter, is_
 ghost use Rattle.text_formats.specs.Letters.{is_among};
 ghost use Rattle.text_formats.specs.Scan.{ends, passes};
 ghost use Rattle.text_formats.specs.Template.{is_literal, is_name_letter};
-ghost use Rattle.uri_reference.specs.Letters.{before, from};
-ghost use Rattle.uri_reference.specs.Parts.{is_scheme_letter};
+ghost use Rattle.text_uri.specs.Letters.{before, from};
+ghost use Rattle.text_uri.specs.Parts.{is_scheme_letter};
 
 /// Where a part of a text ends.
 #[derive(Clone, Copy)]

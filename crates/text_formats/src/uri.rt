@@ -7,8 +7,8 @@ ghost use Rattle.text_formats.specs.Splitting.{parts_of, cut_now, now};
 ghost use Rattle.text_formats.specs.Uri.{is_uri, is_reference, are_parts, has_colon_first, is_authority};
 ghost use Rattle.text_formats.specs.Uri.{is_host_and_port, is_bracket_and_port, is_port, is_authority_if};
 ghost use Rattle.text_formats.specs.Uri.{is_ip_literal, is_future, is_dot_and_letters};
-ghost use Rattle.uri_reference.specs.Letters.{after};
-ghost use Rattle.uri_reference.specs.Parts.{split, cut_scheme, cut_authority, cut_query, is_scheme};
+ghost use Rattle.text_uri.specs.Letters.{after};
+ghost use Rattle.text_uri.specs.Parts.{split, cut_scheme, cut_authority, cut_query, is_scheme};
 
 use crate::ip::is_address;
 use crate::letters::{End, Letters, are, cut};

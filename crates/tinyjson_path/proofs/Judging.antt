@@ -3,14 +3,14 @@ use Rattle.std.proofs.Common.{◌≡◌, ◌↔◌, ℕ, Bool, IsTrue, List, Opt
 use Rattle.std.proofs.Common.{◌∙◌, false, refl}
 use Rattle.std.proofs.lemmas.Slice.Eq.{bytes_eq-Decides}
 use Rattle.std.specs.Str.{chars}
-use Rattle.i_regexp.proofs.Callers.{matched_as, searched_as, reads_matches, reads_searches, nothing_matches, nothing_searches}
-use Rattle.i_regexp.proofs.Callers.{pattern_matches_sound, pattern_matches_complete}
-use Rattle.i_regexp.proofs.Callers.{pattern_searches_sound, pattern_searches_complete}
-use Rattle.i_regexp.specs.Deciding.{matches, searches}
-use Rattle.marked_regexp.specs.Forms.{Matches, Searches}
-use Rattle.i_regexp.specs.Grammar.{Regexp, IsText}
-use Rattle.i_regexp.specs.Regexps.{form_in, IsReading}
-use Rattle.i_regexp.specs.declared.regexp.IRegexp.{IRegexp}
+use Rattle.text_iregexp.proofs.Callers.{matched_as, searched_as, reads_matches, reads_searches, nothing_matches, nothing_searches}
+use Rattle.text_iregexp.proofs.Callers.{pattern_matches_sound, pattern_matches_complete}
+use Rattle.text_iregexp.proofs.Callers.{pattern_searches_sound, pattern_searches_complete}
+use Rattle.text_iregexp.specs.Deciding.{matches, searches}
+use Rattle.text_regexp.specs.Forms.{Matches, Searches}
+use Rattle.text_iregexp.specs.Grammar.{Regexp, IsText}
+use Rattle.text_iregexp.specs.Regexps.{form_in, IsReading}
+use Rattle.text_iregexp.specs.declared.regexp.IRegexp.{IRegexp}
 use Rattle.tinyjson_path.specs.Patterns.{IsRight, judged, answer_of, holds_of_trees}
 use Rattle.tinyjson_path_query.specs.declared.query.PatternFunction.{PatternFunction}
 use Rattle.tinyjson.specs.Tree.{Tree, null, boolean, number, string, array, object}

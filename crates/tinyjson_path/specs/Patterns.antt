@@ -1,8 +1,8 @@
 -- `match` and `search` (RFC 9535, 2.4.6 and 2.4.7).
 use Rattle.std.specs.Prelude.{◌↔◌, ℕ, Bool, false, IsTrue, List, Option, Some, None}
-use Rattle.i_regexp.specs.Deciding.{matches, searches, pattern_matches, pattern_searches}
-use Rattle.i_regexp.specs.Regexps.{form_in, PatternMatches, PatternSearches}
-use Rattle.i_regexp.specs.declared.regexp.IRegexp.{IRegexp}
+use Rattle.text_iregexp.specs.Deciding.{matches, searches, pattern_matches, pattern_searches}
+use Rattle.text_iregexp.specs.Regexps.{form_in, PatternMatches, PatternSearches}
+use Rattle.text_iregexp.specs.declared.regexp.IRegexp.{IRegexp}
 use Rattle.tinyjson_path_query.specs.declared.query.PatternFunction.{PatternFunction}
 use Rattle.tinyjson_path_query.specs.declared.query.PatternFunction.TheVariants.{Match, Search}
 use Rattle.tinyjson.specs.Tree.{Tree, string}

@@ -2,10 +2,10 @@
 use Rattle.std.specs.Prelude.{◌≡◌, ℕ, Bool, true, ◌&&◌, List, [], ◌∷◌, ◌++◌, map, Option, Some, None, Err, flat_map, Any, Contains}
 use Rattle.std.specs.List.{list_any}
 use Rattle.std.specs.Str.{bytes_eq}
-use Rattle.i_regexp.specs.Regexps.{ReadsRegexp}
-use Rattle.i_regexp.specs.declared.error.IRegexpError.{IRegexpError}
-use Rattle.i_regexp.specs.declared.error.IRegexpErrorKind.{IRegexpErrorKind}
-use Rattle.i_regexp.specs.declared.error.IRegexpErrorKind.TheVariants as kind
+use Rattle.text_iregexp.specs.Regexps.{ReadsRegexp}
+use Rattle.text_iregexp.specs.declared.error.IRegexpError.{IRegexpError}
+use Rattle.text_iregexp.specs.declared.error.IRegexpErrorKind.{IRegexpErrorKind}
+use Rattle.text_iregexp.specs.declared.error.IRegexpErrorKind.TheVariants as kind
 use Rattle.tinyjson.specs.Tree.{Tree, null, boolean, number, string, array, object, Items, no_items, item, Members, no_members, member}
 use Rattle.tinyjson.specs.View.{text}
 use Rattle.tinyjson_path.specs.Nodes.{Part}

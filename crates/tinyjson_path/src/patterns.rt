@@ -12,9 +12,9 @@ ghost use Rattle.tinyjson_path.specs.declared.patterns.FindError.{FindError};
 ghost use Rattle.tinyjson_path_query.specs.declared.query.PatternFunction.{PatternFunction};
 
 use crate::operand::{Operand, release, value_of};
-use i_regexp::{IRegexp, IRegexpErrorKind};
 use std::alloc::{AllocError, AllocFailed, Global};
 use std::fmt;
+use text_iregexp::{IRegexp, IRegexpErrorKind};
 use tinyjson_document::JsonView;
 use tinyjson_path_query::PatternFunction;
 use tinyjson_view::ValueView;

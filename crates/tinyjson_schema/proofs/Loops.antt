@@ -15,7 +15,7 @@ use Rattle.tinyjson_schema_keywords.specs.Applied.{members_in}
 use Rattle.tinyjson_view.specs.Views.{tree_of, trees_of, members_of}
 use Rattle.tinyjson_view.specs.declared.view.MemberView.{MemberView}
 use Rattle.tinyjson_view.specs.declared.view.ValueView.{ValueView}
-use Rattle.i_regexp.specs.PatternDeciding.{is_found}
+use Rattle.text_iregexp.specs.PatternDeciding.{is_found}
 use Rattle.tinyjson_schema_keywords.proofs.Callers.{Listed, drop_suc, drop_end, turn_next}
 use Rattle.tinyjson_schema.specs.Applicators.{Judge, dependents_accept, member_accepted, members_accepted, item_accepted, items_accepted}
 use Rattle.tinyjson_schema.specs.Applicators.{parts_accepted, found_pass, items_passing}

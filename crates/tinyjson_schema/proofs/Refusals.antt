@@ -2,7 +2,7 @@
 use Rattle.std.proofs.Common.{◌≡◌, ◌∷◌, [], ℕ, suc, ◌<◌, Bool, true, false, ◌&&◌, List, Option, Some, None, Result, Ok, Err, String, Global}
 use Rattle.std.proofs.Common.{length, get_or, encode_utf8_all, refl, sym, ap, ◌∙◌, subst}
 use Rattle.std.specs.declared.alloc.AllocError.{AllocError}
-use Rattle.i_regexp.specs.PatternDeciding.{is_pattern}
+use Rattle.text_iregexp.specs.PatternDeciding.{is_pattern}
 use Rattle.tinyjson.proofs.Callers.{string_from_tree, no_object}
 use Rattle.tinyjson.specs.Access.{JsonMap, is_object}
 use Rattle.tinyjson.specs.Access.Laws.{put_of_string}

@@ -1,6 +1,6 @@
 -- What the error `TooDeep` says of a schema in a walk; for private contracts.
 use Rattle.std.specs.Prelude.{◌≡◌, ℕ, suc, List, Some, is_some, true}
-use Rattle.i_regexp.specs.PatternDeciding.{is_found}
+use Rattle.text_iregexp.specs.PatternDeciding.{is_found}
 use Rattle.tinyjson.specs.Index.{nth, tree_at_key}
 use Rattle.tinyjson.specs.Tree.{Tree, string, Items, Members, find}
 use Rattle.tinyjson.specs.View.{view}

@@ -2,7 +2,7 @@
 -- on apply has its own violations; `anyOf`, `oneOf`, `not`, `propertyNames` and `contains` are one violation each.
 use Rattle.std.specs.Prelude.{◌≡◌, ◌<◌, ℕ, zero, suc, Bool, not, cond, List, [], ◌∷◌, ◌++◌, is_some, map, take}
 use Rattle.std.specs.Option.{option_map_or}
-use Rattle.i_regexp.specs.PatternDeciding.{is_found}
+use Rattle.text_iregexp.specs.PatternDeciding.{is_found}
 use Rattle.tinyjson.specs.Index.{tree_at_key}
 use Rattle.tinyjson.specs.Tree.{Tree, Items, no_items, item, Members, no_members, member}
 use Rattle.tinyjson_pointer.specs.Index.{index_of}

@@ -1,6 +1,6 @@
 -- Schemas that a schema applies, and how deep they are nested (JSON Schema 2020-12, Core, sections 8.2.3, 10 and 11).
 use Rattle.std.specs.Prelude.{◌≡◌, ℕ, zero, suc, Bool, true, false, List, Some, is_some}
-use Rattle.i_regexp.specs.PatternDeciding.{is_found}
+use Rattle.text_iregexp.specs.PatternDeciding.{is_found}
 use Rattle.tinyjson.specs.Index.{tree_at_key, nth}
 use Rattle.tinyjson.specs.Tree.{Tree, string, find}
 use Rattle.tinyjson_schema_keywords.specs.Applied.{schema_at, schemas_at, schema_map_at, branch, items_in, members_in}

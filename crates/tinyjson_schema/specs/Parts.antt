@@ -1,7 +1,7 @@
 -- The schemas for the parts of a value.
 use Rattle.std.specs.Prelude.{ℕ, Bool, true, false, ◌||◌, cond, List, Option, Some, None, option_and_then, codes}
 use Rattle.std.specs.Option.{option_map_or}
-use Rattle.i_regexp.specs.PatternDeciding.{is_found}
+use Rattle.text_iregexp.specs.PatternDeciding.{is_found}
 use Rattle.tinyjson.specs.Index.{tree_at, tree_at_key}
 use Rattle.tinyjson.specs.Tree.{Tree, array, object, Members, no_members, member}
 use Rattle.tinyjson_pointer.specs.Index.{index_of}

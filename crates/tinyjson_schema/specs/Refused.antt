@@ -1,7 +1,7 @@
 -- Places in a schema that can't be applied.
 use Rattle.std.specs.Prelude.{◌≡◌, ℕ, Bool, true, false, ◌||◌, List, [], ◌∷◌, Option, Some, None, Result, Ok, Err}
 use Rattle.std.specs.declared.alloc.AllocError.{AllocError}
-use Rattle.i_regexp.specs.PatternDeciding.{is_pattern}
+use Rattle.text_iregexp.specs.PatternDeciding.{is_pattern}
 use Rattle.tinyjson.specs.Access.{is_boolean, is_object}
 use Rattle.tinyjson.specs.Tree.{Tree, string}
 use Rattle.tinyjson.specs.View.{view}

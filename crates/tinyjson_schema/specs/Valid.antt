@@ -8,7 +8,7 @@ use Rattle.tinyjson.specs.View.{view}
 use Rattle.tinyjson_pointer.specs.Index.{index_of}
 use Rattle.tinyjson_pointer.specs.Tokens.{tokens_of}
 use Rattle.tinyjson_pointer.specs.Walk.{step, part_at, item_of}
-use Rattle.i_regexp.specs.PatternDeciding.{is_found}
+use Rattle.text_iregexp.specs.PatternDeciding.{is_found}
 use Rattle.tinyjson_schema_keywords.specs.Applied.{schema_at, schemas_at, schema_map_at, branch, members_in}
 use Rattle.tinyjson_schema_keywords.specs.Names.{name}
 use Rattle.tinyjson_schema_keywords.specs.References.{referenced}

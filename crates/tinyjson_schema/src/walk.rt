@@ -1,5 +1,5 @@
 //! The state of a check of a value, which is passed down from schema to subschema.
-ghost use Rattle.i_regexp.specs.PatternDeciding.{is_found};
+ghost use Rattle.text_iregexp.specs.PatternDeciding.{is_found};
 ghost use Rattle.std.specs.Prelude.{◌≡◌, MatchResult, true};
 ghost use Rattle.std.specs.Str.{chars};
 ghost use Rattle.tinyjson.specs.View.{view};

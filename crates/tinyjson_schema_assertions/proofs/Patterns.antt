@@ -1,7 +1,7 @@
 -- What patterns and formats answer is right.
 use Rattle.std.proofs.Common.{◌≡◌, ℕ, List, Global, String, Some, string_bytes, sym, ap, ap₂, ◌∙◌}
 use Rattle.std.specs.Str.{chars}
-use Rattle.i_regexp.specs.PatternDeciding.{is_found}
+use Rattle.text_iregexp.specs.PatternDeciding.{is_found}
 use Rattle.tinyjson.proofs.Callers.{view_String}
 use Rattle.tinyjson.specs.Tree.{Tree, string}
 use Rattle.tinyjson.specs.View.{view, text}

@@ -6,7 +6,7 @@ use Rattle.std.specs.Prelude.{◌≡◌, ℕ, suc, pos, Bool, true, false, not, 
 use Rattle.std.specs.Prelude.{codes, length, encode_utf8_all}
 use Rattle.std.specs.Option.{option_map_or}
 use Rattle.std.specs.Str.{bytes_eq}
-use Rattle.i_regexp.specs.PatternDeciding.{is_found}
+use Rattle.text_iregexp.specs.PatternDeciding.{is_found}
 use Rattle.text_formats.specs.Format as format
 use Rattle.tinyjson.specs.Equality.{tree_eq}
 use Rattle.tinyjson.specs.Index.{tree_at_key, item_count}

@@ -1,7 +1,7 @@
 -- The forms that the values of keywords need, except for subschemas.
 use Rattle.std.specs.Prelude.{ℕ, pos, Bool, true, false, not, ◌&&◌, ◌||◌, List, int_le, codes, encode_utf8_all}
 use Rattle.std.specs.Str.{bytes_eq}
-use Rattle.i_regexp.specs.PatternDeciding.{is_pattern}
+use Rattle.text_iregexp.specs.PatternDeciding.{is_pattern}
 use Rattle.tinyjson.specs.Access.{is_string}
 use Rattle.tinyjson.specs.Tree.{Tree, number, string, array, object, Items, no_items, item, Members, no_members, member}
 use Rattle.tinyjson_compare.specs.Distinct.{are_distinct}

@@ -3,7 +3,7 @@ use Rattle.std.proofs.Common.{◌≡◌, ◌≤◌, ◌<◌, inl, inr, ℕ, zero
 use Rattle.std.proofs.Common.{get_or, is_none, bytes_eq, refl, sym, ap, subst, arith}
 use Rattle.std.proofs.lemmas.Bool.{and_parts}
 use Rattle.tinyjson.specs.Tree.{Tree}
-use Rattle.uri_reference.specs.Resolving.{without_fragment}
+use Rattle.text_uri.specs.Resolving.{without_fragment}
 use Rattle.tinyjson_schema_bundle.specs.Bundles.{Marked, marks_of, base_in}
 use Rattle.tinyjson_schema_bundle.specs.Scopes.{Scope, Reached, IsOneOf, is_contested, is_entering, entered_by, entered, scope_by, scope_at}
 use Rattle.tinyjson_schema_bundle.specs.Scopes.{reached, home, settled, name_in, is_between, IsScope, HaveScopes, AreCopies, reached_of}

@@ -10,7 +10,7 @@ use Rattle.tinyjson.specs.Tree.{Tree, array, object, Items, no_items, item, Memb
 use Rattle.tinyjson.specs.View.{view, text, members_view}
 use Rattle.tinyjson.specs.declared.value.JsonValue.{JsonValue}
 use Rattle.tinyjson.specs.declared.value.JsonValue.TheVariants as is
-use Rattle.uri_reference.specs.Resolving.{resolved, without_fragment}
+use Rattle.text_uri.specs.Resolving.{resolved, without_fragment}
 use Rattle.tinyjson_schema_keywords.specs.Forms.{form_at}
 use Rattle.tinyjson_schema_keywords.specs.Subschemas.{by_key, keyword_parts, item_parts, entry_parts, parts_of}
 use Rattle.tinyjson_schema_keywords.specs.Subschemas.{way_of, part_seen, all_parts}

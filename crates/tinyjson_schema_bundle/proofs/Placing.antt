@@ -14,7 +14,7 @@ use Rattle.tinyjson.specs.Tree.{Tree, string}
 use Rattle.tinyjson.specs.View.{view}
 use Rattle.tinyjson.specs.declared.value.JsonValue.{JsonValue}
 use Rattle.tinyjson.specs.declared.value.JsonValue.TheVariants as made
-use Rattle.uri_reference.specs.Resolving.{resolved, without_fragment, fragment_of}
+use Rattle.text_uri.specs.Resolving.{resolved, without_fragment, fragment_of}
 use Rattle.tinyjson_schema_keywords.specs.References.{number_sign, percent_decoded, at_pointer}
 use Rattle.tinyjson_schema_keywords.proofs.Callers.{text_bytes, drop_suc}
 use Rattle.tinyjson_schema_bundle.specs.Bundles.{Places, Leads, begins_pointer, place_below, leads_in, leads_by, first_place, destination}

@@ -11,7 +11,7 @@ use Rattle.std.specs.Str.{bytes_eq, chars, is_utf8}
 use Rattle.tinyjson.specs.Access.{is_string}
 use Rattle.tinyjson.specs.Characters.{solidus, tilde}
 use Rattle.tinyjson.specs.Tree.{Tree, string, array, object, Items, no_items, item, Members, no_members, member, put}
-use Rattle.uri_reference.specs.Resolving.{resolved, without_fragment, fragment_of}
+use Rattle.text_uri.specs.Resolving.{resolved, without_fragment, fragment_of}
 use Rattle.tinyjson_pointer.specs.Text.{pointer_tokens}
 use Rattle.tinyjson_schema_keywords.specs.Anchors.{is_plain_name}
 use Rattle.tinyjson_schema_keywords.specs.Applied.{schema_at}

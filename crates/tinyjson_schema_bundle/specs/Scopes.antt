@@ -7,7 +7,7 @@ use Rattle.std.specs.Prelude.{unwrap_or, encode_utf8_all, string_bytes}
 use Rattle.std.specs.Option.{option_map_or, option_or}
 use Rattle.std.specs.Str.{bytes_eq, chars, is_utf8}
 use Rattle.tinyjson.specs.Tree.{Tree, object, Members, no_members, member, put}
-use Rattle.uri_reference.specs.Resolving.{without_fragment, fragment_of}
+use Rattle.text_uri.specs.Resolving.{without_fragment, fragment_of}
 use Rattle.tinyjson_schema_keywords.specs.Applied.{schema_at, schema_map_at}
 use Rattle.tinyjson_schema_keywords.specs.Names.{name}
 use Rattle.tinyjson_schema_keywords.specs.References.{percent, at_pointer, percent_decoded}

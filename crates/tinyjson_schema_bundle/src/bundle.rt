@@ -22,10 +22,10 @@ use crate::scope::{State, moved, place_of_dynamic, some_contested};
 use std::alloc::{AllocError, Global};
 use std::collections::{BTreeMap, HashMap};
 use std::str;
+use text_uri::{resolve, without_fragment};
 use tinyjson::{JsonValue, sorted_members};
 use tinyjson_pointer::put_member;
 use tinyjson_schema_keywords::{Form, Keyword, form_at, is_plain_name, percent_decoded};
-use uri_reference::{resolve, without_fragment};
 
 /// Returns the document as a single schema resource. Each reference to a schema in the document becomes a pointer
 /// from the root, also one into another resource. The `$id`s and names of subschemas are left out (Core, 8.2.1,

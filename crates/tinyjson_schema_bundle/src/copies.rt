@@ -19,10 +19,10 @@ use crate::scope::{State, home, is_in_document, is_within, place_in_list, place_
 use std::alloc::{AllocError, Global};
 use std::collections::HashMap;
 use std::str;
+use text_uri::resolve;
 use tinyjson::{JsonValue, sorted_members};
 use tinyjson_pointer::put_member;
 use tinyjson_schema_keywords::{Keyword, at_pointer, percent_decoded, schema_at, schema_map_at};
-use uri_reference::resolve;
 
 /// The letters with which the keys of copies begin. They are longer than each key of `$defs`, and no reference of the
 /// document has as many: so a reference that leads nowhere leads to no copy.

@@ -2,7 +2,7 @@
 ghost use Rattle.std.specs.Prelude.{◌≡◌, [], IfOk, map, option_and_then, option_map, unwrap_or};
 ghost use Rattle.std.specs.String.{string_bytes};
 ghost use Rattle.tinyjson.specs.View.{text};
-ghost use Rattle.uri_reference.specs.Resolving.{fragment_of};
+ghost use Rattle.text_uri.specs.Resolving.{fragment_of};
 ghost use Rattle.tinyjson_schema_bundle.specs.Bundles.{all_marked, is_place, HasPlaces, places_in};
 ghost use Rattle.tinyjson_schema_bundle.specs.Bundles.{with_name, outermost, dynamic_place, marked};
 ghost use Rattle.tinyjson_schema_bundle.specs.Bundles.{is_dynamic_name, is_dynamic_at, is_named};
@@ -13,8 +13,8 @@ use crate::place::at_key;
 use crate::scope::State;
 use std::alloc::{AllocError, Global};
 use std::collections::BTreeMap;
+use text_uri::fragment;
 use tinyjson_schema_keywords::read_pointer;
-use uri_reference::fragment;
 
 /// What references are resolved with: the place of each URI, all marks, the URI of the root, and the allocator. For
 /// dynamic references also whether they lead to different places, the states that have a copy, and the letters with

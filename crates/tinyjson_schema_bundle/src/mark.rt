@@ -13,9 +13,9 @@ ghost use Rattle.tinyjson_schema_bundle.specs.Bundles.{all_marked, Gathers, with
 
 use crate::place::at_token;
 use std::alloc::{AllocError, Global};
+use text_uri::{resolve, without_fragment};
 use tinyjson::JsonValue;
 use tinyjson_schema_keywords::{Form, Keyword, Part, Token, parts_of, schema_at};
-use uri_reference::{resolve, without_fragment};
 
 /// The kind of a mark.
 #[derive(Clone, Copy)]

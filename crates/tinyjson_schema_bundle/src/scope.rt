@@ -13,7 +13,7 @@ use crate::guide::{
 };
 use crate::mark::{Kind, Mark, with_name};
 use std::alloc::{AllocError, Global};
-use uri_reference::without_fragment;
+use text_uri::without_fragment;
 
 /// A dynamic scope, and the place of the resource that was reached in it. The scope has a schema for some contested
 /// names: the outermost one. A name is contested if several resources have it by `$dynamicAnchor`, and the root

@@ -4,7 +4,7 @@ use Rattle.std.specs.Option.{option_map_or}
 use Rattle.std.specs.Str.{chars}
 use Rattle.tinyjson.specs.Index.{tree_at_key}
 use Rattle.tinyjson.specs.Tree.{Tree, boolean, string, object, no_members, member, put, remove}
-use Rattle.uri_reference.specs.Resolving.{resolved}
+use Rattle.text_uri.specs.Resolving.{resolved}
 use Rattle.tinyjson_schema_keywords.specs.Applied.{schema_at}
 use Rattle.tinyjson_schema_keywords.specs.Names.{name}
 use Rattle.tinyjson_schema_keywords.specs.declared.keyword.Keyword.TheVariants as kw

@@ -9,10 +9,10 @@ ghost use Rattle.tinyjson_schema_documents.specs.Documents.{has_definition};
 
 use std::alloc::{AllocError, Global};
 use std::collections::HashMap;
+use text_uri::resolve;
 use tinyjson::{JsonValue, remove_member};
 use tinyjson_pointer::put_member;
 use tinyjson_schema_keywords::{Keyword, has_key, schema_at};
-use uri_reference::resolve;
 
 /// The schema with a further document, which references then lead into: it becomes a member of the schema's `$defs`,
 /// with the URI that it was found at as its key, in the place of a member there. Its own `$id` is resolved by that URI,

@@ -5,7 +5,7 @@ use Rattle.std.specs.Option.{option_map_or}
 use Rattle.std.specs.Str.{bytes_eq, chars, is_utf8}
 use Rattle.tinyjson.specs.Access.{is_array}
 use Rattle.tinyjson.specs.Tree.{Tree, null, string}
-use Rattle.uri_reference.specs.Resolving.{is_empty, without_fragment, fragment_of}
+use Rattle.text_uri.specs.Resolving.{is_empty, without_fragment, fragment_of}
 use Rattle.tinyjson_pointer.specs.Text.{pointer_tokens}
 use Rattle.tinyjson_pointer.specs.Walk.{part_at}
 use Rattle.tinyjson_schema_keywords.specs.References.{percent_decoded}

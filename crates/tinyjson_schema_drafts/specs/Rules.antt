@@ -9,7 +9,7 @@ use Rattle.tinyjson.specs.Access.{is_array, is_boolean}
 use Rattle.tinyjson.specs.Characters.{solidus}
 use Rattle.tinyjson.specs.Index.{tree_at_key}
 use Rattle.tinyjson.specs.Tree.{Tree, boolean, string}
-use Rattle.uri_reference.specs.Resolving.{is_empty, without_fragment, fragment_of}
+use Rattle.text_uri.specs.Resolving.{is_empty, without_fragment, fragment_of}
 use Rattle.tinyjson_schema_keywords.specs.Applied.{schema_at}
 use Rattle.tinyjson_schema_keywords.specs.Names.{keywords, keyword_among}
 use Rattle.tinyjson_schema_keywords.specs.declared.keyword.Keyword.{Keyword}

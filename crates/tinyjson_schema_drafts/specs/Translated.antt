@@ -5,7 +5,7 @@ use Rattle.std.specs.Str.{chars}
 use Rattle.tinyjson.specs.Access.{is_array}
 use Rattle.tinyjson.specs.Index.{tree_at_key}
 use Rattle.tinyjson.specs.Tree.{Tree, null, string, array, object, Items, no_items, item, Members, no_members, member, put, find}
-use Rattle.uri_reference.specs.Resolving.{is_empty, without_fragment, fragment_of}
+use Rattle.text_uri.specs.Resolving.{is_empty, without_fragment, fragment_of}
 use Rattle.tinyjson_schema_keywords.specs.Applied.{schema_at}
 use Rattle.tinyjson_schema_keywords.specs.Names.{name}
 use Rattle.tinyjson_schema_keywords.specs.declared.keyword.Keyword.{Keyword}

@@ -11,10 +11,10 @@ ghost use Rattle.tinyjson_schema_drafts.specs.Pointers.{goes_through_items};
 use crate::rule::is_array;
 use std::alloc::{AllocError, Global};
 use std::str;
+use text_uri::{fragment, without_fragment};
 use tinyjson::JsonValue;
 use tinyjson_pointer::Pointer;
 use tinyjson_schema_keywords::{percent_decoded, read_pointer};
-use uri_reference::{fragment, without_fragment};
 
 /// A reference in a resource: null in its place where it may lead to the array at `items`, or to what there is not.
 pub fn reference_in_words(

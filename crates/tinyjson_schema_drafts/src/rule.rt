@@ -14,9 +14,9 @@ ghost use Rattle.tinyjson_schema_drafts.specs.Rules.{named_id_rule, recursive_ru
 ghost use Rattle.tinyjson_schema_drafts.specs.Rules.{mark_rule, is_false};
 
 use crate::draft::{Dialect, Draft, dialect_named};
+use text_uri::{fragment, without_fragment};
 use tinyjson::JsonValue;
 use tinyjson_schema_keywords::{Keyword, has_key, keyword_of, schema_at};
-use uri_reference::{fragment, without_fragment};
 
 /// What becomes of a member of a schema.
 #[derive(Clone, Copy)]

@@ -18,10 +18,10 @@ use crate::reference::reference_in_words;
 use crate::rule::{Rule, Traits, is_array, is_hidden, rule_of, traits_of};
 use std::alloc::{AllocError, Global};
 use std::collections::HashMap;
+use text_uri::{fragment, without_fragment};
 use tinyjson::{JsonValue, sorted_members};
 use tinyjson_pointer::put_member;
 use tinyjson_schema_keywords::{Keyword, operand, schema_at};
-use uri_reference::{fragment, without_fragment};
 
 /// Where a schema is read: its draft, and the resource that it is in, by which references are judged.
 #[derive(Clone, Copy)]

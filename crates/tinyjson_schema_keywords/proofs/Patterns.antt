@@ -1,11 +1,11 @@
 -- What patterns answer is right.
 use Rattle.std.proofs.Common.{◌≡◌, ◌↔◌, ℕ, Bool, true, false, IsTrue, List, Option, Some, None, sym, ap, ◌∙◌}
-use Rattle.i_regexp.proofs.Callers.{matched_as, reads_pattern, reads_found, is_pattern_none, is_found_none}
-use Rattle.i_regexp.specs.Deciding.{matches}
-use Rattle.marked_regexp.specs.Forms.{Matches}
-use Rattle.i_regexp.specs.PatternDeciding.{is_pattern, is_found}
-use Rattle.i_regexp.specs.PatternReading.{IsNone, IsReading, texts_of}
-use Rattle.i_regexp.specs.declared.pattern.SchemaPattern.{SchemaPattern}
+use Rattle.text_iregexp.proofs.Callers.{matched_as, reads_pattern, reads_found, is_pattern_none, is_found_none}
+use Rattle.text_iregexp.specs.Deciding.{matches}
+use Rattle.text_regexp.specs.Forms.{Matches}
+use Rattle.text_iregexp.specs.PatternDeciding.{is_pattern, is_found}
+use Rattle.text_iregexp.specs.PatternReading.{IsNone, IsReading, texts_of}
+use Rattle.text_iregexp.specs.declared.pattern.SchemaPattern.{SchemaPattern}
 use Rattle.tinyjson_schema_keywords.specs.Patterns.{answer_of}
 
 -- a text that was read

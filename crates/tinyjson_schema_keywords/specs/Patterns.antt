@@ -1,10 +1,10 @@
 -- Texts that are parsed as patterns.
 use Rattle.std.specs.Prelude.{◌≡◌, ℕ, Bool, false, ◌⊎◌, List, Option, Some, None}
-use Rattle.i_regexp.specs.Deciding.{matches}
-use Rattle.i_regexp.specs.PatternReading.{IsRefused, texts_of}
-use Rattle.i_regexp.specs.declared.pattern.SchemaPattern.{SchemaPattern}
-use Rattle.i_regexp.specs.declared.pattern_error.SchemaPatternError.{SchemaPatternError}
-use Rattle.i_regexp.specs.declared.pattern_error.SchemaPatternErrorKind.TheVariants.{TooDeep, TooLarge}
+use Rattle.text_iregexp.specs.Deciding.{matches}
+use Rattle.text_iregexp.specs.PatternReading.{IsRefused, texts_of}
+use Rattle.text_iregexp.specs.declared.pattern.SchemaPattern.{SchemaPattern}
+use Rattle.text_iregexp.specs.declared.pattern_error.SchemaPatternError.{SchemaPatternError}
+use Rattle.text_iregexp.specs.declared.pattern_error.SchemaPatternErrorKind.TheVariants.{TooDeep, TooLarge}
 use Rattle.tinyjson_schema_keywords.specs.declared.pattern.PatternError.{PatternError}
 use Rattle.tinyjson_schema_keywords.specs.declared.pattern.PatternError.TheVariants.{AboveLimits, OutOfMemory}
 

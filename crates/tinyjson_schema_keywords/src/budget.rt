@@ -3,8 +3,8 @@ ghost use Rattle.std.specs.Prelude.{◌≡◌, ◌<◌, IfErr};
 ghost use Rattle.tinyjson_schema_keywords.specs.declared.walk.CheckError.{CheckError};
 
 use crate::walk::CheckError;
-use i_regexp::Work;
 use std::cell::Cell;
+use text_iregexp::Work;
 
 /// How many units of a search's work are a step.
 const UNITS: u64 = 64;

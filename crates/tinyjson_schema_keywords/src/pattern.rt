@@ -2,15 +2,15 @@
 ghost use Rattle.std.specs.Prelude.{◌≡◌, ℕ, List, IfOk, IfErr, IfSome, is_some};
 ghost use Rattle.std.specs.Str.{chars};
 ghost use Rattle.tinyjson.specs.View.{text};
-ghost use Rattle.i_regexp.specs.PatternDeciding.{is_pattern, is_found};
+ghost use Rattle.text_iregexp.specs.PatternDeciding.{is_pattern, is_found};
 ghost use Rattle.tinyjson_schema_keywords.specs.Patterns.{answer_of, IsPatternError};
 
 use crate::budget::Budget;
 use crate::walk::SearchError;
-use i_regexp::{SchemaPattern, SchemaPatternErrorKind};
 use std::alloc::{AllocError, Global};
 use std::cell::RefCell;
 use std::collections::HashMap;
+use text_iregexp::{SchemaPattern, SchemaPatternErrorKind};
 use tinyjson_bytes::are_equal;
 
 /// How many parsed patterns are kept.

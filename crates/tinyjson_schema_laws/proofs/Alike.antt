@@ -8,7 +8,7 @@ use Rattle.std.specs.Option.{option_map_or}
 use Rattle.std.specs.Prelude.{option_and_then, ⊤}
 use Rattle.tinyjson.specs.Index.{tree_at, tree_at_key, nth}
 use Rattle.tinyjson.specs.Tree.{Tree, string, array, object, Items, no_items, item, Members, no_members, member, find}
-use Rattle.i_regexp.specs.PatternDeciding.{is_found}
+use Rattle.text_iregexp.specs.PatternDeciding.{is_found}
 use Rattle.tinyjson_schema_keywords.specs.Applied.{schema_at, schemas_at, schema_map_at, items_in, members_in, branch}
 use Rattle.tinyjson_schema_keywords.specs.Forms.{form_of, is_some_item}
 use Rattle.tinyjson_schema_keywords.specs.declared.keyword.Form.{Form}

@@ -15,7 +15,7 @@ use Rattle.tinyjson.specs.Tree.{Tree, string, object, Members, no_members, find}
 use Rattle.tinyjson_grammar.specs.Soundness.{IsTree}
 use Rattle.tinyjson_pointer.specs.Text.{pointer_tokens}
 use Rattle.tinyjson_pointer.specs.Walk.{step, part_at}
-use Rattle.uri_reference.specs.Resolving.{resolved, without_fragment, fragment_of}
+use Rattle.text_uri.specs.Resolving.{resolved, without_fragment, fragment_of}
 use Rattle.tinyjson_schema_keywords.specs.Applied.{members_in, schema_map_at}
 use Rattle.tinyjson_schema_keywords.specs.Forms.{form_at}
 use Rattle.tinyjson_schema_keywords.specs.References.{percent_decoded, form_in, form_after, is_schema_form, schema_from, target}

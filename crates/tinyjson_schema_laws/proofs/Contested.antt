@@ -6,8 +6,8 @@ use Rattle.std.proofs.lemmas.Option.{same_Some}
 use Rattle.std.proofs.lemmas.Slice.Eq.{bytes_eq-Decides}
 use Rattle.std.specs.Option.{option_or}
 use Rattle.std.specs.Prelude.{unwrap_or, is_none}
-use Rattle.uri_reference.specs.Letters.{is_number_sign, before, from, after}
-use Rattle.uri_reference.specs.Resolving.{without_fragment, fragment_of}
+use Rattle.text_uri.specs.Letters.{is_number_sign, before, from, after}
+use Rattle.text_uri.specs.Resolving.{without_fragment, fragment_of}
 use Rattle.tinyjson_schema_bundle.specs.Bundles as bundle
 use Rattle.tinyjson_schema_bundle.specs.Bundles.{Marked, marks_of, base_in, with_name, is_dynamic_name, is_dynamic_at, dynamic_place}
 use Rattle.tinyjson_schema_bundle.specs.Bundles.{is_named, is_only}

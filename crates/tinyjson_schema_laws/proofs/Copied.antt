@@ -9,7 +9,7 @@ use Rattle.tinyjson.specs.Access.{is_string}
 use Rattle.tinyjson.specs.Tree.{Tree, string, object, Members, find}
 use Rattle.tinyjson_grammar.specs.Soundness.{IsTree}
 use Rattle.tinyjson_pointer.specs.Walk.{step}
-use Rattle.uri_reference.specs.Resolving.{resolved, without_fragment}
+use Rattle.text_uri.specs.Resolving.{resolved, without_fragment}
 use Rattle.tinyjson_schema_keywords.specs.Applied.{schema_at}
 use Rattle.tinyjson_schema_keywords.specs.Forms.{form_of, form_at}
 use Rattle.tinyjson_schema_keywords.specs.Names.{name}

@@ -7,7 +7,7 @@ use Rattle.std.proofs.lemmas.Option.{same_Some}
 use Rattle.std.proofs.lemmas.Slice.Eq.{bytes_eq-Decides}
 use Rattle.std.specs.Option.{option_map_or}
 use Rattle.std.specs.Prelude.{⊤, option_and_then, unwrap_or}
-use Rattle.uri_reference.specs.Resolving.{fragment_of}
+use Rattle.text_uri.specs.Resolving.{fragment_of}
 use Rattle.tinyjson.proofs.Callers.{find_below, find_put, find_put_same}
 use Rattle.tinyjson.specs.Access.{is_string}
 use Rattle.tinyjson.specs.Index.{nth}

@@ -8,8 +8,8 @@ use Rattle.std.specs.Option.{option_map_or, option_or}
 use Rattle.std.specs.Prelude.{⊤, option_and_then, unwrap_or, is_none}
 use Rattle.std.specs.Str.{is_utf8}
 use Rattle.tinyjson.specs.Tree.{Tree, string}
-use Rattle.uri_reference.specs.Letters.{is_number_sign, before, from, after}
-use Rattle.uri_reference.specs.Resolving.{resolved, without_fragment, fragment_of}
+use Rattle.text_uri.specs.Letters.{is_number_sign, before, from, after}
+use Rattle.text_uri.specs.Resolving.{resolved, without_fragment, fragment_of}
 use Rattle.tinyjson_schema_keywords.specs.Applied.{schema_at}
 use Rattle.tinyjson_schema_keywords.specs.References.{percent_decoded}
 use Rattle.tinyjson_schema_keywords.specs.declared.keyword.Keyword.TheVariants as kw

@@ -1,11 +1,11 @@
 -- A reference that is only a fragment, resolved against a base URI, is this URI with the fragment.
 use Rattle.std.proofs.Common.{◌≡◌, ℕ, Bool, true, false, List, [], ◌∷◌, ◌++◌, Option, Some, None}
 use Rattle.std.proofs.Common.{cond, refl, sym, ap, ◌∙◌, codes, subst, append_assoc, append-nil, encode_utf8_all}
-use Rattle.uri_reference.proofs.Marks.{split_fragment}
-use Rattle.uri_reference.proofs.Whole.{split_whole}
-use Rattle.uri_reference.specs.Letters.{is_number_sign, before, from, after}
-use Rattle.uri_reference.specs.Parts.{split, scheme_text, marked}
-use Rattle.uri_reference.specs.Resolving.{resolved, without_fragment, fragment_of}
+use Rattle.text_uri.proofs.Marks.{split_fragment}
+use Rattle.text_uri.proofs.Whole.{split_whole}
+use Rattle.text_uri.specs.Letters.{is_number_sign, before, from, after}
+use Rattle.text_uri.specs.Parts.{split, scheme_text, marked}
+use Rattle.text_uri.specs.Resolving.{resolved, without_fragment, fragment_of}
 use Rattle.tinyjson.specs.Tree.{Tree, string}
 use Rattle.tinyjson_schema_keywords.specs.Applied.{schema_at}
 use Rattle.tinyjson_schema_keywords.specs.declared.keyword.Keyword.TheVariants as kw

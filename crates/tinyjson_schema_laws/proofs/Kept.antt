@@ -4,8 +4,8 @@ use Rattle.std.specs.Option.{option_map_or, option_or}
 use Rattle.std.specs.Prelude.{option_and_then, unwrap_or}
 use Rattle.std.specs.Str.{is_utf8}
 use Rattle.tinyjson.specs.Tree.{Tree}
-use Rattle.uri_reference.specs.Letters.{is_number_sign, before}
-use Rattle.uri_reference.specs.Resolving.{without_fragment, fragment_of}
+use Rattle.text_uri.specs.Letters.{is_number_sign, before}
+use Rattle.text_uri.specs.Resolving.{without_fragment, fragment_of}
 use Rattle.tinyjson_schema_keywords.specs.References.{percent_decoded}
 use Rattle.tinyjson_schema_bundle.specs.Bundles as bundle
 use Rattle.tinyjson_schema_bundle.specs.Bundles.{Leads, marks_of, place_of, dynamic_place, with_name, base_in, begins_pointer, place_below}

@@ -10,7 +10,7 @@ use Rattle.std.specs.Option.{option_map_or}
 use Rattle.std.specs.Prelude.{unwrap_or}
 use Rattle.tinyjson.specs.Tree.{Tree, string, object, Members}
 use Rattle.tinyjson_grammar.specs.Soundness.{IsTree}
-use Rattle.uri_reference.specs.Resolving.{resolved}
+use Rattle.text_uri.specs.Resolving.{resolved}
 use Rattle.tinyjson_schema_keywords.specs.References.{schema_from, target}
 use Rattle.tinyjson_schema_keywords.specs.declared.keyword.Form.TheVariants as form
 use Rattle.tinyjson_schema_bundle.specs.Bundles.{marks_of, place_of, base_in, place_after, string_of, pointing, begins_pointer}

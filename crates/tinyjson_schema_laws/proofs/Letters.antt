@@ -12,15 +12,15 @@ use Rattle.std.specs.Str.{IsUtf8}
 use lib.Utf8.{encode}
 use Rattle.tinyjson.specs.Characters.{solidus, tilde}
 use Rattle.tinyjson_pointer.specs.Text.{pointer_text, pointer_tokens, escape, escape_char, split}
-use Rattle.uri_reference.proofs.Marks.{split_fragment}
-use Rattle.uri_reference.specs.Dots.{Buffers, slash_for, after_segment, is_dots, first_segment, after_first_segment, step, steps}
-use Rattle.uri_reference.specs.Dots.{without_dots}
-use Rattle.uri_reference.specs.Letters.{is_number_sign, is_slash, before, from, after, has_slash, before_last_slash, through_last_slash}
-use Rattle.uri_reference.specs.Parts as parts
-use Rattle.uri_reference.specs.Parts.{Parts, Cut, composed, scheme_text, marked, cut_at_colon, cut_scheme, cut_marked, is_scheme}
-use Rattle.uri_reference.specs.Parts.{ends_path, ends_authority, ends_scheme, cut_authority, cut_query}
-use Rattle.uri_reference.specs.Resolving.{is_empty, begins_with_slash, merged, path_from, target_by_path, target, resolved}
-use Rattle.uri_reference.specs.Resolving.{fragment_of}
+use Rattle.text_uri.proofs.Marks.{split_fragment}
+use Rattle.text_uri.specs.Dots.{Buffers, slash_for, after_segment, is_dots, first_segment, after_first_segment, step, steps}
+use Rattle.text_uri.specs.Dots.{without_dots}
+use Rattle.text_uri.specs.Letters.{is_number_sign, is_slash, before, from, after, has_slash, before_last_slash, through_last_slash}
+use Rattle.text_uri.specs.Parts as parts
+use Rattle.text_uri.specs.Parts.{Parts, Cut, composed, scheme_text, marked, cut_at_colon, cut_scheme, cut_marked, is_scheme}
+use Rattle.text_uri.specs.Parts.{ends_path, ends_authority, ends_scheme, cut_authority, cut_query}
+use Rattle.text_uri.specs.Resolving.{is_empty, begins_with_slash, merged, path_from, target_by_path, target, resolved}
+use Rattle.text_uri.specs.Resolving.{fragment_of}
 use Rattle.tinyjson_schema_keywords.specs.References.{percent, percent_decoded, after_percent, hex_byte}
 use Rattle.tinyjson_schema_bundle.specs.Bundles.{Marked, is_place}
 use Rattle.tinyjson_schema_bundle.specs.Scopes.{letters_above, copy_key, may_be_letter, letters_in, most_letters, longer}

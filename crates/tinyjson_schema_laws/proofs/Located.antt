@@ -15,7 +15,7 @@ use Rattle.tinyjson_number.specs.Numeral.{power_width}
 use Rattle.tinyjson_grammar.specs.Soundness.{IsTree, IsSorted, AreItemsAt, AreMembersAt}
 use Rattle.tinyjson_pointer.specs.Text.{pointer_text, pointer_tokens}
 use Rattle.tinyjson_pointer.specs.Text as pointer
-use Rattle.uri_reference.specs.Resolving.{resolved, without_fragment, fragment_of}
+use Rattle.text_uri.specs.Resolving.{resolved, without_fragment, fragment_of}
 use Rattle.tinyjson_schema_keywords.specs.Anchors.{anchors_in, anchored, is_plain_name}
 use Rattle.tinyjson_schema_keywords.specs.Applied.{schema_at, members_in}
 use Rattle.tinyjson_schema_keywords.specs.Forms.{form_at, is_some_item}

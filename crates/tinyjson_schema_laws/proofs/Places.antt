@@ -18,7 +18,7 @@ use Rattle.tinyjson_schema_keywords.specs.Forms.{form_at}
 use Rattle.tinyjson_schema_keywords.specs.References.{percent, percent_decoded}
 use Rattle.tinyjson_schema_keywords.specs.declared.keyword.Form.{Form}
 use Rattle.tinyjson_schema_keywords.specs.declared.keyword.Form.TheVariants as form
-use Rattle.uri_reference.specs.Resolving.{without_fragment, fragment_of}
+use Rattle.text_uri.specs.Resolving.{without_fragment, fragment_of}
 use Rattle.tinyjson_schema_bundle.specs.Bundles.{Marked, Leads, token_char, token_text, at_key, at_index, base_in, is_resource}
 use Rattle.tinyjson_schema_bundle.specs.Bundles.{resource_marks, name_kind, name_marks, reference_marks, marks_by, marks_in, marks_among}
 use Rattle.tinyjson_schema_bundle.specs.Bundles.{marks_in_list, marks_in_map, marks_of_items, marks_of_members, marks_of, is_place}

@@ -11,7 +11,7 @@ use Rattle.tinyjson.specs.Tree.{Tree, string, object, Members, find}
 use Rattle.tinyjson_grammar.specs.Soundness.{IsTree}
 use Rattle.tinyjson_pointer.specs.Text.{pointer_tokens}
 use Rattle.tinyjson_pointer.specs.Walk.{step}
-use Rattle.uri_reference.specs.Resolving.{resolved, without_fragment, fragment_of}
+use Rattle.text_uri.specs.Resolving.{resolved, without_fragment, fragment_of}
 use Rattle.tinyjson_schema_keywords.specs.Anchors.{anchors_in, anchored, is_plain_name, is_name_start, are_name_parts}
 use Rattle.tinyjson_schema_keywords.specs.Applied.{schema_at}
 use Rattle.tinyjson_schema_keywords.specs.Forms.{form_at}

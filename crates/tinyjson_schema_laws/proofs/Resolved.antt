@@ -9,14 +9,14 @@ use Rattle.std.specs.Option.{option_map_or, option_or}
 use Rattle.std.specs.Prelude.{⊤}
 use Rattle.std.specs.Str.{IsUtf8, is_utf8, chars}
 use lib.Utf8.{encode}
-use Rattle.uri_reference.specs.Letters.{is_number_sign, is_slash, before, from, after, has_slash, before_last_slash, through_last_slash}
-use Rattle.uri_reference.specs.Parts.{Parts, Cut, split, composed, scheme_text, marked, cut_at_colon, cut_scheme, cut_marked, is_scheme}
-use Rattle.uri_reference.specs.Parts.{ends_path, ends_authority, ends_scheme, cut_authority, cut_query}
-use Rattle.uri_reference.specs.Dots.{Buffers, slash_for, after_segment, is_dots, first_segment, after_first_segment, step, steps}
-use Rattle.uri_reference.specs.Dots.{without_dots}
-use Rattle.uri_reference.specs.Resolving.{is_empty, begins_with_slash, merged, path_from, target_by_path, target, resolved}
-use Rattle.uri_reference.specs.Resolving.{without_fragment}
-use Rattle.uri_reference.proofs.Cuts.{IsAsciiTest, take_before, drop_before, may_be_cut, segment_front, segment_rest, segment_may_be_cut}
+use Rattle.text_uri.specs.Letters.{is_number_sign, is_slash, before, from, after, has_slash, before_last_slash, through_last_slash}
+use Rattle.text_uri.specs.Parts.{Parts, Cut, split, composed, scheme_text, marked, cut_at_colon, cut_scheme, cut_marked, is_scheme}
+use Rattle.text_uri.specs.Parts.{ends_path, ends_authority, ends_scheme, cut_authority, cut_query}
+use Rattle.text_uri.specs.Dots.{Buffers, slash_for, after_segment, is_dots, first_segment, after_first_segment, step, steps}
+use Rattle.text_uri.specs.Dots.{without_dots}
+use Rattle.text_uri.specs.Resolving.{is_empty, begins_with_slash, merged, path_from, target_by_path, target, resolved}
+use Rattle.text_uri.specs.Resolving.{without_fragment}
+use Rattle.text_uri.proofs.Cuts.{IsAsciiTest, take_before, drop_before, may_be_cut, segment_front, segment_rest, segment_may_be_cut}
 
 no_some : {A B : Type 0} (v : A) → None ≡ Some v → B
 no_some v e = absurd (let none : None ≡ Some v = e in cc)

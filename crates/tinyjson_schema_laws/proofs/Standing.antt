@@ -11,7 +11,7 @@ use Rattle.tinyjson_grammar.specs.Soundness.{IsTree}
 use Rattle.tinyjson_schema_keywords.specs.Applied.{schema_at}
 use Rattle.tinyjson_schema_keywords.specs.declared.keyword.Form.TheVariants as form
 use Rattle.tinyjson_schema_keywords.specs.declared.keyword.Keyword.TheVariants as kw
-use Rattle.uri_reference.specs.Resolving.{without_fragment}
+use Rattle.text_uri.specs.Resolving.{without_fragment}
 use Rattle.tinyjson_schema_bundle.specs.Bundles as names
 use Rattle.tinyjson_schema_bundle.specs.Bundles.{Marked, is_empty, base_by, base_in, is_resource, marks_of, is_dynamic_name}
 use Rattle.tinyjson_schema_bundle.specs.Scopes as bundle

@@ -8,7 +8,7 @@ use Rattle.std.specs.Option.{option_or}
 use Rattle.std.specs.Prelude.{⊤, unwrap_or, is_none}
 use Rattle.tinyjson.specs.Tree.{Tree, object}
 use Rattle.tinyjson_schema_keywords.specs.declared.keyword.Form.TheVariants as form
-use Rattle.uri_reference.specs.Resolving.{without_fragment}
+use Rattle.text_uri.specs.Resolving.{without_fragment}
 use Rattle.tinyjson_schema_bundle.specs.Bundles.{Marked, begins_pointer, is_empty, base_in, is_resource, marks_of, place_of, is_named}
 use Rattle.tinyjson_schema_bundle.specs.Bundles.{is_dynamic_name}
 use Rattle.tinyjson_schema_bundle.specs.Bundles as names

@@ -10,7 +10,7 @@ use Rattle.std.specs.Prelude.{⊤}
 use Rattle.tinyjson.specs.Index.{nth}
 use Rattle.tinyjson.specs.Tree.{Tree, string, array, object, Items, no_items, item, Members, no_members, member}
 use Rattle.tinyjson_grammar.specs.Soundness.{IsTree, IsSorted}
-use Rattle.uri_reference.specs.Resolving.{fragment_of}
+use Rattle.text_uri.specs.Resolving.{fragment_of}
 use Rattle.tinyjson_schema_keywords.specs.Anchors.{Named, anchors_in, anchors_of, anchors_by, anchors_among, own_anchors, anchored}
 use Rattle.tinyjson_schema_keywords.specs.Anchors.{repeated, is_name, is_own_name, is_plain_name}
 use Rattle.tinyjson_schema_keywords.specs.Forms.{form_at, is_some_item}

@@ -19,7 +19,7 @@ use Rattle.tinyjson_grammar.specs.Soundness.{IsTree, AreMembersAt, IsSorted}
 use Rattle.tinyjson_pointer.proofs.Indices.{decimal_index}
 use Rattle.tinyjson_pointer.specs.Text.{pointer_text, split}
 use Rattle.tinyjson_pointer.specs.Walk.{step, item_of}
-use Rattle.uri_reference.specs.Resolving.{resolved, without_fragment, fragment_of}
+use Rattle.text_uri.specs.Resolving.{resolved, without_fragment, fragment_of}
 use Rattle.tinyjson_schema_keywords.specs.Forms.{form_at}
 use Rattle.tinyjson_schema_keywords.specs.References.{form_in, percent_decoded}
 use Rattle.tinyjson_schema_keywords.specs.declared.keyword.Form.{Form}

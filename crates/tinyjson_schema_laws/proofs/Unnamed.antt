@@ -12,7 +12,7 @@ use Rattle.tinyjson.specs.Tree.{Tree, string, array, object, Items, no_items, it
 use Rattle.tinyjson_number.specs.Numeral.{power_width}
 use Rattle.tinyjson_grammar.specs.Soundness.{IsTree, AreItemsAt, AreMembersAt}
 use Rattle.tinyjson_grammar.specs.Tree.{key_cmp, put_at}
-use Rattle.uri_reference.specs.Resolving.{resolved}
+use Rattle.text_uri.specs.Resolving.{resolved}
 use Rattle.tinyjson_schema_keywords.specs.Anchors.{Named, anchors_in, anchors_among, anchors_by, own_anchors, anchored, is_plain_name}
 use Rattle.tinyjson_schema_keywords.specs.Anchors.{is_name_start, is_name_part, are_name_parts}
 use Rattle.tinyjson_schema_keywords.specs.Applied.{schema_at}

@@ -5,7 +5,7 @@ use Rattle.tinyjson.specs.Soundness.{IsTree}
 use Rattle.tinyjson.specs.Tree.{Tree}
 use Rattle.tinyjson.specs.View.{view}
 use Rattle.tinyjson.specs.declared.value.JsonValue.{JsonValue}
-use Rattle.uri_reference.specs.Resolving.{without_fragment}
+use Rattle.text_uri.specs.Resolving.{without_fragment}
 use Rattle.tinyjson_schema_bundle.specs.Bundles as bundle
 use Rattle.tinyjson_schema_bundle.specs.Bundles.{Marked, marks_of, base_in, is_bundle, with_name, dynamic_place, begins_pointer}
 use Rattle.tinyjson_schema_bundle.specs.Scopes.{Reached, AreCopies, some_contested, bundled, entered, settled}

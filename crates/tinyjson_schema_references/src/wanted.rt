@@ -10,12 +10,12 @@ ghost use Rattle.tinyjson_schema_references.specs.References.{reference_of, uri_
 
 use crate::dialect::uri_of;
 use std::alloc::{AllocError, Global};
+use text_uri::without_fragment;
 use tinyjson::JsonValue;
 use tinyjson_schema_documents::has_definition;
 use tinyjson_schema_drafts::Draft;
 use tinyjson_schema_keywords::{Form, Keyword, SchemaMember, form_by, schema_members};
 use tinyjson_schema_meta::{MetaSchema, has_document, meta_schemas};
-use uri_reference::without_fragment;
 
 /// The drafts, the newest one last.
 const DRAFTS: [Draft; 5] = [

@@ -1,9 +1,9 @@
 -- Why a text is no pattern: where it is refused, and the text there.
 use Rattle.std.proofs.Common.{◌≡◌, ℕ, zero, suc, List, [], ◌∷◌, ◌++◌, None, Result, Ok, Err, refl, sym, ap, ◌∙◌, append_assoc, append-nil}
 use Rattle.std.specs.Prelude.{encode_utf8}
-use Rattle.i_regexp.specs.PatternReading.{ReadsPattern}
-use Rattle.i_regexp.specs.declared.pattern.SchemaPattern.{SchemaPattern}
-use Rattle.i_regexp.specs.declared.pattern_error.SchemaPatternError.{SchemaPatternError}
+use Rattle.text_iregexp.specs.PatternReading.{ReadsPattern}
+use Rattle.text_iregexp.specs.declared.pattern.SchemaPattern.{SchemaPattern}
+use Rattle.text_iregexp.specs.declared.pattern_error.SchemaPatternError.{SchemaPatternError}
 use Rattle.tinyjson_schema_words.specs.Faults.{IsFault, after}
 
 pub not_refused : (cs : List ℕ) (r : Result SchemaPattern SchemaPatternError) → ((e : SchemaPatternError) → r ≡ Err e → ⊥)

@@ -4,11 +4,11 @@ use Rattle.std.specs.List.{starts_with}
 use Rattle.std.specs.Prelude.{◌≡◌, ℕ, zero, suc, Bool, false, ◌&&◌, ◌||◌, ◌==◌, eqb, nat_le, List, [], ◌∷◌, ◌++◌}
 use Rattle.std.specs.Prelude.{Option, Some, None, cond, codes}
 use Rattle.std.specs.Prelude.{encode_utf8, length}
-use Rattle.i_regexp.specs.PatternReading.{IsReading, IsRefused}
-use Rattle.i_regexp.specs.declared.pattern.SchemaPattern.{SchemaPattern}
-use Rattle.i_regexp.specs.declared.pattern_error.SchemaPatternError.{SchemaPatternError}
-use Rattle.i_regexp.specs.declared.pattern_error.SchemaPatternErrorKind.{SchemaPatternErrorKind}
-use Rattle.i_regexp.specs.declared.pattern_error.SchemaPatternErrorKind.TheVariants.{Invalid, Outside, TooDeep, TooLarge, OutOfMemory}
+use Rattle.text_iregexp.specs.PatternReading.{IsReading, IsRefused}
+use Rattle.text_iregexp.specs.declared.pattern.SchemaPattern.{SchemaPattern}
+use Rattle.text_iregexp.specs.declared.pattern_error.SchemaPatternError.{SchemaPatternError}
+use Rattle.text_iregexp.specs.declared.pattern_error.SchemaPatternErrorKind.{SchemaPatternErrorKind}
+use Rattle.text_iregexp.specs.declared.pattern_error.SchemaPatternErrorKind.TheVariants.{Invalid, Outside, TooDeep, TooLarge, OutOfMemory}
 use Rattle.tinyjson.specs.Tree.{string}
 use Rattle.tinyjson_schema_words.specs.Brief.{brief}
 

@@ -7,8 +7,8 @@ ghost use Rattle.tinyjson_schema_words.specs.Faults.{begins, construct, in_group
 ghost use Rattle.tinyjson_schema_words.specs.Faults.{construct_of, is_back_reference};
 
 use crate::brief::brief;
-use i_regexp::{SchemaPattern, SchemaPatternError, SchemaPatternErrorKind};
 use std::alloc::{AllocError, Global};
+use text_iregexp::{SchemaPattern, SchemaPatternError, SchemaPatternErrorKind};
 use tinyjson::JsonValue;
 
 /// What is wrong with a text as a pattern, and where in it; `None` if it is a pattern. The only error is out of

@@ -1,6 +1,6 @@
 use Rattle.std.proofs.Common.{◌∙◌, ap, take, drop, length, subst, sym, ◌≤◌}
 use Rattle.text_formats.specs.Scan.{ends}
-use Rattle.uri_reference.proofs.Callers.{take_before, drop_before, before_at_most}
+use Rattle.text_uri.proofs.Callers.{take_before, drop_before, before_at_most}
 use Rattle.text_formats.proofs.letters.cut.Goals as goal
 
 pub returns : goal.returns

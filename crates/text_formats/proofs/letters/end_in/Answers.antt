@@ -1,6 +1,6 @@
 use Rattle.std.proofs.Common.{◌∙◌, sym}
 use Rattle.text_formats.specs.Scan.{ends}
-use Rattle.uri_reference.proofs.Callers.{wide_turn, wide_here, wide_end}
+use Rattle.text_uri.proofs.Callers.{wide_turn, wide_here, wide_end}
 use Rattle.text_formats.proofs.letters.end_in.Goals as goal
 
 pub loop-i-preserved : goal.loop-i-preserved

@@ -1,5 +1,5 @@
 use Rattle.text_formats.specs.Scan.{ends}
-use Rattle.uri_reference.proofs.Callers.{IsWide}
+use Rattle.text_uri.proofs.Callers.{IsWide}
 use Rattle.text_formats.proofs.letters.end_in.Given as goal
 
 abbrev pub invariant-loop-i : goal.invariant-loop-i

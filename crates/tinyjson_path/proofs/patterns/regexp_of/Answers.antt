@@ -1,5 +1,5 @@
 use Rattle.std.specs.Str.{chars}
-use Rattle.i_regexp.proofs.Callers.{refused_invalid}
+use Rattle.text_iregexp.proofs.Callers.{refused_invalid}
 use Rattle.tinyjson_path.proofs.Judging.{answers_read, answers_nothing}
 use Rattle.tinyjson_path.proofs.patterns.regexp_of.Goals as goal
 

@@ -1,6 +1,6 @@
 use Rattle.std.proofs.Common.{◌≡◌, ◌∷◌, ◌∙◌, ◌&&◌, ◌+◌, false, Some, drop, sym, ap, subst}
 use Rattle.std.specs.Str.{chars}
-use Rattle.i_regexp.specs.PatternDeciding.{is_pattern}
+use Rattle.text_iregexp.specs.PatternDeciding.{is_pattern}
 use Rattle.tinyjson.specs.Tree.{object}
 use Rattle.tinyjson.specs.View.{text, members_listed}
 use Rattle.tinyjson_pointer.specs.Tokens.{tokens_of}

@@ -1,7 +1,7 @@
 use Rattle.std.proofs.Common.{◌≡◌, ◌∙◌, Some, cond, option_map, string_bytes, sym, ap, subst}
 use Rattle.std.specs.Prelude.{IfOk, option_and_then}
 use Rattle.std.specs.Str.{IsUtf8}
-use Rattle.uri_reference.specs.Resolving.{without_fragment}
+use Rattle.text_uri.specs.Resolving.{without_fragment}
 use Rattle.tinyjson_schema_keywords.specs.References.{percent_decoded}
 use Rattle.tinyjson_schema_bundle.specs.Bundles.{place_below, with_name}
 use Rattle.tinyjson_schema_bundle.specs.Scopes.{guided}

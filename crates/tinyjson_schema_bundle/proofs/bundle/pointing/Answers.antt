@@ -4,7 +4,7 @@ use Rattle.std.specs.Str.{chars}
 use Rattle.tinyjson.proofs.Callers.{view_String}
 use Rattle.tinyjson.specs.Tree.{string}
 use Rattle.tinyjson.specs.View.{view}
-use Rattle.uri_reference.specs.Resolving.{resolved}
+use Rattle.text_uri.specs.Resolving.{resolved}
 use Rattle.tinyjson_schema_bundle.specs.Bundles.{destination}
 use Rattle.tinyjson_schema_bundle.specs.Scopes.{guided}
 use Rattle.tinyjson_schema_bundle.proofs.Placing.{reference_pointed}

@@ -1,6 +1,6 @@
 use Rattle.std.proofs.Common.{◌≡◌, ◌∙◌, string_bytes, ap, subst}
 use Rattle.std.specs.Prelude.{IfOk}
-use Rattle.uri_reference.specs.Resolving.{without_fragment}
+use Rattle.text_uri.specs.Resolving.{without_fragment}
 use Rattle.tinyjson_schema_bundle.proofs.Marking.{base_said}
 use Rattle.tinyjson_schema_bundle.proofs.mark.base_by.Goals as goal
 

@@ -1,7 +1,7 @@
 use Rattle.std.proofs.Common.{◌∙◌, Some, sym, ap}
 use Rattle.tinyjson.proofs.Callers.{view_String}
 use Rattle.tinyjson.specs.View.{view}
-use Rattle.uri_reference.specs.Resolving.{resolved}
+use Rattle.text_uri.specs.Resolving.{resolved}
 use Rattle.tinyjson_schema_keywords.proofs.Callers.{text_bytes}
 use Rattle.tinyjson_schema_documents.specs.Documents.{id_by, string_of}
 use Rattle.tinyjson_schema_documents.proofs.document.id_found.Goals as goal

@@ -2,7 +2,7 @@ use Rattle.std.proofs.Common.{◌≡◌, ◌∙◌, chars, ap, ap₂, subst}
 use Rattle.std.specs.Prelude.{IfOk}
 use Rattle.tinyjson.proofs.Callers.{view_IsTree}
 use Rattle.tinyjson.specs.View.{view}
-use Rattle.uri_reference.specs.Resolving.{resolved}
+use Rattle.text_uri.specs.Resolving.{resolved}
 use Rattle.tinyjson_schema_keywords.proofs.Callers.{name_chars}
 use Rattle.tinyjson_schema_keywords.specs.Names.{name}
 use Rattle.tinyjson_schema_keywords.specs.declared.keyword.Keyword.TheVariants as kw

@@ -3,7 +3,7 @@ use Rattle.std.specs.Prelude.{IfOk}
 use Rattle.tinyjson.proofs.Callers.{view_String}
 use Rattle.tinyjson.specs.Tree.{string}
 use Rattle.tinyjson.specs.View.{view}
-use Rattle.uri_reference.specs.Resolving.{without_fragment}
+use Rattle.text_uri.specs.Resolving.{without_fragment}
 use Rattle.tinyjson_schema_drafts.specs.Translated.{has_empty_fragment, id_by, id_in_words}
 use Rattle.tinyjson_schema_drafts.proofs.Wording.{said_of}
 use Rattle.tinyjson_schema_drafts.proofs.translate.id_in_words.Goals as goal

@@ -1,6 +1,6 @@
 use Rattle.std.proofs.Common.{inl, inr}
 use Rattle.std.specs.Str.{chars}
-use Rattle.i_regexp.proofs.Callers.{refused_pattern, outside_pattern}
+use Rattle.text_iregexp.proofs.Callers.{refused_pattern, outside_pattern}
 use Rattle.tinyjson_schema_keywords.proofs.Patterns.{answers_read, is_read, answers_nothing, is_nothing}
 use Rattle.tinyjson_schema_keywords.proofs.pattern.code_of.Goals as goal
 

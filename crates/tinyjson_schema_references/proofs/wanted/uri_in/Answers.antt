@@ -1,5 +1,5 @@
 use Rattle.std.proofs.Common.{◌∙◌, Some, ap, refl}
-use Rattle.uri_reference.specs.Resolving.{without_fragment}
+use Rattle.text_uri.specs.Resolving.{without_fragment}
 use Rattle.tinyjson_schema_references.specs.References.{uri_in}
 use Rattle.tinyjson_schema_references.proofs.Strings.{said}
 use Rattle.tinyjson_schema_references.proofs.wanted.uri_in.Goals as goal

@@ -2,7 +2,7 @@ use Rattle.std.proofs.Common.{[], ◌∷◌, cond, refl, ap}
 use Rattle.std.specs.Str.{chars}
 use Rattle.tinyjson.specs.View.{view}
 use Rattle.tinyjson_view.specs.Views.{tree_of, members_of}
-use Rattle.i_regexp.specs.PatternDeciding.{is_found}
+use Rattle.text_iregexp.specs.PatternDeciding.{is_found}
 use Rattle.tinyjson_schema_keywords.specs.declared.keyword.Keyword.TheVariants as kw
 use Rattle.tinyjson_schema.specs.Every.{token, word, within, found_uses}
 use Rattle.tinyjson_schema.proofs.Adding.{gather_next, gather_end, uses_as}

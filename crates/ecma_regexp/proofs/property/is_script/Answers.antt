@@ -1,6 +1,0 @@
-use Rattle.ecma_regexp.specs.PropertyNames.{scripts}
-use Rattle.ecma_regexp.proofs.property.is_script.Goals as goal
-
-pub returns : goal.returns
-unfolding scripts
-returns c = c.is_word.ensures

@@ -1,9 +1,0 @@
-use Rattle.std.proofs.Common.{◌≡◌, map, length}
-use Rattle.general_category.specs.Names.{value_in, row}
-use Rattle.general_category.proofs.names.value_in.Given as goal
-
-abbrev pub invariant-loop-rest : goal.invariant-loop-rest
-invariant-loop-rest l = value_in (map row l.rest) l.name ≡ value_in (map row l.fn.table) l.name
-
-abbrev pub decreases-loop-rest : goal.decreases-loop-rest
-decreases-loop-rest l = length l.rest

@@ -1,6 +1,0 @@
-use Rattle.std.proofs.Common.{refl}
-use Rattle.i_regexp.proofs.PatternBranches.{at_first}
-use Rattle.i_regexp.proofs.branches.Branches.new.Goals as goal
-
-pub returns : goal.returns
-returns c = at_first _ c.args.fixed refl c.new.ensures.items refl refl c.new-3.ensures.read c.new-3.ensures.size c.new-2.ensures.items

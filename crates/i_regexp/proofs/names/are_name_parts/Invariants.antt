@@ -1,9 +1,0 @@
-use Rattle.std.proofs.Common.{◌≡◌, length}
-use Rattle.i_regexp.specs.Patterns.{are_name_parts}
-use Rattle.i_regexp.proofs.names.are_name_parts.Given as goal
-
-abbrev pub invariant-loop-first : goal.invariant-loop-first
-invariant-loop-first l = are_name_parts l.rest ≡ are_name_parts l.text
-
-abbrev pub decreases-loop-first : goal.decreases-loop-first
-decreases-loop-first l = length l.rest

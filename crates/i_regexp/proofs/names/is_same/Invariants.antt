@@ -1,9 +1,0 @@
-use Rattle.std.proofs.Common.{◌≡◌, length}
-use Rattle.i_regexp.specs.Patterns.{is_same}
-use Rattle.i_regexp.proofs.names.is_same.Given as goal
-
-abbrev pub invariant-loop-one : goal.invariant-loop-one
-invariant-loop-one l = is_same l.left l.right ≡ is_same l.first l.second
-
-abbrev pub decreases-loop-one : goal.decreases-loop-one
-decreases-loop-one l = length l.left

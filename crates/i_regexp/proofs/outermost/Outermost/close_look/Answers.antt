@@ -1,7 +1,0 @@
-use Rattle.std.proofs.Common.{refl}
-use Rattle.i_regexp.proofs.OutermostCases.{look_closed}
-use Rattle.i_regexp.proofs.outermost.Outermost.close_look.Goals as goal
-
-pub returns : goal.returns
-returns c =
-    look_closed c.args.self.now _ c.args.negated _ c.in_ok-root.ensures refl refl c.in_ok-push.ensures.items refl c.new.ensures

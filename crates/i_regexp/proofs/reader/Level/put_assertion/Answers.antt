@@ -1,8 +1,0 @@
-use Rattle.std.proofs.Common.{refl}
-use Rattle.i_regexp.proofs.Levels.{assertion_stands}
-use Rattle.i_regexp.proofs.reader.Level.put_assertion.Goals as goal
-
-pub returns-clause-read : goal.returns-clause-read
-returns-clause-read c = λ l s.
-    assertion_stands c.settle.new.self _ c.assertion.result l c.args.kind (c.in_ok-settle.ensures.read l s) c.assertion.ensures refl
-    c.in_ok-push.ensures.items refl

@@ -1,6 +1,0 @@
-use Rattle.std.proofs.Common.{refl}
-use Rattle.i_regexp.proofs.PatternReading.{refusal_of}
-use Rattle.i_regexp.proofs.refusal.refusal.Goals as goal
-
-pub returns : goal.returns
-returns c = refusal_of c.args.text.now _ c.args.error _ c.requires refl refl c.kind_at.ensures

@@ -1,7 +1,0 @@
-use Rattle.marked_regexp.specs.Forms.{empty, alternation}
-use Rattle.marked_regexp.proofs.Building.{ok_as, means_as, optional_same}
-use Rattle.marked_regexp.proofs.expression.Expression.optional.Goals as goal
-
-pub returns : goal.returns
-returns c = ok_as c.alternation.result _ _ c.alternation.ensures
-    (λ n h f m. means_as n (alternation empty f) _ (h empty f c.empty.ensures m) (optional_same f))

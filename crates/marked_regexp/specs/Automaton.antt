@@ -1,6 +1,0 @@
--- For callers of an automaton.
-use Rattle.marked_regexp.specs.declared.automaton.Automaton.{Automaton}
-use Rattle.marked_regexp.specs.declared.expression.Expression.{Expression}
-
-abbrev pub expression_of : Automaton → Expression
-expression_of a = a.expression

@@ -1,6 +1,0 @@
-use Rattle.std.proofs.Common.{◌≡◌, drop}
-use Rattle.uri_reference.specs.Parts.{are_scheme_letters}
-use Rattle.uri_reference.proofs.parts.are_scheme_letters.Given as goal
-
-abbrev pub invariant-loop-byte : goal.invariant-loop-byte
-invariant-loop-byte l = are_scheme_letters (drop l.byte-index l.bytes) ≡ are_scheme_letters l.bytes
