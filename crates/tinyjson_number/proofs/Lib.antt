@@ -12,4 +12,9 @@ pub mod Laws
 pub mod Layouts
 pub mod Buffers
 pub mod NormalTexts
+pub mod FewZeros
+pub mod Decimals
+pub mod Multiples
+pub mod LimbValues
+pub mod Division
 pub mod Callers

@@ -11,4 +11,6 @@ pub mod Integer
 pub mod Reading
 pub mod Scan
 pub mod Normal
+pub mod Order
+pub mod Multiples
 pub mod private

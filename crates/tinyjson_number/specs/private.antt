@@ -1,3 +1,4 @@
 -- What only private contracts cite.
+pub mod Limbs
 pub mod Power
 pub mod Scan

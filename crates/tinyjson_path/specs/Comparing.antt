@@ -2,7 +2,7 @@
 use Rattle.std.specs.Prelude.{ℕ, pos, Bool, true, false, ◌||◌, not}
 use Rattle.std.specs.Prelude.{List, [], ◌∷◌, length, Option, Some, None, option_and_then, option_map}
 use Rattle.std.specs.Ordering.{is_lt}
-use Rattle.tinyjson_compare.specs.Order.{is_less}
+use Rattle.tinyjson_number.specs.Order.{is_less}
 use Rattle.tinyjson.specs.Equality.{tree_eq}
 use Rattle.tinyjson.specs.Index.{item_count, tree_at_key}
 use Rattle.tinyjson.specs.Number.{integer_decimal}

@@ -5,7 +5,7 @@ use Rattle.std.specs.Ordering.{is_lt}
 use Rattle.std.specs.Str.{chars}
 use Rattle.tinyjson.specs.Tree.{Tree, key_cmp}
 use Rattle.tinyjson.specs.View.{view}
-use Rattle.tinyjson_compare.specs.Order.{is_less}
+use Rattle.tinyjson_number.specs.Order.{is_less}
 use Rattle.tinyjson.specs.Number.{Decimal}
 use Rattle.tinyjson_path.specs.Nodes.{Step, at_key, at_index}
 use Rattle.tinyjson_view.specs.Views.{tree_of}

@@ -13,7 +13,6 @@ use crate::children::one_child;
 use crate::patterns::FindError;
 use std::alloc::{AllocError, Global};
 use tinyjson::{JsonKind, JsonNumber, JsonValue};
-use tinyjson_compare::is_less;
 use tinyjson_document::{JsonView, NumberView};
 use tinyjson_path_query::{ComparisonOperator, Literal, Origin, SingularQuery, SingularSegment};
 use tinyjson_view::ValueView;
@@ -112,7 +111,7 @@ fn is_number_less(left: Option<NumberView<'_>>, right: Option<NumberView<'_>>) -
         (option_map decimal_of right.entry) }
 {
     match (left, right) {
-        (Some(left), Some(right)) => is_less(left.as_number(), right.as_number()),
+        (Some(left), Some(right)) => left.as_number().is_less(right.as_number()),
         _ => false,
     }
 }

@@ -3,7 +3,7 @@ use Rattle.std.proofs.Common.{◌≡◌, ◌≢◌, ℕ, suc, Bool, true, false,
 use Rattle.tinyjson.specs.Kind.{kind_of}
 use Rattle.tinyjson.specs.JsonKind.TheVariants as kind
 use Rattle.tinyjson.specs.Tree.{Tree, boolean, number, string, array, object, Members, no_members, member}
-use Rattle.tinyjson_compare.specs.Distinct.{are_distinct}
+use Rattle.tinyjson_schema_assertions.specs.Distinct.{are_distinct}
 use Rattle.tinyjson_document.specs.Parts as part
 use Rattle.tinyjson_document.specs.Parts.{number_in, string_in, size}
 use Rattle.tinyjson_schema_assertions.specs.Assertions.{is_whole, are_ordered, are_apart, are_multiple, has_pattern, has_format, has_keys}

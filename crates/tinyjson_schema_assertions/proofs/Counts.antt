@@ -11,7 +11,7 @@ use Rattle.tinyjson_number.specs.Decimal.{Decimal, decimal_of, significant, trai
 use Rattle.tinyjson_number.specs.Text.{natural_text}
 use Rattle.tinyjson_number.proofs.Callers.{magnitude_of, magnitude_whole}
 use Rattle.tinyjson.specs.Tree.{Tree, number}
-use Rattle.tinyjson_compare.specs.Order.{units, is_at_most}
+use Rattle.tinyjson_number.specs.Order.{units, is_at_most}
 use Rattle.tinyjson_schema_assertions.specs.Assertions.{count, is_count_at_most, is_count_at_least}
 
 -- ---- numbers times the same

@@ -8,7 +8,7 @@ use Rattle.std.specs.BTreeSet.{BTreeSet}
 use Rattle.std.specs.String.{string_cmp}
 use Rattle.tinyjson.specs.Equality.{tree_eq}
 use Rattle.tinyjson.specs.Text.{compact}
-use Rattle.tinyjson_compare.specs.Distinct.{is_among, are_distinct}
+use Rattle.tinyjson_schema_assertions.specs.Distinct.{is_among, are_distinct}
 use Rattle.tinyjson_schema_keywords.proofs.Callers.{drop_item}
 use Rattle.tinyjson_view.proofs.Callers.{views_compact}
 use Rattle.tinyjson_view.specs.Views.{tree_of, trees_of}

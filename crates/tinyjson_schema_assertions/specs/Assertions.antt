@@ -13,10 +13,10 @@ use Rattle.tinyjson.specs.Index.{tree_at_key, item_count}
 use Rattle.tinyjson.specs.Kind.{kind_of, kind_name}
 use Rattle.tinyjson.specs.Number.{Decimal, integer_decimal}
 use Rattle.tinyjson.specs.Tree.{Tree, boolean, number, string, array, object, Items, no_items, item, Members, no_members, member, find}
-pub use Rattle.tinyjson_compare.specs.Distinct.{is_among}
-use Rattle.tinyjson_compare.specs.Distinct.{are_distinct}
-use Rattle.tinyjson_compare.specs.Multiples.{is_divisor, is_multiple}
-use Rattle.tinyjson_compare.specs.Order.{is_at_most}
+pub use Rattle.tinyjson_schema_assertions.specs.Distinct.{is_among}
+use Rattle.tinyjson_schema_assertions.specs.Distinct.{are_distinct}
+use Rattle.tinyjson_number.specs.Multiples.{is_divisor, is_multiple}
+use Rattle.tinyjson_number.specs.Order.{is_at_most}
 use Rattle.tinyjson_schema_keywords.specs.Names.{name}
 use Rattle.tinyjson_schema_keywords.specs.declared.keyword.Keyword.{Keyword}
 use Rattle.tinyjson_schema_keywords.specs.declared.keyword.Keyword.TheVariants as kw

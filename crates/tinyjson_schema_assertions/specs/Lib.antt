@@ -1,3 +1,4 @@
 pub mod Assertions
+pub mod Distinct
 pub mod Formats
 pub mod Operands

@@ -4,8 +4,8 @@ use Rattle.std.specs.Str.{bytes_eq}
 use Rattle.text_iregexp.specs.PatternDeciding.{is_pattern}
 use Rattle.tinyjson.specs.Access.{is_string}
 use Rattle.tinyjson.specs.Tree.{Tree, number, string, array, object, Items, no_items, item, Members, no_members, member}
-use Rattle.tinyjson_compare.specs.Distinct.{are_distinct}
-use Rattle.tinyjson_compare.specs.Multiples.{is_divisor}
+use Rattle.tinyjson_schema_assertions.specs.Distinct.{are_distinct}
+use Rattle.tinyjson_number.specs.Multiples.{is_divisor}
 use Rattle.tinyjson_schema_keywords.specs.Forms.{is_some_item}
 use Rattle.tinyjson_schema_assertions.specs.Assertions.{is_among}
 
@@ -40,12 +40,9 @@ abbrev pub are_strings : Items → Bool
 are_strings no_items = true
 are_strings (item t ts) = is_string t && are_strings ts
 
--- different strings
-abbrev pub are_keys : Items → Bool
-are_keys ts = are_strings ts && are_distinct ts
-
+-- a list of different strings
 abbrev pub is_key_list : Tree → Bool
-is_key_list (array ts) = are_keys ts
+is_key_list (array ts) = are_strings ts && are_distinct ts
 is_key_list _ = false
 
 abbrev pub have_key_lists : Members → Bool

@@ -22,7 +22,6 @@ use std::alloc::{AllocError, Global};
 use text_formats::Format;
 use tinyjson::{JsonKind, JsonNumber, JsonValue, sorted_members};
 use tinyjson_bytes::are_equal;
-use tinyjson_compare::is_at_most;
 use tinyjson_document::JsonView;
 use tinyjson_schema_keywords::{Keyword, SearchError, Walk};
 use tinyjson_view::ValueView;
@@ -167,7 +166,7 @@ fn are_ordered(number: &ValueView<'_>, other: &ValueView<'_>) -> bool
     let Some(other) = other.number() else {
         return true;
     };
-    is_at_most(number.as_number(), other.as_number())
+    number.as_number().is_at_most(other.as_number())
 }
 
 /// Whether the first number is less than the second; true if one is no number.
@@ -180,7 +179,7 @@ fn are_apart(number: &ValueView<'_>, other: &ValueView<'_>) -> bool
     let Some(other) = other.number() else {
         return true;
     };
-    !is_at_most(other.as_number(), number.as_number())
+    !other.as_number().is_at_most(number.as_number())
 }
 
 /// Whether the string has at most as many characters as the limit; true for other values.

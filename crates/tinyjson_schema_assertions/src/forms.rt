@@ -5,14 +5,14 @@ ghost use Rattle.tinyjson.specs.View.{view, items_view, members_listed};
 ghost use Rattle.tinyjson_schema_assertions.specs.Operands.{is_count, is_type_name};
 ghost use Rattle.tinyjson_schema_assertions.specs.Operands.{are_type_names, are_types};
 ghost use Rattle.tinyjson_schema_assertions.specs.Operands.{is_name_of_type, is_type_list};
-ghost use Rattle.tinyjson_schema_assertions.specs.Operands.{are_strings, are_keys, is_key_list};
+ghost use Rattle.tinyjson_schema_assertions.specs.Operands.{are_strings, is_key_list};
 ghost use Rattle.tinyjson_schema_assertions.specs.Operands.{have_key_lists, is_key_map};
 ghost use Rattle.tinyjson_schema_assertions.specs.Operands.{is_dialect, is_divisor_number};
 
 use crate::assertion::is_among;
+use crate::unique::are_all_different;
 use std::alloc::{AllocError, Global};
 use tinyjson::{JsonValue, sorted_members};
-use tinyjson_compare::{are_distinct, is_divisor};
 use tinyjson_schema_keywords::is_some_item;
 use tinyjson_view::ValueView;
 
@@ -125,24 +125,18 @@ fn is_name_of_type(name: &str) -> bool
     )
 }
 
-/// Whether it is a list of different strings. The only error is out of memory.
+/// Whether it is a list of different strings. The only error is out of memory. The time is nearly linear in
+/// the number of strings.
 pub fn is_key_list(value: &JsonValue, alloc: Global) -> Result<bool, AllocError>
     ensures { IfOk result (λ is. is ≡ is_key_list (view value.now)) }
 {
-    match value {
-        JsonValue::Array(keys) => are_keys(keys.as_slice(), alloc),
-        _ => Ok(false),
-    }
-}
-
-/// Whether the items are different strings. The time is nearly linear in the number of strings.
-fn are_keys(keys: &[JsonValue], alloc: Global) -> Result<bool, AllocError>
-    ensures { IfOk result (λ are. are ≡ are_keys (items_view keys.now)) }
-{
-    if !are_strings(keys) {
+    let JsonValue::Array(keys) = value else {
+        return Ok(false);
+    };
+    if !are_strings(keys.as_slice()) {
         return Ok(false);
     }
-    are_distinct(keys, alloc)
+    are_all_different(&ValueView::InValue(value), alloc)
 }
 
 fn are_strings(values: &[JsonValue]) -> bool
@@ -196,7 +190,7 @@ pub fn is_divisor_number(value: &JsonValue) -> bool
     ensures { result ≡ is_divisor_number (view value.now) }
 {
     match value {
-        JsonValue::Number(number) => is_divisor(number),
+        JsonValue::Number(number) => number.is_divisor(),
         _ => false,
     }
 }

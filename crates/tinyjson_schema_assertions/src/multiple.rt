@@ -5,7 +5,6 @@ ghost use Rattle.tinyjson_view.specs.Views.{tree_of};
 ghost use Rattle.tinyjson_schema_assertions.specs.Assertions.{are_multiple};
 
 use tinyjson::JsonValue;
-use tinyjson_compare::{is_divisor, is_multiple};
 use tinyjson_document::JsonView;
 use tinyjson_schema_keywords::Walk;
 use tinyjson_view::ValueView;
@@ -28,7 +27,7 @@ fn are_divided(number: &ValueView<'_>, divisor: &JsonValue) -> bool
     let Some(number) = number.number() else {
         return true;
     };
-    !is_divisor(divisor) || is_multiple(number.as_number(), divisor)
+    !divisor.is_divisor() || number.as_number().is_multiple(divisor)
 }
 
 /// Takes the steps of a division: none for a divisor of up to 19 digits.

@@ -3,7 +3,7 @@ ghost use Rattle.std.specs.Prelude.{◌≡◌, IfOk, true};
 ghost use Rattle.tinyjson.specs.Tree.{boolean};
 ghost use Rattle.tinyjson.specs.Text.{compact};
 ghost use Rattle.tinyjson.specs.View.{view, text};
-ghost use Rattle.tinyjson_compare.specs.Distinct.{are_distinct};
+ghost use Rattle.tinyjson_schema_assertions.specs.Distinct.{are_distinct};
 ghost use Rattle.tinyjson_view.specs.Views.{tree_of, trees_of};
 ghost use Rattle.tinyjson_schema_assertions.specs.Assertions.{are_unique};
 
@@ -26,7 +26,8 @@ pub fn are_unique(
     }
 }
 
-fn are_all_different(value: &ValueView<'_>, alloc: Global) -> Result<bool, AllocError>
+/// Whether no two items of an array are equal; true for other values.
+pub fn are_all_different(value: &ValueView<'_>, alloc: Global) -> Result<bool, AllocError>
     ensures { IfOk result (λ are. are ≡ are_unique (boolean true) (tree_of value.now)) }
 {
     let items = value.items(alloc)?;

@@ -17,6 +17,7 @@ use Rattle.tinyjson.proofs.Callers as callers
 use Rattle.tinyjson.proofs.Callers.{Entry, begins}
 use Rattle.tinyjson.specs.Access.{JsonMap, number_part, boolean_part, string_part, null_part, array_part, object_part}
 use Rattle.tinyjson_grammar.specs.Grammar.{IsAccepted}
+use Rattle.tinyjson.specs.Equality.{same_tree}
 use Rattle.tinyjson.specs.Index.{item_at, member_at, tree_at, tree_at_key, with_last, with_tree_at, with_tree_at_key}
 use Rattle.tinyjson.specs.Number.{JsonNumber, zero_decimal}
 use Rattle.tinyjson_grammar.specs.Soundness.{IsSorted}
@@ -197,6 +198,15 @@ compact_is_accepted v = (view v, callers.compact_read_back v)
 pub one_compact : (v w : JsonValue) → encode_utf8_all (compact (view v)) ≡ encode_utf8_all (compact (view w))
     → compact (view v) ≡ compact (view w)
 one_compact v w h = sym (callers.chars_compact v) ∙ (ap chars h ∙ callers.chars_compact w)
+
+-- a string that was written from a value has the value's bytes
+pub written_bytes : (s : String Global) (v : JsonValue) → text s ≡ compact (view v) → string_bytes s ≡ encode_utf8_all (compact (view v))
+written_bytes s v h = callers.bytes_compact s v h
+
+-- values with one text are equal
+pub same_if_text : (v w : JsonValue) → bytes_eq (encode_utf8_all (compact (view v))) (encode_utf8_all (compact (view w))) ≡ true
+    → same_tree v w ≡ true
+same_if_text v w h = sym (callers.equal_compact v w) ∙ h
 
 -- three texts, one after the other
 pub three_appended : (old mid late new : Option (List ℕ)) (a b c : List ℕ) → Written old mid a [] → Written mid late b []

@@ -1,5 +1,5 @@
 use Rattle.std.proofs.Common.{◌∙◌, not, option_map, ap, ap₂, sym}
-use Rattle.tinyjson_compare.specs.Order.{is_at_most}
+use Rattle.tinyjson_number.specs.Order.{is_at_most}
 use Rattle.tinyjson_document.specs.Numbers.{decimal_of}
 use Rattle.tinyjson_view.proofs.Callers.{number_is}
 use Rattle.tinyjson_view.specs.Views.{tree_of}

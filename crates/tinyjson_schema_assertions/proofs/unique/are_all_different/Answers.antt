@@ -1,6 +1,6 @@
 use Rattle.std.proofs.Common.{◌≡◌, ◌∙◌, ap, subst}
 use Rattle.std.specs.Prelude.{IfOk}
-use Rattle.tinyjson_compare.specs.Distinct.{are_distinct}
+use Rattle.tinyjson_schema_assertions.specs.Distinct.{are_distinct}
 use Rattle.tinyjson_view.specs.Views.{tree_of, trees_of}
 use Rattle.tinyjson_schema_assertions.proofs.Counted.{unique_items}
 use Rattle.tinyjson_schema_assertions.proofs.unique.are_all_different.Goals as goal

@@ -1,5 +1,5 @@
 use Rattle.std.proofs.Common.{◌≡◌, drop}
-use Rattle.tinyjson_compare.specs.Distinct.{are_distinct}
+use Rattle.tinyjson_schema_assertions.specs.Distinct.{are_distinct}
 use Rattle.tinyjson_view.specs.Views.{trees_of}
 use Rattle.tinyjson_schema_assertions.proofs.SeenTexts.{left_distinct}
 use Rattle.tinyjson_schema_assertions.proofs.unique.are_distinct.Given as goal
