@@ -15,7 +15,7 @@ pub mod run;
 #[cfg(test)]
 mod tests;
 
-use fault::{RunFault, writing_error};
+use fault::RunFault;
 use run::Options;
 use std::env::{self, Env};
 use std::io::{self, ErrorKind, Write};
@@ -91,7 +91,7 @@ fn depth(word: &str) -> Option<usize>
     word.parse().ok()
 }
 
-/// From standard input to standard output, which is flushed once, after success.
+/// From standard input to standard output, which is flushed once, after success. A flush that fails is `Writing`.
 fn normalize(rt: &(impl Input + Print + AllocGlobal), options: Options) -> Result<(), RunFault> {
     let alloc = rt.alloc();
     let (mut input, mut output) = (rt.reader(), io::writer(rt));
@@ -100,5 +100,5 @@ fn normalize(rt: &(impl Input + Print + AllocGlobal), options: Options) -> Resul
         None => run::run(alloc, &mut input, &mut output, indented)?,
         Some(limit) => run::run_limited(alloc, &mut input, &mut output, indented, limit)?,
     }
-    output.flush().map_err(writing_error)
+    output.flush().map_err(|_| RunFault::Writing)
 }
