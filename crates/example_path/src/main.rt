@@ -15,7 +15,7 @@ use error::TextsError;
 use std::alloc::Global;
 use std::io::{self, ErrorKind};
 use tinyjson::JsonValue;
-use tinyjson_path::{FindError, Node, Query, find};
+use tinyjson_path::{FindError, Located, Query, find};
 
 const DOCUMENT: &str =
     r#"{"book": [{"title": "Emma", "price": 8.990}, {"title": "Ulysses", "price": 12}]}"#;
@@ -58,7 +58,7 @@ fn value_texts(alloc: Global, value: &JsonValue, query: &Query) -> Result<Vec<St
 }
 
 /// The compact text of each node's value. The only error is out of memory.
-fn node_texts(alloc: Global, nodes: &[Node]) -> Result<Vec<String>, FindError>
+fn node_texts(alloc: Global, nodes: &[Located]) -> Result<Vec<String>, FindError>
     ensures ok { IfOk result (λ texts. map text texts.items ≡ part_texts (parts_view nodes.now)) }
     ensures err { IfErr result (λ e. e ≡ FindError.OutOfMemory) }
 {

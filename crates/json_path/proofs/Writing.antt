@@ -19,7 +19,7 @@ use Rattle.tinyjson_path.specs.Query.{Query}
 use Rattle.tinyjson_path.specs.Nodes.{Part, Step, Takes, parts_view}
 use Rattle.tinyjson_path.specs.Patterns.{judged}
 use Rattle.tinyjson_path.specs.Queries.{is_some_part, query_parts}
-use Rattle.tinyjson_path.specs.declared.node.Node.{Node}
+use Rattle.tinyjson_path.specs.declared.node.Located.{Located}
 use Rattle.tinyjson_path.specs.declared.patterns.PatternLimit.{PatternLimit}
 use Rattle.json_path.specs.Selected.{Answers, GivesNodes, GivesParts, GivesRest, GivesSelected, GivesText, is_answer, printed}
 use Rattle.json_path.specs.Places.{has_path}
@@ -33,7 +33,7 @@ use Rattle.json_path.specs.declared.selected.Unanswered.TheVariants.{Refused, No
 use Rattle.json_path.specs.declared.selected.Wanted.{Wanted}
 use Rattle.json_path.specs.declared.selected.Wanted.TheVariants.{Selected, Rest}
 
-pub some_parts : (ns : List Node) (n : ℕ) → n ≡ length ns → not (n == 0) ≡ is_some_part (parts_view ns)
+pub some_parts : (ns : List Located) (n : ℕ) → n ≡ length ns → not (n == 0) ≡ is_some_part (parts_view ns)
 some_parts [] n e = ap (λ k. not (k == 0)) e
 some_parts (m ∷ ns) n e =
     let none : (suc (length ns) == 0) ≡ false = grind (arith, nat_tests) in
@@ -41,7 +41,7 @@ some_parts (m ∷ ns) n e =
 
 -- ---- nodes one by one
 
-pub took : (old new : List Part) (o : Option Node) → Takes old new o → old ≡ begun o new
+pub took : (old new : List Part) (o : Option Located) → Takes old new o → old ≡ begun o new
 took old new (Some n) t = t
 took old new None t = t.0
 
@@ -53,10 +53,10 @@ or_false : (b : Bool) → b ≡ (b || false)
 or_false true = refl
 or_false false = refl
 
-pub begun_some : (form : Form) (o : Option Node) (n : Node) (ps : List Part) → o ≡ Some n → true ≡ is_answer form (begun o ps)
+pub begun_some : (form : Form) (o : Option Located) (n : Located) (ps : List Part) → o ≡ Some n → true ≡ is_answer form (begun o ps)
 begun_some form o n ps e = or_true form.or_none ∙ ap (λ q. is_answer form (begun q ps)) (sym e)
 
-pub begun_none : (form : Form) (o : Option Node) (ps : List Part) → o ≡ None → form.or_none ≡ is_answer form (begun o ps)
+pub begun_none : (form : Form) (o : Option Located) (ps : List Part) → o ≡ None → form.or_none ≡ is_answer form (begun o ps)
 begun_none form o ps e = or_false form.or_none ∙ ap (λ q. is_answer form (begun q ps)) (sym e)
 
 -- ---- a string

@@ -5,7 +5,7 @@ use Rattle.tinyjson.specs.Text.{compact, indented}
 use Rattle.tinyjson.specs.Tree.{Tree, string}
 use Rattle.tinyjson_path.specs.Nodes.{Part, part_view}
 use Rattle.tinyjson_path.specs.Paths.{path_text}
-use Rattle.tinyjson_path.specs.declared.node.Node.{Node}
+use Rattle.tinyjson_path.specs.declared.node.Located.{Located}
 use Rattle.json_path.specs.declared.selected.Layout.{Layout}
 use Rattle.json_path.specs.declared.selected.Layout.TheVariants.{Compact, Indented}
 use Rattle.json_path.specs.declared.selected.Shape.{Shape}
@@ -58,6 +58,6 @@ array_line s ps = codes "[" ++ (items_text s true ps ++ (codes "]" ++ line_feed 
 -- ---- for private contracts
 
 -- the part of the first node, if there is one, and those that come behind it
-abbrev pub begun : Option Node → List Part → List Part
+abbrev pub begun : Option Located → List Part → List Part
 begun None ps = []
 begun (Some n) ps = part_view n ∷ ps

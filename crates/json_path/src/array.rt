@@ -14,12 +14,12 @@ use std::alloc::Global;
 use std::io::{self, Write};
 use tinyjson::JsonValue;
 use tinyjson_lines::write_all;
-use tinyjson_path::{Location, Node, Selection, path_text};
+use tinyjson_path::{Located, Location, Selection, path_text};
 
 /// Writes the values of the nodes, or their paths, as a compact array on a line.
 pub fn write_array<W: Write>(
     alloc: Global,
-    nodes: &[Node],
+    nodes: &[Located],
     shape: Shape,
     output: &mut W,
 ) -> io::Result<()>
@@ -33,7 +33,7 @@ pub fn write_array<W: Write>(
 
 fn write_items<W: Write>(
     alloc: Global,
-    nodes: &[Node],
+    nodes: &[Located],
     shape: Shape,
     output: &mut W,
 ) -> io::Result<()>
@@ -51,7 +51,7 @@ fn write_items<W: Write>(
 /// Writes such an array of the first node, if there is one, and of those that come behind it.
 pub fn write_array_begun<'v, W: Write>(
     alloc: Global,
-    first: Option<Node<'v>>,
+    first: Option<Located<'v>>,
     rest: &mut Selection<'v>,
     shape: Shape,
     output: &mut W,
@@ -66,7 +66,7 @@ pub fn write_array_begun<'v, W: Write>(
 
 fn write_items_begun<'v, W: Write>(
     alloc: Global,
-    first: Option<Node<'v>>,
+    first: Option<Located<'v>>,
     rest: &mut Selection<'v>,
     shape: Shape,
     output: &mut W,
@@ -87,7 +87,7 @@ fn write_items_begun<'v, W: Write>(
 /// Writes an item, behind a comma if it is not the first.
 fn write_next<W: Write>(
     alloc: Global,
-    node: &Node,
+    node: &Located,
     is_first: bool,
     shape: Shape,
     output: &mut W,
@@ -102,7 +102,12 @@ fn write_next<W: Write>(
     write_item(alloc, node, shape, output)
 }
 
-fn write_item<W: Write>(alloc: Global, node: &Node, shape: Shape, output: &mut W) -> io::Result<()>
+fn write_item<W: Write>(
+    alloc: Global,
+    node: &Located,
+    shape: Shape,
+    output: &mut W,
+) -> io::Result<()>
     ensures { WritesPrefix (W.contents output.old) (W.contents output.new)
         (encode_utf8_all (item_text shape (part_view node.now))) result }
 {

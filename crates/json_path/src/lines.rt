@@ -13,12 +13,12 @@ use std::alloc::Global;
 use std::io::{self, ErrorKind, Write};
 use tinyjson_document::JsonView;
 use tinyjson_lines::write_all;
-use tinyjson_path::{FindError, Location, Node, Selection, ValueView, path_text};
+use tinyjson_path::{FindError, Located, Location, Selection, ValueView, path_text};
 
 /// Writes a line for each node.
 pub fn write_lines<W: Write>(
     alloc: Global,
-    nodes: &[Node],
+    nodes: &[Located],
     shape: Shape,
     output: &mut W,
 ) -> io::Result<()>
@@ -34,7 +34,7 @@ pub fn write_lines<W: Write>(
 /// Writes a line for the first node, if there is one, and for each that comes behind it.
 pub fn write_lines_begun<'v, W: Write>(
     alloc: Global,
-    first: Option<Node<'v>>,
+    first: Option<Located<'v>>,
     rest: &mut Selection<'v>,
     shape: Shape,
     output: &mut W,
@@ -51,7 +51,7 @@ pub fn write_lines_begun<'v, W: Write>(
 }
 
 /// The next node. An error of a pattern is one of the output, which ends within the answer.
-pub fn next_of<'v>(selection: &mut Selection<'v>) -> io::Result<Option<Node<'v>>>
+pub fn next_of<'v>(selection: &mut Selection<'v>) -> io::Result<Option<Located<'v>>>
     ensures { IfOk result (Takes (left selection.old) (left selection.new)) }
 {
     match selection.next() {
@@ -61,7 +61,12 @@ pub fn next_of<'v>(selection: &mut Selection<'v>) -> io::Result<Option<Node<'v>>
     }
 }
 
-fn write_line<W: Write>(alloc: Global, node: &Node, shape: Shape, output: &mut W) -> io::Result<()>
+fn write_line<W: Write>(
+    alloc: Global,
+    node: &Located,
+    shape: Shape,
+    output: &mut W,
+) -> io::Result<()>
     ensures { WritesPrefix (W.contents output.old) (W.contents output.new)
         (line_of shape (part_view node.now)) result }
 {
@@ -69,7 +74,12 @@ fn write_line<W: Write>(alloc: Global, node: &Node, shape: Shape, output: &mut W
     write_all(output, b"\n")
 }
 
-fn write_node<W: Write>(alloc: Global, node: &Node, shape: Shape, output: &mut W) -> io::Result<()>
+fn write_node<W: Write>(
+    alloc: Global,
+    node: &Located,
+    shape: Shape,
+    output: &mut W,
+) -> io::Result<()>
     ensures { WritesPrefix (W.contents output.old) (W.contents output.new)
         (encode_utf8_all (shape_text shape (part_view node.now))) result }
 {

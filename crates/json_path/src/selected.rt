@@ -25,7 +25,7 @@ use tinyjson::JsonParseError;
 use tinyjson_buffers::Buffers;
 use tinyjson_document::Document;
 use tinyjson_lines::write_all;
-use tinyjson_path::{FindError, Node, PatternLimit, Query, Selection, find_in, has_pattern};
+use tinyjson_path::{FindError, Located, PatternLimit, Query, Selection, find_in, has_pattern};
 
 /// The form of a value's text.
 #[derive(Clone, Copy)]
@@ -246,7 +246,7 @@ fn write_collected<W: Write>(
 
 fn write_selected<W: Write>(
     alloc: Global,
-    nodes: &[Node],
+    nodes: &[Located],
     form: Form,
     output: &mut W,
 ) -> io::Result<Option<Unanswered>>
@@ -260,7 +260,7 @@ fn write_selected<W: Write>(
     Ok(None)
 }
 
-fn is_answer(nodes: &[Node], form: Form) -> bool
+fn is_answer(nodes: &[Located], form: Form) -> bool
     ensures { result ≡ is_answer form (parts_view nodes.now) }
 {
     if form.or_none {
@@ -271,7 +271,7 @@ fn is_answer(nodes: &[Node], form: Form) -> bool
 
 fn write_nodes<W: Write>(
     alloc: Global,
-    nodes: &[Node],
+    nodes: &[Located],
     form: Form,
     output: &mut W,
 ) -> io::Result<()>
@@ -288,7 +288,7 @@ fn write_nodes<W: Write>(
 /// Writes the first node, if there is one, and those that come behind it.
 fn write_begun<'v, W: Write>(
     alloc: Global,
-    first: Option<Node<'v>>,
+    first: Option<Located<'v>>,
     rest: &mut Selection<'v>,
     form: Form,
     output: &mut W,
@@ -303,7 +303,7 @@ fn write_begun<'v, W: Write>(
     Ok(None)
 }
 
-fn is_begun_answer(first: &Option<Node>, form: Form) -> bool
+fn is_begun_answer(first: &Option<Located>, form: Form) -> bool
     ensures { (ps : List Part) → result ≡ is_answer form (begun first.now ps) }
 {
     match first {
@@ -314,7 +314,7 @@ fn is_begun_answer(first: &Option<Node>, form: Form) -> bool
 
 fn write_nodes_begun<'v, W: Write>(
     alloc: Global,
-    first: Option<Node<'v>>,
+    first: Option<Located<'v>>,
     rest: &mut Selection<'v>,
     form: Form,
     output: &mut W,

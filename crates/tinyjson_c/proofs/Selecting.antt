@@ -16,10 +16,10 @@ use Rattle.tinyjson_path.specs.Nodes.{Part, part_view, parts_view}
 use Rattle.tinyjson_path.specs.Patterns.{judged}
 use Rattle.tinyjson_path.specs.Queries.{query_parts}
 use Rattle.tinyjson_path.specs.Query.{Query}
-use Rattle.tinyjson_path.specs.declared.node.Node.{Node}
+use Rattle.tinyjson_path.specs.declared.node.Located.{Located}
 
 -- one line more
-pub one_more_node : (paths : Bool) (n : Node) (rest later : List Node) (whole old new : List ℕ) → rest ≡ n ∷ later
+pub one_more_node : (paths : Bool) (n : Located) (rest later : List Located) (whole old new : List ℕ) → rest ≡ n ∷ later
     → whole ≡ old ++ part_lines paths (parts_view rest) → new ≡ old ++ part_line paths (part_view n)
     → whole ≡ new ++ part_lines paths (parts_view later)
 one_more_node paths n rest later whole old new split i w =

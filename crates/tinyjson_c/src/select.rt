@@ -15,7 +15,9 @@ use crate::value::read;
 use std::alloc::{AllocError, Global};
 use std::str;
 use tinyjson::JsonValue;
-use tinyjson_path::{FindError, Location, Node, ParseErrorKind, Query, ValueView, find, path_text};
+use tinyjson_path::{
+    FindError, Located, Location, ParseErrorKind, Query, ValueView, find, path_text,
+};
 
 /// Why nothing is selected.
 #[derive(Clone, Copy)]
@@ -133,7 +135,7 @@ fn push_found(
 /// Appends a line for each node.
 fn push_lines(
     alloc: Global,
-    nodes: &[Node],
+    nodes: &[Located],
     paths: bool,
     written: &mut Vec<u8>,
 ) -> Result<(), AllocError>
@@ -149,7 +151,7 @@ fn push_lines(
 /// Appends the normal form of a node's value, or its path, and a line feed.
 fn push_line(
     alloc: Global,
-    node: &Node,
+    node: &Located,
     paths: bool,
     written: &mut Vec<u8>,
 ) -> Result<(), AllocError>

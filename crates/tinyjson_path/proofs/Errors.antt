@@ -11,7 +11,7 @@ use Rattle.tinyjson_view.specs.Views.{tree_of}
 use Rattle.tinyjson_path.specs.Queries.{found_by, filter_parts, comparable_value, is_some_part}
 use Rattle.tinyjson_path.specs.Strings.{Texts, joined, strings_in, strings_at, strings_of, comparable_strings, IsFrom, IsFromAny}
 use Rattle.tinyjson_path.specs.declared.answers.Found.{Found}
-use Rattle.tinyjson_path.specs.declared.node.Node.{Node}
+use Rattle.tinyjson_path.specs.declared.node.Located.{Located}
 use Rattle.tinyjson_view.specs.declared.view.ValueView.{ValueView}
 use Rattle.tinyjson_path.specs.declared.patterns.FindError.{FindError}
 use Rattle.tinyjson_path.proofs.Stated.{comparable_keeps}
@@ -47,12 +47,12 @@ is_one f xs ys i x whole here root e s l g =
 -- ---- of what is looked at
 
 -- one of the nodes
-pub node_in : (ns : List Node) (i : ℕ) (n : Node) → i < length ns → n ≡ get_or ns i n
+pub node_in : (ns : List Located) (i : ℕ) (n : Located) → i < length ns → n ≡ get_or ns i n
     → Within (strings_in (part_view n).tree) (strings_of (parts_view ns))
 node_in ns i n l e = within_each (λ (p : Part). strings_in p.tree) part_view ns i n l e
 
 -- one of the nodes of parts that are within others
-pub node_within : (ns ms : List Node) (ps : List Part) (i : ℕ) (n : Node) (zs : Texts) → ns ≡ ms → parts_view ms ≡ ps
+pub node_within : (ns ms : List Located) (ps : List Part) (i : ℕ) (n : Located) (zs : Texts) → ns ≡ ms → parts_view ms ≡ ps
     → AreWithin zs ps → i < length ns → n ≡ get_or ns i n → Within (strings_in (part_view n).tree) zs
 node_within ns ms ps i n zs s e h l g =
     within_trans (strings_in (part_view n).tree) (strings_of (parts_view ns)) zs (node_in ns i n l g)

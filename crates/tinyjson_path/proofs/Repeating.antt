@@ -11,7 +11,7 @@ use Rattle.tinyjson_path.specs.Nodes.{Part, part_view, parts_view}
 use Rattle.tinyjson_path.specs.Selecting.{from_each}
 use Rattle.tinyjson_path.specs.Waiting.{Wait, wait_view, waits_view, waits_at, rest_of, waits_left}
 use Rattle.tinyjson_path.specs.Waiting.{IsChild, AreChildren, HasTwin, IsAmong, AreMarked, Puts}
-use Rattle.tinyjson_path.specs.declared.node.Node.{Node}
+use Rattle.tinyjson_path.specs.declared.node.Located.{Located}
 use Rattle.tinyjson_path.specs.declared.waiting.Waiting.{Waiting}
 use Rattle.tinyjson_path.proofs.Chosen.{are_first, are_last, same_child}
 use Rattle.tinyjson_path.proofs.Parts.{each_append}
@@ -36,11 +36,11 @@ marked_all : (put : List Waiting) → AreMarkedUnder put [] → AreMarked put
 marked_all [] h = tt
 marked_all (w ∷ ws) h = (λ e. subst (IsAmong (wait_view w)) (append-nil (waits_view ws)) (h.0 e), marked_all ws h.1)
 
-among_nodes : (ns : List Node) (j : ℕ) (m : Node) → j < length ns → m ≡ get_or ns j m → ns ≡ take j ns ++ m ∷ drop (j + 1) ns
+among_nodes : (ns : List Located) (j : ℕ) (m : Located) → j < length ns → m ≡ get_or ns j m → ns ≡ take j ns ++ m ∷ drop (j + 1) ns
 among_nodes ns j m l at =
     sym (take-append-drop j ns) ∙ ap (λ z. take j ns ++ z) (drop_more ns j m l ∙ ap (λ z. z ∷ drop (j + 1) ns) (sym at))
 
-among_reversed : (i : ℕ) (front rest : List Node) (m : Node)
+among_reversed : (i : ℕ) (front rest : List Located) (m : Located)
     → IsAmong (i, part_view m) (reverse (waits_at i (parts_view (front ++ m ∷ rest))))
 among_reversed i front rest m =
     let fs : List Wait = waits_at i (parts_view front) in
@@ -54,7 +54,7 @@ among_reversed i front rest m =
           ∙ (ap (λ z. z ++ reverse fs) (reverse-append (x ∷ []) rs) ∙ append_assoc (reverse rs) (x ∷ []) (reverse fs)))),
     )
 
-twin_among : (p : Part) (ns : List Node) (n : Node) (i : ℕ) → AreChildren p (parts_view ns) → IsChild p (part_view n) → HasTwin n ns
+twin_among : (p : Part) (ns : List Located) (n : Located) (i : ℕ) → AreChildren p (parts_view ns) → IsChild p (part_view n) → HasTwin n ns
     → IsAmong (i, part_view n) (reverse (waits_at i (parts_view ns)))
 twin_among p ns n i all child (j, m, l, at, alike) =
     let split : ns ≡ take j ns ++ m ∷ drop (j + 1) ns = among_nodes ns j m l at in
@@ -68,16 +68,16 @@ twin_among p ns n i all child (j, m, l, at, alike) =
     (among_reversed i (take j ns) (drop (j + 1) ns) m))
 
 -- of the nodes that are left to put there, and what was put there
-abbrev pub Marks : Part → List Waiting → List Waiting → ℕ → List Node → Type 0
+abbrev pub Marks : Part → List Waiting → List Waiting → ℕ → List Located → Type 0
 Marks p start now i nodes =
     AreChildren p (parts_view nodes)
     × ((put : List Waiting) × (now ≡ start ++ put) × AreMarkedUnder put (reverse (waits_at i (parts_view nodes))))
 
-pub marks_first : (p : Part) (start : List Waiting) (i : ℕ) (nodes : List Node) → AreChildren p (parts_view nodes)
+pub marks_first : (p : Part) (start : List Waiting) (i : ℕ) (nodes : List Located) → AreChildren p (parts_view nodes)
     → Marks p start start i nodes
 marks_first p start i nodes h = (h, ([], sym (append-nil start), tt))
 
-pub marks_more : (p : Part) (nodes front : List Node) (n : Node) (start old new : List Waiting) (i : ℕ) (b : Bool)
+pub marks_more : (p : Part) (nodes front : List Located) (n : Located) (start old new : List Waiting) (i : ℕ) (b : Bool)
     → nodes ≡ front ++ n ∷ [] → new ≡ old ++ record { node = n; segment = i; repeats = b } ∷ [] → (b ≡ true → HasTwin n front)
     → Marks p start old i nodes → Marks p start new i front
 marks_more p nodes front n start old new i b e m twin (all, (put, is, marked)) =
@@ -99,7 +99,7 @@ marks_more p nodes front n start old new i b e m twin (all, (put, is, marked)) =
       ),
     )
 
-pub marks_last : (p : Part) (start now : List Waiting) (i : ℕ) (nodes : List Node) → nodes ≡ [] → Marks p start now i nodes
+pub marks_last : (p : Part) (start now : List Waiting) (i : ℕ) (nodes : List Located) → nodes ≡ [] → Marks p start now i nodes
     → Puts start now
 marks_last p start now i nodes e (all, (put, is, marked)) =
     (put, is, marked_all put (subst (λ z. AreMarkedUnder put (reverse (waits_at i (parts_view z)))) e marked))

@@ -10,7 +10,7 @@ use Rattle.tinyjson_path.specs.Selecting.{from_each}
 use Rattle.tinyjson_path.specs.Strings.{Texts, strings_in}
 use Rattle.tinyjson_path.specs.Waiting.{Wait, wait_view, waits_view, rest_of, waits_at, waits_left, waits_parts, waits_strings, wants}
 use Rattle.tinyjson_path.specs.declared.children.Wanted.TheVariants.{Containers}
-use Rattle.tinyjson_path.specs.declared.node.Node.{Node}
+use Rattle.tinyjson_path.specs.declared.node.Located.{Located}
 use Rattle.tinyjson_path.specs.declared.waiting.Waiting.{Waiting}
 use Rattle.tinyjson_view.proofs.Callers.{drop_at}
 use Rattle.tinyjson_path.proofs.Parts.{each_append, each_of_each, visited_of, visited_is}
@@ -29,7 +29,7 @@ pub waits_popped : (old mid : List Waiting) (w : Waiting) → old ≡ mid ++ w �
 waits_popped old mid w e = ap waits_view e ∙ map-append wait_view mid (w ∷ [])
 
 -- a node that is taken off the end of a list, and put behind those that wait
-pub put_behind : (nodes front : List Node) (n : Node) (old new : List Waiting) (i : ℕ) (b : Bool) (goal : List Wait)
+pub put_behind : (nodes front : List Located) (n : Located) (old new : List Waiting) (i : ℕ) (b : Bool) (goal : List Wait)
     → nodes ≡ front ++ n ∷ [] → new ≡ old ++ record { node = n; segment = i; repeats = b } ∷ []
     → waits_view old ++ reverse (waits_at i (parts_view nodes)) ≡ goal
     → waits_view new ++ reverse (waits_at i (parts_view front)) ≡ goal
@@ -266,12 +266,12 @@ pub all_came : (ps old goal : List Part) → old ≡ [] → ps ++ old ≡ goal �
 all_came ps old goal e h = sym (append-nil ps) ∙ (ap (λ z. ps ++ z) (sym e) ∙ h)
 
 -- of a root that is the same
-pub next_at : (ss : List Segment) (ws vs : List Wait) (o : Option Node) {r s : ValueView} → r ≡ s
+pub next_at : (ss : List Segment) (ws vs : List Wait) (o : Option Located) {r s : ValueView} → r ≡ s
     → Takes (waits_left ss (tree_of r) ws) (waits_left ss (tree_of r) vs) o
     → Takes (waits_left ss (tree_of s) ws) (waits_left ss (tree_of s) vs) o
 next_at ss ws vs o e t = subst (λ x. Takes (waits_left ss (tree_of x) ws) (waits_left ss (tree_of x) vs) o) e t
 
-pub is_next : (old new : List Part) (o : Option Node) → Takes old new o → is_some o ≡ is_some_part old
+pub is_next : (old new : List Part) (o : Option Located) → Takes old new o → is_some o ≡ is_some_part old
 is_next old new (Some n) t = ap is_some_part (sym t)
 is_next old new None t = ap is_some_part (sym t.0)
 

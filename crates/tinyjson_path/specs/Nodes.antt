@@ -3,7 +3,7 @@ use Rattle.std.specs.Prelude.{◌≡◌, ℕ, ◌+◌, List, [], ◌∷◌, ◌+
 use Rattle.tinyjson.specs.Tree.{Tree, null, boolean, number, string, array, object, Items, no_items, item, Members, no_members, member}
 use Rattle.std.specs.Str.{chars}
 use Rattle.tinyjson_path.specs.declared.node.Location.{Location, fold-Location, Location-F}
-use Rattle.tinyjson_path.specs.declared.node.Node.{Node}
+use Rattle.tinyjson_path.specs.declared.node.Located.{Located}
 use Rattle.tinyjson_view.specs.Views.{tree_of}
 
 -- a step to a member or to an item
@@ -64,16 +64,16 @@ path_step (Location-F.Item up i) = up.value ++ at_index i ∷ []
 abbrev pub path_view : Location → List Step
 path_view = fold-Location (List Step) path_step
 
-abbrev pub path_of : Node → List Step
+abbrev pub path_of : Located → List Step
 path_of n = path_view n.location.value
 
-abbrev pub part_view : Node → Part
+abbrev pub part_view : Located → Part
 part_view n = record { path = path_of n; tree = tree_of n.value }
 
-abbrev pub parts_view : List Node → List Part
+abbrev pub parts_view : List Located → List Part
 parts_view ns = map part_view ns
 
 -- Of the parts that were to come the first is the node, and the rest is still to come; or there was none.
-abbrev pub Takes : List Part → List Part → Option Node → Type 0
+abbrev pub Takes : List Part → List Part → Option Located → Type 0
 Takes old new (Some n) = old ≡ part_view n ∷ new
 Takes old new None = (old ≡ []) × (new ≡ [])

@@ -8,7 +8,7 @@ use Rattle.tinyjson_path.specs.Selecting.{from_each}
 use Rattle.tinyjson_path.specs.Strings.{Texts, strings_of}
 use Rattle.tinyjson_path.specs.declared.children.Wanted.{Wanted}
 use Rattle.tinyjson_path.specs.declared.children.Wanted.TheVariants.{All, Containers}
-use Rattle.tinyjson_path.specs.declared.node.Node.{Node}
+use Rattle.tinyjson_path.specs.declared.node.Located.{Located}
 use Rattle.tinyjson_path.specs.declared.waiting.Waiting.{Waiting}
 use Rattle.tinyjson_path_query.specs.declared.query.Segment.{Segment}
 
@@ -69,8 +69,8 @@ abbrev pub EndAlike : List Step → List Step → Type 0
 EndAlike xs ys = (s : Step) × (up : List Step) × (over : List Step) × (xs ≡ up ++ s ∷ []) × (ys ≡ over ++ s ∷ [])
 
 -- the last step of the node is that of one of the nodes
-abbrev pub HasTwin : Node → List Node → Type 0
-HasTwin n ns = (i : ℕ) × (m : Node) × (i < length ns) × (m ≡ get_or ns i m) × EndAlike (path_of n) (path_of m)
+abbrev pub HasTwin : Located → List Located → Type 0
+HasTwin n ns = (i : ℕ) × (m : Located) × (i < length ns) × (m ≡ get_or ns i m) × EndAlike (path_of n) (path_of m)
 
 abbrev pub IsAmong : Wait → List Wait → Type 0
 IsAmong w ws = (front : List Wait) × (rest : List Wait) × (ws ≡ front ++ w ∷ rest)

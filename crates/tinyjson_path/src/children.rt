@@ -16,7 +16,7 @@ ghost use Rattle.tinyjson_path.specs.Slices.{place_of, is_up, is_down};
 ghost use Rattle.tinyjson_path.specs.Waiting.{wants};
 ghost use Rattle.tinyjson_path.specs.declared.children.Wanted.TheVariants.{Containers};
 
-use crate::node::Node;
+use crate::node::Located;
 use crate::slice::{Bounds, Steps, bound, bound_after, is_down, is_up, place, steps_of};
 use std::alloc::{AllocError, Global};
 use tinyjson::{JsonKind, JsonValue, sorted_members};
@@ -42,7 +42,10 @@ fn wants(wanted: Wanted, value: &ValueView<'_>) -> bool
 }
 
 /// The children of the node: the items in order, or the members in the order of their keys' bytes.
-pub(crate) fn children<'v>(alloc: Global, node: &Node<'v>) -> Result<Vec<Node<'v>>, AllocError>
+pub(crate) fn children<'v>(
+    alloc: Global,
+    node: &Located<'v>,
+) -> Result<Vec<Located<'v>>, AllocError>
     ensures { IfOk result (λ v. parts_view v.items
         ≡ children (path_of node.now) (tree_of node.now.value)) }
 {
@@ -52,7 +55,10 @@ pub(crate) fn children<'v>(alloc: Global, node: &Node<'v>) -> Result<Vec<Node<'v
 }
 
 /// The children that may have children.
-pub(crate) fn containers<'v>(alloc: Global, node: &Node<'v>) -> Result<Vec<Node<'v>>, AllocError>
+pub(crate) fn containers<'v>(
+    alloc: Global,
+    node: &Located<'v>,
+) -> Result<Vec<Located<'v>>, AllocError>
     ensures { IfOk result (λ v. parts_view v.items
         ≡ kept (wants Containers) (children (path_of node.now) (tree_of node.now.value))) }
 {
@@ -63,8 +69,8 @@ pub(crate) fn containers<'v>(alloc: Global, node: &Node<'v>) -> Result<Vec<Node<
 
 pub(crate) fn push_children<'v>(
     alloc: Global,
-    node: &Node<'v>,
-    nodes: &mut Vec<Node<'v>>,
+    node: &Located<'v>,
+    nodes: &mut Vec<Located<'v>>,
 ) -> Result<(), AllocError>
     ensures { OnOk result (parts_view nodes.new.items ≡ parts_view nodes.old.items
         ++ children (path_of node.now) (tree_of node.now.value)) }
@@ -74,9 +80,9 @@ pub(crate) fn push_children<'v>(
 
 fn push_wanted<'v>(
     alloc: Global,
-    node: &Node<'v>,
+    node: &Located<'v>,
     wanted: Wanted,
-    nodes: &mut Vec<Node<'v>>,
+    nodes: &mut Vec<Located<'v>>,
 ) -> Result<(), AllocError>
     ensures { OnOk result (parts_view nodes.new.items ≡ parts_view nodes.old.items
         ++ kept (wants wanted) (children (path_of node.now) (tree_of node.now.value))) }
@@ -90,9 +96,9 @@ fn push_wanted<'v>(
 
 fn push_members<'v>(
     alloc: Global,
-    node: &Node<'v>,
+    node: &Located<'v>,
     wanted: Wanted,
-    nodes: &mut Vec<Node<'v>>,
+    nodes: &mut Vec<Located<'v>>,
 ) -> Result<(), AllocError>
     ensures { OnOk result (parts_view nodes.new.items ≡ parts_view nodes.old.items
         ++ kept (wants wanted)
@@ -111,10 +117,10 @@ fn push_members<'v>(
 /// The members of a document.
 fn push_ordered<'v>(
     alloc: Global,
-    node: &Node<'v>,
+    node: &Located<'v>,
     members: Members<'v>,
     wanted: Wanted,
-    nodes: &mut Vec<Node<'v>>,
+    nodes: &mut Vec<Located<'v>>,
 ) -> Result<(), AllocError>
     ensures { OnOk result (parts_view nodes.new.items ≡ parts_view nodes.old.items
         ++ kept (wants wanted) (members_at (path_of node.now) (members_left members.entry))) }
@@ -135,10 +141,10 @@ fn push_ordered<'v>(
 /// The members of a `JsonValue`.
 fn push_sorted<'v>(
     alloc: Global,
-    node: &Node<'v>,
+    node: &Located<'v>,
     members: &[(&'v String, &'v JsonValue)],
     wanted: Wanted,
-    nodes: &mut Vec<Node<'v>>,
+    nodes: &mut Vec<Located<'v>>,
 ) -> Result<(), AllocError>
     ensures { OnOk result (parts_view nodes.new.items ≡ parts_view nodes.old.items
         ++ kept (wants wanted) (members_at (path_of node.now) (members_listed members.now))) }
@@ -159,11 +165,11 @@ fn push_sorted<'v>(
 /// Appends a member of the node, if it is wanted.
 fn push_member_if<'v>(
     alloc: Global,
-    node: &Node<'v>,
+    node: &Located<'v>,
     name: &'v str,
     value: ValueView<'v>,
     wanted: Wanted,
-    nodes: &mut Vec<Node<'v>>,
+    nodes: &mut Vec<Located<'v>>,
 ) -> Result<(), AllocError>
     ensures { OnOk result (parts_view nodes.new.items ≡ parts_view nodes.old.items
         ++ kept (wants wanted) (one_below (path_of node.now) (at_key (chars name.now))
@@ -178,10 +184,10 @@ fn push_member_if<'v>(
 /// Appends a member of the node.
 fn push_member<'v>(
     alloc: Global,
-    node: &Node<'v>,
+    node: &Located<'v>,
     name: &'v str,
     value: ValueView<'v>,
-    nodes: &mut Vec<Node<'v>>,
+    nodes: &mut Vec<Located<'v>>,
 ) -> Result<(), AllocError>
     ensures { OnOk result (parts_view nodes.new.items ≡ parts_view nodes.old.items
         ++ one_below (path_of node.now) (at_key (chars name.now)) (Some (tree_of value.entry))) }
@@ -191,9 +197,9 @@ fn push_member<'v>(
 
 fn push_items<'v>(
     alloc: Global,
-    node: &Node<'v>,
+    node: &Located<'v>,
     wanted: Wanted,
-    nodes: &mut Vec<Node<'v>>,
+    nodes: &mut Vec<Located<'v>>,
 ) -> Result<(), AllocError>
     ensures { OnOk result (parts_view nodes.new.items ≡ parts_view nodes.old.items
         ++ kept (wants wanted)
@@ -208,10 +214,10 @@ fn push_items<'v>(
 /// Appends the item at the index, if there is one and it is wanted.
 fn push_item_if<'v>(
     alloc: Global,
-    node: &Node<'v>,
+    node: &Located<'v>,
     index: usize,
     wanted: Wanted,
-    nodes: &mut Vec<Node<'v>>,
+    nodes: &mut Vec<Located<'v>>,
 ) -> Result<(), AllocError>
     ensures { OnOk result (parts_view nodes.new.items ≡ parts_view nodes.old.items
         ++ kept (wants wanted)
@@ -229,9 +235,9 @@ fn push_item_if<'v>(
 /// Appends the item at the index, if there is one.
 fn push_item<'v>(
     alloc: Global,
-    node: &Node<'v>,
+    node: &Located<'v>,
     index: usize,
-    nodes: &mut Vec<Node<'v>>,
+    nodes: &mut Vec<Located<'v>>,
 ) -> Result<(), AllocError>
     ensures { OnOk result (parts_view nodes.new.items ≡ parts_view nodes.old.items
         ++ one_below (path_of node.now) (at_index index) (tree_at (tree_of node.now.value) index)) }
@@ -245,9 +251,9 @@ fn push_item<'v>(
 /// The member that the name selects (RFC 9535, 2.3.1), if there is one.
 pub(crate) fn push_named<'v>(
     alloc: Global,
-    node: &Node<'v>,
+    node: &Located<'v>,
     name: &'v str,
-    nodes: &mut Vec<Node<'v>>,
+    nodes: &mut Vec<Located<'v>>,
 ) -> Result<(), AllocError>
     ensures { OnOk result (parts_view nodes.new.items ≡ parts_view nodes.old.items
         ++ by_name (path_of node.now) (chars name.now) (tree_of node.now.value)) }
@@ -261,9 +267,9 @@ pub(crate) fn push_named<'v>(
 /// The item that the index selects (RFC 9535, 2.3.3), if there is one.
 pub(crate) fn push_indexed<'v>(
     alloc: Global,
-    node: &Node<'v>,
+    node: &Located<'v>,
     index: i64,
-    nodes: &mut Vec<Node<'v>>,
+    nodes: &mut Vec<Located<'v>>,
 ) -> Result<(), AllocError>
     ensures { OnOk result (parts_view nodes.new.items ≡ parts_view nodes.old.items
         ++ by_index (path_of node.now) index (tree_of node.now.value)) }
@@ -310,11 +316,11 @@ fn child_at<'v>(value: ValueView<'v>, index: i64) -> Option<ValueView<'v>>
 /// The items that the slice selects (RFC 9535, 2.3.4).
 pub(crate) fn push_slice<'v>(
     alloc: Global,
-    node: &Node<'v>,
+    node: &Located<'v>,
     start: Option<i64>,
     end: Option<i64>,
     step: Option<i64>,
-    nodes: &mut Vec<Node<'v>>,
+    nodes: &mut Vec<Located<'v>>,
 ) -> Result<(), AllocError>
     ensures { OnOk result (parts_view nodes.new.items ≡ parts_view nodes.old.items
         ++ by_slice (path_of node.now) start end step (tree_of node.now.value)) }
@@ -337,9 +343,9 @@ pub(crate) fn push_slice<'v>(
 /// The items between the bounds, from the first on.
 fn push_up<'v>(
     alloc: Global,
-    node: &Node<'v>,
+    node: &Located<'v>,
     bounds: Bounds,
-    nodes: &mut Vec<Node<'v>>,
+    nodes: &mut Vec<Located<'v>>,
 ) -> Result<(), AllocError>
     ensures { OnOk result (parts_view nodes.new.items ≡ parts_view nodes.old.items
         ++ taken (is_up bounds.low bounds.high bounds.step) (path_of node.now) 0
@@ -356,9 +362,9 @@ fn push_up<'v>(
 /// The items between the bounds, from the last on.
 fn push_down<'v>(
     alloc: Global,
-    node: &Node<'v>,
+    node: &Located<'v>,
     bounds: Bounds,
-    nodes: &mut Vec<Node<'v>>,
+    nodes: &mut Vec<Located<'v>>,
 ) -> Result<(), AllocError>
     ensures { OnOk result (parts_view nodes.new.items ≡ parts_view nodes.old.items
         ++ reverse (taken (is_down bounds.low bounds.high bounds.step) (path_of node.now) 0

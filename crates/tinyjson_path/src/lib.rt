@@ -24,7 +24,7 @@ mod steady;
 mod waiting;
 
 pub use asking::has_pattern;
-pub use node::{Location, Node};
+pub use node::{Located, Location};
 pub use path::path_text;
 pub use patterns::{FindError, PatternLimit};
 pub use selection::{Selection, find, find_in};

@@ -35,16 +35,16 @@ impl Drop for Location<'_> {
 
 /// A node (RFC 9535, 1.1): a part of the queried value, and its location.
 #[derive(Drop)]
-pub struct Node<'v> {
+pub struct Located<'v> {
     pub location: Rc<Location<'v>>,
     pub value: ValueView<'v>,
 }
 
-impl<'v> Node<'v> {
-    pub(crate) fn root(alloc: Global, value: ValueView<'v>) -> Result<Node<'v>, AllocError>
+impl<'v> Located<'v> {
+    pub(crate) fn root(alloc: Global, value: ValueView<'v>) -> Result<Located<'v>, AllocError>
         ensures { IfOk result (λ n. part_view n ≡ root_part (tree_of value.entry)) }
     {
-        Ok(Node {
+        Ok(Located {
             location: Rc::new(alloc, Location::Root)?,
             value,
         })
@@ -56,11 +56,11 @@ impl<'v> Node<'v> {
         alloc: Global,
         name: &'v str,
         value: ValueView<'v>,
-    ) -> Result<Node<'v>, AllocError>
+    ) -> Result<Located<'v>, AllocError>
         ensures { IfOk result (λ n. part_view n
             ≡ below (path_of self.now) (at_key (chars name.now)) (tree_of value.entry)) }
     {
-        Ok(Node {
+        Ok(Located {
             location: Rc::new(alloc, Location::Member(self.location.clone()?, name))?,
             value,
         })
@@ -72,20 +72,20 @@ impl<'v> Node<'v> {
         alloc: Global,
         index: usize,
         value: ValueView<'v>,
-    ) -> Result<Node<'v>, AllocError>
+    ) -> Result<Located<'v>, AllocError>
         ensures { IfOk result (λ n. part_view n
             ≡ below (path_of self.now) (at_index index) (tree_of value.entry)) }
     {
-        Ok(Node {
+        Ok(Located {
             location: Rc::new(alloc, Location::Item(self.location.clone()?, index))?,
             value,
         })
     }
 
-    pub(crate) fn try_clone(&self) -> Result<Node<'v>, AllocError>
+    pub(crate) fn try_clone(&self) -> Result<Located<'v>, AllocError>
         ensures { IfOk result (λ n. part_view n ≡ part_view self.now) }
     {
-        Ok(Node {
+        Ok(Located {
             location: self.location.clone()?,
             value: self.value,
         })

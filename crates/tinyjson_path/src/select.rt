@@ -20,7 +20,7 @@ ghost use Rattle.tinyjson_path.specs.Waiting.{Puts, waits_view, waits_at, waits_
 
 use crate::answers::{Answer, Found, Question, Reply, keep, reply_to};
 use crate::children::{children, push_children, push_indexed, push_named, push_slice};
-use crate::node::Node;
+use crate::node::Located;
 use crate::operand::{
     self, Operand, compare, length_of, literal_value, part, release, singular_value, whole,
     whole_if,
@@ -58,7 +58,7 @@ impl<'v> Finder<'v> {
         &mut self,
         segments: &'v [Segment],
         waiting: &mut Vec<Waiting<'v>>,
-    ) -> Result<Option<Node<'v>>, FindError>
+    ) -> Result<Option<Located<'v>>, FindError>
         ensures root { self.new.root ≡ self.old.root }
         ensures next { IfOk result (Takes
             (waits_left segments.now (tree_of self.old.root) (waits_view waiting.old.items))
@@ -102,7 +102,7 @@ impl<'v> Finder<'v> {
     fn push_selected(
         &mut self,
         selectors: &'v [Selector],
-        node: &Node<'v>,
+        node: &Located<'v>,
         segment: usize,
         waiting: &mut Vec<Waiting<'v>>,
     ) -> Result<(), FindError>
@@ -123,8 +123,8 @@ impl<'v> Finder<'v> {
     fn select_each(
         &mut self,
         selectors: &'v [Selector],
-        node: &Node<'v>,
-        selected: &mut Vec<Node<'v>>,
+        node: &Located<'v>,
+        selected: &mut Vec<Located<'v>>,
     ) -> Result<(), FindError>
         ensures root { self.new.root ≡ self.old.root }
         ensures ok { OnOk result (parts_view selected.new.items ≡ parts_view selected.old.items
@@ -142,8 +142,8 @@ impl<'v> Finder<'v> {
     fn select(
         &mut self,
         selector: &'v Selector,
-        node: &Node<'v>,
-        selected: &mut Vec<Node<'v>>,
+        node: &Located<'v>,
+        selected: &mut Vec<Located<'v>>,
     ) -> Result<(), FindError>
         ensures root { self.new.root ≡ self.old.root }
         ensures ok { OnOk result (parts_view selected.new.items ≡ parts_view selected.old.items
@@ -168,8 +168,8 @@ impl<'v> Finder<'v> {
     fn push_kept(
         &mut self,
         expression: &'v Expression,
-        node: &Node<'v>,
-        selected: &mut Vec<Node<'v>>,
+        node: &Located<'v>,
+        selected: &mut Vec<Located<'v>>,
     ) -> Result<(), FindError>
         ensures root { self.new.root ≡ self.old.root }
         ensures ok { OnOk result (parts_view selected.new.items ≡ parts_view selected.old.items

@@ -9,7 +9,7 @@ ghost use Rattle.tinyjson_path.specs.Strings.{query_strings, strings_in, are_amo
 ghost use Rattle.tinyjson_path.specs.Waiting.{waits_view, waits_strings};
 ghost use Rattle.tinyjson_view.specs.Views.{tree_of};
 
-use crate::node::Node;
+use crate::node::Located;
 use crate::patterns::{FindError, Patterns};
 use crate::select::Finder;
 use crate::waiting::{Waiting, first};
@@ -42,7 +42,7 @@ pub fn find<'v>(
     query: &'v Query,
     alloc: Global,
     value: &'v JsonValue,
-) -> Result<Vec<Node<'v>>, FindError>
+) -> Result<Vec<Located<'v>>, FindError>
     ensures ok { IfOk result (λ v. parts_view v.items
         ≡ query_parts judged query.now (view value.now)) }
     ensures err { IfErr result (IsFrom (query_strings query.now ++ strings_in (view value.now))) }
@@ -62,7 +62,7 @@ pub fn find_in<'v>(
     query: &'v Query,
     alloc: Global,
     value: tinyjson_document::Node<'v>,
-) -> Result<Vec<Node<'v>>, FindError>
+) -> Result<Vec<Located<'v>>, FindError>
     ensures ok { IfOk result (λ v. parts_view v.items
         ≡ query_parts judged query.now (tree value.entry)) }
     ensures err { IfErr result (IsFrom (query_strings query.now ++ strings_in (tree value.entry))) }
@@ -163,7 +163,7 @@ impl<'v> Selection<'v> {
     ///     node.value.write_to(alloc, &mut output)?;
     /// }
     /// ```
-    pub fn next(&mut self) -> Result<Option<Node<'v>>, FindError>
+    pub fn next(&mut self) -> Result<Option<Located<'v>>, FindError>
         ensures next { IfOk result (Takes (left self.old) (left self.new)) }
         ensures sources { sources self.new ≡ sources self.old }
         ensures err { IfErr result (IsFrom (sources self.old)) }
@@ -176,7 +176,7 @@ impl<'v> Selection<'v> {
         Ok(next)
     }
 
-    fn collect(mut self) -> Result<Vec<Node<'v>>, FindError>
+    fn collect(mut self) -> Result<Vec<Located<'v>>, FindError>
         ensures ok { IfOk result (λ v. parts_view v.items ≡ left self.entry) }
         ensures err { IfErr result (IsFrom (sources self.entry)) }
     {

@@ -7,7 +7,7 @@ ghost use Rattle.tinyjson_path.specs.declared.children.Wanted.TheVariants.{Conta
 ghost use Rattle.tinyjson_view.specs.Views.{tree_of};
 
 use crate::children::containers;
-use crate::node::{Location, Node};
+use crate::node::{Located, Location};
 use std::alloc::{AllocError, Global};
 use tinyjson_path_query::Selector;
 use tinyjson_view::ValueView;
@@ -15,7 +15,7 @@ use tinyjson_view::ValueView;
 /// A node, and the index of the first segment that is left for it.
 #[derive(Drop)]
 pub(crate) struct Waiting<'v> {
-    pub(crate) node: Node<'v>,
+    pub(crate) node: Located<'v>,
     pub(crate) segment: usize,
     /// The same node came onto the stack at the same time, for the same segment, and comes before it.
     pub(crate) repeats: bool,
@@ -26,7 +26,7 @@ pub(crate) fn first<'v>(alloc: Global, value: ValueView<'v>) -> Result<Vec<Waiti
     ensures { IfOk result (λ v. waits_view v.items ≡ (0, root_part (tree_of value.entry)) ∷ []) }
 {
     let mut waiting = Vec::new(alloc);
-    let node = Node::root(alloc, value)?;
+    let node = Located::root(alloc, value)?;
     waiting.push(Waiting {
         node,
         segment: 0,
@@ -38,7 +38,7 @@ pub(crate) fn first<'v>(alloc: Global, value: ValueView<'v>) -> Result<Vec<Waiti
 /// Puts the children of a node that may have children behind the nodes that wait, the last one first.
 pub(crate) fn push_containers<'v>(
     alloc: Global,
-    node: &Node<'v>,
+    node: &Located<'v>,
     segment: usize,
     waiting: &mut Vec<Waiting<'v>>,
 ) -> Result<(), AllocError>
@@ -53,7 +53,7 @@ pub(crate) fn push_containers<'v>(
 /// Puts the nodes behind those that wait, the last one first. One that repeats another of as many before it as
 /// `window` says is marked.
 pub(crate) fn push_reversed<'v>(
-    mut nodes: Vec<Node<'v>>,
+    mut nodes: Vec<Located<'v>>,
     segment: usize,
     window: usize,
     waiting: &mut Vec<Waiting<'v>>,
@@ -80,7 +80,7 @@ pub(crate) fn window(selectors: &[Selector]) -> usize {
 }
 
 /// Whether one of the last nodes, as many as `window` says, has the last step of this one.
-fn is_repeated(node: &Node, before: &[Node], window: usize) -> bool
+fn is_repeated(node: &Located, before: &[Located], window: usize) -> bool
     ensures { result ≡ true → HasTwin node.now before.now }
 {
     for index in before.len().saturating_sub(window)..before.len() {

@@ -4,12 +4,12 @@ use Rattle.tinyjson.specs.Words.{text, compact}
 use Rattle.tinyjson_path.proofs.Callers.{drop_at}
 use Rattle.tinyjson_path.specs.Nodes.{parts_view}
 use Rattle.tinyjson_path.specs.Views.{tree_of}
-use Rattle.tinyjson_path.specs.declared.node.Node.{Node}
+use Rattle.tinyjson_path.specs.declared.node.Located.{Located}
 use Rattle.example_path.specs.Texts.{part_texts}
 use Rattle.example_path.proofs.node_texts.Goals as goal
 
 -- one more text is that of the next node
-one_more : (ns : List Node) (i : ℕ) (n : Node) (ss more : List (String Global)) (s : String Global) (all : List (List ℕ)) → i < length ns
+one_more : (ns : List Located) (i : ℕ) (n : Located) (ss more : List (String Global)) (s : String Global) (all : List (List ℕ)) → i < length ns
     → n ≡ get_or ns i n → text s ≡ compact (tree_of n.value) → more ≡ ss ++ s ∷ []
     → map text ss ++ part_texts (parts_view (drop i ns)) ≡ all → map text more ++ part_texts (parts_view (drop (i + 1) ns)) ≡ all
 one_more ns i n ss more s all l g e m h =
