@@ -94,6 +94,7 @@ LIBRARIES = (
     "tinyjson_tokens",
     "tinyjson_output",
     "tinyjson",
+    "tinyjson_cells",
     "tinyjson_document",
 )
 

@@ -13,17 +13,17 @@ use Rattle.tinyjson_output.specs.Buffer.{Output, SentPart, Sent, SendsFrom}
 use Rattle.tinyjson_output.proofs.Callers.{enc, enc_cons, two_bytes, null_bytes, quoted_bytes}
 use Rattle.tinyjson_output.proofs.Callers.{sent_goes as goes, sent_stops as stops, sent_stops_then as stops_then}
 use Rattle.tinyjson_output.proofs.Callers.{sent_written_none as written_none, sent_written_then as written_then}
-use Rattle.tinyjson_document.specs.Cell.{Is, IsBytes, IsKeptAt}
+use Rattle.tinyjson_cells.specs.Cell.{Is, IsBytes, IsKeptAt}
 use Rattle.tinyjson_document.specs.Walking.{holds_others}
-use Rattle.tinyjson_document.specs.declared.store.Span.{Span}
-use Rattle.tinyjson_document.specs.declared.store.Cell.{Cell}
-use Rattle.tinyjson_document.specs.declared.store.Cell.TheVariants as node
-use Rattle.tinyjson_document.specs.declared.store.Store.{Store}
-use Rattle.tinyjson_document.specs.Texts.{part_of}
+use Rattle.tinyjson_cells.specs.declared.store.Span.{Span}
+use Rattle.tinyjson_cells.specs.declared.store.Cell.{Cell}
+use Rattle.tinyjson_cells.specs.declared.store.Cell.TheVariants as node
+use Rattle.tinyjson_cells.specs.declared.store.Store.{Store}
+use Rattle.tinyjson_cells.specs.Texts.{part_of}
 use Rattle.tinyjson_document.proofs.Writing.{seen, empty_array, empty_object}
 use Rattle.tinyjson_document.proofs.Passing.{same_places}
 use Rattle.tinyjson_document.proofs.Places.{kept_there}
-use Rattle.tinyjson_document.proofs.Stored.{number_bytes}
+use Rattle.tinyjson_cells.proofs.Callers.{number_bytes}
 
 -- what was appended is taken back
 pub taken_back : (p q r s more : List ℕ) (n : ℕ) → n ≡ length p → r ≡ take n q → q ≡ s → s ≡ p ++ more → r ≡ p

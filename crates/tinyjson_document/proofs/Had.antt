@@ -13,13 +13,13 @@ use Rattle.tinyjson_number.specs.Decimal.{Decimal}
 use Rattle.tinyjson_grammar.specs.Kind.{kind_of}
 use Rattle.tinyjson_grammar.specs.Tree.{Tree, null, boolean, number, string, array, object}
 use Rattle.tinyjson_grammar.specs.Tree.{Items, no_items, item, Members, no_members, member}
-use Rattle.tinyjson_document.specs.declared.store.Span.{Span}
-use Rattle.tinyjson_document.specs.declared.store.Cell.{Cell}
-use Rattle.tinyjson_document.specs.declared.store.Cell.TheVariants as node
-use Rattle.tinyjson_document.specs.declared.store.Member.{Member}
-use Rattle.tinyjson_document.specs.declared.store.Store.{Store}
-use Rattle.tinyjson_document.specs.Texts.{part_of}
-use Rattle.tinyjson_document.specs.Cell.{IsRun, IsText, IsKeptAt, IsShort, IsNumber, Is, Are, AreMembers}
+use Rattle.tinyjson_cells.specs.declared.store.Span.{Span}
+use Rattle.tinyjson_cells.specs.declared.store.Cell.{Cell}
+use Rattle.tinyjson_cells.specs.declared.store.Cell.TheVariants as node
+use Rattle.tinyjson_cells.specs.declared.store.Member.{Member}
+use Rattle.tinyjson_cells.specs.declared.store.Store.{Store}
+use Rattle.tinyjson_cells.specs.Texts.{part_of}
+use Rattle.tinyjson_cells.specs.Cell.{IsRun, IsText, IsKeptAt, IsShort, IsNumber, Is, Are, AreMembers}
 use Rattle.tinyjson_document.specs.Known.{kind_in, kind_is, run_one, Decimal_set}
 
 pub Codes_set : IsSet (List ℕ)

@@ -13,13 +13,13 @@ use Rattle.tinyjson_output.specs.Buffer.{Output, Sent, SentPart, SendsFrom}
 use Rattle.tinyjson_output.proofs.Callers.{enc, sent_goes as goes, sent_stops as stops}
 use Rattle.tinyjson_output.proofs.Callers.{sent_written_none as written_none, sent_written_then as written_then}
 use Rattle.tinyjson_output.proofs.Callers.{sent_stops_then as stops_then}
-use Rattle.tinyjson_document.specs.Cell.{Are, AreMembers}
+use Rattle.tinyjson_cells.specs.Cell.{Are, AreMembers}
 use Rattle.tinyjson_document.specs.Walking.{holds_others, AreLeft, Advanced, AdvancesFrom, cost}
-use Rattle.tinyjson_document.specs.declared.store.Span.{Span}
-use Rattle.tinyjson_document.specs.declared.store.Cell.{Cell}
-use Rattle.tinyjson_document.specs.declared.store.Cell.TheVariants as node
-use Rattle.tinyjson_document.specs.declared.store.Member.{Member}
-use Rattle.tinyjson_document.specs.declared.store.Store.{Store}
+use Rattle.tinyjson_cells.specs.declared.store.Span.{Span}
+use Rattle.tinyjson_cells.specs.declared.store.Cell.{Cell}
+use Rattle.tinyjson_cells.specs.declared.store.Cell.TheVariants as node
+use Rattle.tinyjson_cells.specs.declared.store.Member.{Member}
+use Rattle.tinyjson_cells.specs.declared.store.Store.{Store}
 use Rattle.tinyjson_document.specs.declared.walk.Rest.{Rest}
 use Rattle.tinyjson_document.proofs.Writing.{Seen, empty_array, empty_object, NextItem, NextMember, left_moved, then_advances}
 

@@ -12,18 +12,18 @@ use Rattle.tinyjson_grammar.specs.declared.kind.JsonKind.TheVariants as kind
 use Rattle.tinyjson_grammar.specs.Soundness.{IsTree}
 use Rattle.tinyjson_grammar.specs.Tree.{Tree, null, boolean, number, string, array, object}
 use Rattle.tinyjson_grammar.specs.Tree.{Items, no_items, item, Members, no_members, member}
-use Rattle.tinyjson_document.specs.declared.store.Span.{Span}
-use Rattle.tinyjson_document.specs.declared.store.Cell.{Cell}
-use Rattle.tinyjson_document.specs.declared.store.Cell.TheVariants as node
-use Rattle.tinyjson_document.specs.declared.store.Member.{Member}
-use Rattle.tinyjson_document.specs.declared.store.Store.{Store}
-use Rattle.tinyjson_document.specs.Cell.{IsText, IsKeptAt, IsShort, IsNumber, IsBytes, Is, Are, AreMembers}
+use Rattle.tinyjson_cells.specs.declared.store.Span.{Span}
+use Rattle.tinyjson_cells.specs.declared.store.Cell.{Cell}
+use Rattle.tinyjson_cells.specs.declared.store.Cell.TheVariants as node
+use Rattle.tinyjson_cells.specs.declared.store.Member.{Member}
+use Rattle.tinyjson_cells.specs.declared.store.Store.{Store}
+use Rattle.tinyjson_cells.specs.Cell.{IsText, IsKeptAt, IsShort, IsNumber, IsBytes, Is, Are, AreMembers}
 use Rattle.tinyjson_document.specs.Known.{Known, KnownItems, KnownMembers, kind_in, kind_is, known_are, known_members}
 use Rattle.tinyjson_document.specs.Known.{known_one, items_one, members_same}
-use Rattle.tinyjson_document.specs.Texts.{part, part_of}
+use Rattle.tinyjson_cells.specs.Texts.{part, part_of}
 use Rattle.tinyjson_document.specs.Parts.{boolean_in, number_in, string_in, items_in, members_in, member_count, size}
 use Rattle.tinyjson_document.proofs.Had.{is_had, are_had, members_had}
-use Rattle.tinyjson_document.proofs.Slices.{run_part, text_part}
+use Rattle.tinyjson_cells.proofs.Callers.{run_part, text_part}
 
 -- ---- what a cell gives
 

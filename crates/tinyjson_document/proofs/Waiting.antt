@@ -3,37 +3,22 @@ use Rattle.std.proofs.Common.{◌≡◌, ℕ, List, [], ◌∷◌, ◌++◌, len
 use Rattle.std.proofs.lemmas.List.{take_at, drop_at, same_from_push}
 use Rattle.tinyjson_grammar.specs.Tree.{Tree, array, object, items_of, Members, no_members, put}
 use Rattle.tinyjson.specs.Events.{Open, in_array, at_key, at_value, Puts}
-use Rattle.tinyjson_document.specs.Cell.{IsRun, IsText, Is, Are, AreMembers, Extends, Grows}
-use Rattle.tinyjson_document.specs.Texts.{source_bytes}
+use Rattle.tinyjson_cells.specs.Cell.{IsRun, IsText, Is, Are, AreMembers, Extends, Grows}
+use Rattle.tinyjson_cells.specs.Texts.{source_bytes}
 use Rattle.tinyjson_document.specs.declared.arena.Built.{Built}
-use Rattle.tinyjson_document.specs.Holding.{
-  Entry,
-  put_all,
-  AreEntries,
-  Gathers,
-  IsOpen,
-  Waiting,
-  Splits,
-  HoldsIn,
-  waiting_in,
-  Holds,
-  IsTree,
-  HoldsOver,
-  IsBuilt,
-  IsOver,
-  IsTreeOver,
-}
-use Rattle.tinyjson_document.specs.declared.store.Span.{Span}
-use Rattle.tinyjson_document.specs.declared.store.Cell.{Cell}
-use Rattle.tinyjson_document.specs.declared.store.Cell.TheVariants as node
-use Rattle.tinyjson_document.specs.declared.store.Store.{Store}
+use Rattle.tinyjson_cells.specs.Entries.{Entry, put_all, AreEntries}
+use Rattle.tinyjson_document.specs.Holding.{Gathers, IsOpen, Waiting, Splits, HoldsIn, waiting_in, Holds, IsTree, HoldsOver, IsBuilt, IsOver, IsTreeOver}
+use Rattle.tinyjson_cells.specs.declared.store.Span.{Span}
+use Rattle.tinyjson_cells.specs.declared.store.Cell.{Cell}
+use Rattle.tinyjson_cells.specs.declared.store.Cell.TheVariants as node
+use Rattle.tinyjson_cells.specs.declared.store.Store.{Store}
 use Rattle.tinyjson_document.specs.declared.arena.Place.{Place}
 use Rattle.tinyjson_document.specs.declared.arena.Arena.{Arena}
 use Rattle.std.specs.List.Sorted.{IsPermutation, IsSortedBy, IsStableBy}
-use Rattle.tinyjson_document.specs.Order.{key_lt, paired, lasts}
-use Rattle.tinyjson_document.specs.declared.store.Member.{Member}
-use Rattle.tinyjson_document.proofs.Growing.{is_still, are_still, members_still, text_stays, grows_none}
-use Rattle.tinyjson_document.proofs.Gathered.{gathered}
+use Rattle.tinyjson_cells.specs.Order.{key_lt, paired, lasts}
+use Rattle.tinyjson_cells.specs.declared.store.Member.{Member}
+use Rattle.tinyjson_cells.proofs.Callers.{is_still, are_still, members_still, text_stays, grows_none}
+use Rattle.tinyjson_cells.proofs.Callers.{gathered, put_last}
 
 -- ---- one more item, one more entry
 
@@ -52,10 +37,6 @@ more_entries s [] (q ∷ ks) vs k p t n h x i = absurd h
 more_entries s (e ∷ es) [] vs k p t n h x i = absurd h
 more_entries s (e ∷ es) (q ∷ ks) [] k p t n h x i = absurd h
 more_entries s (e ∷ es) (q ∷ ks) (v ∷ vs) k p t n h x i = (h.0, h.1, more_entries s es ks vs k p t n h.2 x i)
-
-pub put_last : (ms : Members) (es : List Entry) (k : List ℕ) (t : Tree) → put k t (put_all ms es) ≡ put_all ms (es ++ (k, t) ∷ [])
-put_last ms [] k t = refl
-put_last ms (e ∷ es) k t = put_last (put e.0 e.1 ms) es k t
 
 -- ---- what waits stays while the store grows
 

@@ -37,18 +37,18 @@ use Rattle.tinyjson_output.proofs.Callers.{
   sent_written_then as written_then,
   sent_stops_then as stops_then,
 }
-use Rattle.tinyjson_document.specs.Cell.{IsKeptAt, IsShort, Is, Are, AreMembers, IsBytes}
-use Rattle.tinyjson_document.specs.Order.{part}
+use Rattle.tinyjson_cells.specs.Cell.{IsKeptAt, IsShort, Is, Are, AreMembers, IsBytes}
+use Rattle.tinyjson_cells.specs.Order.{part}
 use Rattle.tinyjson_document.specs.Walking.{head, IsRest, AreLeft, Advanced, AdvancesFrom, cost, rest_cost, left_cost}
-use Rattle.tinyjson_document.specs.declared.store.Span.{Span}
-use Rattle.tinyjson_document.specs.declared.store.Cell.{Cell}
-use Rattle.tinyjson_document.specs.declared.store.Cell.TheVariants as node
-use Rattle.tinyjson_document.specs.declared.store.Member.{Member}
-use Rattle.tinyjson_document.specs.declared.store.Store.{Store}
-use Rattle.tinyjson_document.specs.Texts.{part_of}
+use Rattle.tinyjson_cells.specs.declared.store.Span.{Span}
+use Rattle.tinyjson_cells.specs.declared.store.Cell.{Cell}
+use Rattle.tinyjson_cells.specs.declared.store.Cell.TheVariants as node
+use Rattle.tinyjson_cells.specs.declared.store.Member.{Member}
+use Rattle.tinyjson_cells.specs.declared.store.Store.{Store}
+use Rattle.tinyjson_cells.specs.Texts.{part_of}
 use Rattle.tinyjson_document.specs.declared.walk.Rest.{Rest}
 use Rattle.tinyjson_document.specs.declared.walk.Rest.TheVariants as rest
-use Rattle.tinyjson_document.proofs.Slices.{part_empty, run_part, text_part}
+use Rattle.tinyjson_cells.proofs.Callers.{part_empty, run_part, text_part}
 
 -- ---- which trees a node may stand for
 

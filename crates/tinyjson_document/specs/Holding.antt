@@ -1,36 +1,16 @@
 -- Which open containers an arena has, and which tree it has once all are closed.
-use Rattle.std.specs.Prelude.{◌≡◌, ℕ, List, [], ◌∷◌, ◌++◌, length, ⊤}
-use Rattle.tinyjson_grammar.specs.Tree.{Tree, items_of, Members, no_members, put}
+use Rattle.std.specs.Prelude.{◌≡◌, ℕ, List, [], ◌∷◌, ◌++◌, length}
+use Rattle.tinyjson_grammar.specs.Tree.{Tree, items_of, Members, no_members}
 use Rattle.tinyjson.specs.Events.{Open, in_array, at_key, at_value}
-use Rattle.tinyjson_document.specs.Cell.{Is, Are, IsText}
-use Rattle.tinyjson_document.specs.Texts.{source_bytes}
-use Rattle.tinyjson_document.specs.declared.store.Span.{Span}
-use Rattle.tinyjson_document.specs.declared.store.Cell.{Cell}
-use Rattle.tinyjson_document.specs.declared.store.Store.{Store}
+use Rattle.tinyjson_cells.specs.Cell.{Is, Are, IsText}
+use Rattle.tinyjson_cells.specs.Entries.{Entry, put_all, AreEntries}
+use Rattle.tinyjson_cells.specs.Texts.{source_bytes}
+use Rattle.tinyjson_cells.specs.declared.store.Span.{Span}
+use Rattle.tinyjson_cells.specs.declared.store.Cell.{Cell}
+use Rattle.tinyjson_cells.specs.declared.store.Store.{Store}
 use Rattle.tinyjson_document.specs.declared.arena.Place.{Place}
 use Rattle.tinyjson_document.specs.declared.arena.Arena.{Arena}
 use Rattle.tinyjson_document.specs.declared.arena.Built.{Built}
-
--- a key and its value
-abbrev pub Entry : Type 0
-Entry = List ℕ × Tree
-
--- each value put at its key in turn: of equal keys the last one is kept
-abbrev pub put_all : Members → List Entry → Members
-put_all ms [] = ms
-put_all ms (e ∷ es) = put_all (put e.0 e.1 ms) es
-
--- the pending keys and values are these entries, in the order of the text; R relates a key, its tree and its cell
-abbrev pub AreEntriesBy : Store → (List ℕ → Tree → Cell → Type 0) → List Entry → List Span → List Cell → Type 0
-AreEntriesBy s R [] [] [] = ⊤
-AreEntriesBy s R [] [] (v ∷ vs) = ⊥
-AreEntriesBy s R [] (k ∷ ks) vs = ⊥
-AreEntriesBy s R (e ∷ es) [] vs = ⊥
-AreEntriesBy s R (e ∷ es) (k ∷ ks) [] = ⊥
-AreEntriesBy s R (e ∷ es) (k ∷ ks) (v ∷ vs) = IsText s e.0 k × R e.0 e.1 v × AreEntriesBy s R es ks vs
-
-abbrev pub AreEntries : Store → List Entry → List Span → List Cell → Type 0
-AreEntries s es ks vs = AreEntriesBy s (λ k t n. Is s t n) es ks vs
 
 -- the members of an object, from its keys and values
 pub record Gathers (s : Store) (ms : Members) (ks : List Span) (vs : List Cell) : Type 0 where

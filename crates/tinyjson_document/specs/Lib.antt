@@ -4,13 +4,9 @@ pub mod Equality
 pub mod Numbers
 pub mod Parts
 -- Which tree a cell stands for, and that there is at most one.
-pub mod Texts
-pub mod Cell
 pub mod Known
 -- Which open containers an arena has.
 pub mod Holding
--- The order of members.
-pub mod Order
 -- What a walk writes.
 pub mod Walking
 -- What a comparison has still to find the same.

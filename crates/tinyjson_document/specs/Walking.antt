@@ -9,11 +9,11 @@ use Rattle.tinyjson_grammar.specs.Tree.{Tree, null, boolean, number, string, arr
 use Rattle.tinyjson.specs.Indent.{indent_of}
 use Rattle.tinyjson_grammar.specs.Text.{items_text, members_text, quoted, closing, has_no_items, has_no_members}
 use Rattle.tinyjson_output.specs.Buffer.{buffered, Output, Sent, SentPart}
-use Rattle.tinyjson_document.specs.Cell.{Are, AreMembers}
-use Rattle.tinyjson_document.specs.Order.{part}
-use Rattle.tinyjson_document.specs.declared.store.Cell.{Cell}
-use Rattle.tinyjson_document.specs.declared.store.Cell.TheVariants as node
-use Rattle.tinyjson_document.specs.declared.store.Store.{Store}
+use Rattle.tinyjson_cells.specs.Cell.{Are, AreMembers}
+use Rattle.tinyjson_cells.specs.Order.{part}
+use Rattle.tinyjson_cells.specs.declared.store.Cell.{Cell}
+use Rattle.tinyjson_cells.specs.declared.store.Cell.TheVariants as node
+use Rattle.tinyjson_cells.specs.declared.store.Store.{Store}
 use Rattle.tinyjson_document.specs.declared.walk.Rest.{Rest}
 use Rattle.tinyjson_document.specs.declared.walk.Rest.TheVariants as rest
 use Rattle.tinyjson_document.specs.declared.walk.Walk.{Walk}

@@ -6,17 +6,17 @@ ghost use Rattle.tinyjson.specs.Text.{text};
 ghost use Rattle.tinyjson.specs.Tree.{Tree};
 ghost use Rattle.tinyjson.specs.Written.{WritesPrefix};
 ghost use Rattle.tinyjson_document.specs.Holding.{Holds, IsBuilt, IsTree};
-ghost use Rattle.tinyjson_document.specs.Cell.{Is};
-ghost use Rattle.tinyjson_document.specs.Texts.{source_bytes};
-ghost use Rattle.tinyjson_document.specs.declared.store.Store.{Store as Nodes};
+ghost use Rattle.tinyjson_cells.specs.Cell.{Is};
+ghost use Rattle.tinyjson_cells.specs.Texts.{source_bytes};
+ghost use Rattle.tinyjson_cells.specs.declared.store.Store.{Store as Nodes};
 
-use crate::sorting::pair;
-use crate::store::{Cell, Member, Span, Store};
-use crate::texts::{Source, Texts};
 use crate::walk::Root;
 use std::alloc::{AllocError, Global};
 use std::io::{self, ErrorKind, Write};
 use tinyjson::{Events, JsonNumber};
+use tinyjson_cells::sorting::pair;
+use tinyjson_cells::store::{Cell, Member, Span, Store};
+use tinyjson_cells::texts::{Source, Texts};
 
 /// Where the pending keys and values of an open container begin.
 #[derive(Clone, Copy)]

@@ -3,10 +3,10 @@ ghost use Rattle.tinyjson_document.specs.Known.{Known, Known_prop};
 
 use crate::arena::{Arena, Built};
 use crate::node::Node;
-use crate::store::{Cell, Store};
-use crate::texts::{Source, Texts};
 use std::alloc::Global;
 use tinyjson::{JsonParseError, read_events, read_events_with_depth_limit};
+use tinyjson_cells::store::{Cell, Store};
+use tinyjson_cells::texts::{Source, Texts};
 
 /// A JSON text that was parsed once, to be read in place. It is immutable, and it is kept in a few vectors. The
 /// members of an object are in the order of their keys.

@@ -4,7 +4,7 @@ ghost use Rattle.tinyjson_document.specs.Known.{KnownMembers, KnownMembers_prop}
 
 use crate::document::Document;
 use crate::node::Node;
-use crate::store::{Cell, Member, text_at};
+use tinyjson_cells::store::{Cell, Member, text_at};
 
 /// Iterates over the items of an array. Contracts see the items that are left.
 #[derive(Clone, Copy, Drop)]

@@ -3,8 +3,6 @@
 #![tactic(auto)]
 
 #[doc(hidden)]
-pub mod append;
-#[doc(hidden)]
 pub mod arena;
 pub mod document;
 mod equality;
@@ -13,15 +11,7 @@ mod layout;
 pub mod node;
 pub mod number;
 mod quick;
-#[doc(hidden)]
-pub mod ranking;
-#[doc(hidden)]
-pub mod sorting;
-#[doc(hidden)]
-pub mod store;
 mod text;
-#[doc(hidden)]
-pub mod texts;
 pub mod view;
 mod walk;
 

@@ -5,9 +5,9 @@ use crate::document::Document;
 use crate::equality::equals;
 use crate::iterators::{Items, Members};
 use crate::number::NumberView;
-use crate::sorting::find;
-use crate::store::{Cell, Span, part, text_at};
 use tinyjson::{JsonKind, JsonValue};
+use tinyjson_cells::sorting::find;
+use tinyjson_cells::store::{Cell, Span, part, text_at};
 
 /// A value in a document. It is a reference and an index, so it is copied freely.
 ///
@@ -124,8 +124,14 @@ impl<'d> Node<'d> {
         ensures { option_map decimal_of result ≡ number_in (tree self.now) }
     {
         match self.cell {
-            Cell::Short(span) => self.document.store.short_number(span),
-            Cell::Kept(index) => self.document.store.kept_number(index),
+            Cell::Short(span) => match self.document.store.short_number(span) {
+                Some(number) => Some(NumberView::Made(number)),
+                None => None,
+            },
+            Cell::Kept(index) => match self.document.store.kept_number(index) {
+                Some(number) => Some(NumberView::Kept(number)),
+                None => None,
+            },
             _ => None,
         }
     }

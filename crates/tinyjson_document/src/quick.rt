@@ -9,12 +9,12 @@ ghost use Rattle.tinyjson_grammar.specs.Tree.{Tree};
 ghost use Rattle.tinyjson_output.specs.Buffer.{buffered};
 ghost use Rattle.tinyjson_number.specs.Decimal.{Decimal};
 ghost use Rattle.tinyjson_number.specs.Text.{decimal_text};
-ghost use Rattle.tinyjson_document.specs.Cell.{Is, IsBytes, IsKeptAt};
+ghost use Rattle.tinyjson_cells.specs.Cell.{Is, IsBytes, IsKeptAt};
 ghost use Rattle.tinyjson_document.specs.Walking.{holds_others};
-ghost use Rattle.tinyjson_document.specs.Texts.{part_of};
+ghost use Rattle.tinyjson_cells.specs.Texts.{part_of};
 
 use crate::layout::quick_line;
-use crate::store::{Cell, Member, Store};
+use tinyjson_cells::store::{Cell, Member, Store};
 use tinyjson_output::{Buffer, quick_number, quick_text, quick_word};
 
 /// Where an item or a member begins: the indent, its level, and whether it is the first one of its container.

@@ -9,9 +9,9 @@ ghost use Rattle.tinyjson_grammar.specs.Characters.{name_separator};
 ghost use Rattle.tinyjson_document.specs.declared.walk.Rest.TheVariants.{Items, Members};
 ghost use Rattle.tinyjson_number.specs.Decimal.{Decimal};
 ghost use Rattle.tinyjson_number.specs.Text.{decimal_text};
-ghost use Rattle.tinyjson_document.specs.Cell.{Is, IsBytes, IsKeptAt};
-ghost use Rattle.tinyjson_document.specs.Texts.{part_of};
-ghost use Rattle.tinyjson_document.specs.declared.store.Store.{Store as Nodes};
+ghost use Rattle.tinyjson_cells.specs.Cell.{Is, IsBytes, IsKeptAt};
+ghost use Rattle.tinyjson_cells.specs.Texts.{part_of};
+ghost use Rattle.tinyjson_cells.specs.declared.store.Store.{Store as Nodes};
 ghost use Rattle.tinyjson_document.specs.Walking.{head, holds_others, IsRest, AreLeft, Advances, Passes, cost};
 ghost use Rattle.tinyjson_document.specs.Walking.{rest_cost, left_cost};
 ghost use Rattle.tinyjson_output.specs.Buffer.{buffered, Sends, SendsText};
@@ -19,9 +19,9 @@ ghost use Rattle.tinyjson_output.specs.Written.{WritesPrefix};
 
 use crate::layout::separate;
 use crate::quick::{Line, quick_item, quick_key, quick_member};
-use crate::store::{Cell, Member, Span, Store, part};
 use std::alloc::{AllocError, Global};
 use std::io::{self, ErrorKind, Write};
+use tinyjson_cells::store::{Cell, Member, Span, Store, part};
 use tinyjson_output::{Buffer, flush, quick_text, quote, write_bytes, write_colon, write_number};
 
 /// What is left to write of an open container, before its closing bracket. `first` is true while nothing of it is

@@ -16,26 +16,26 @@ use Rattle.tinyjson_grammar.proofs.Callers.{compact_text}
 use Rattle.tinyjson_grammar.proofs.Callers.Laws.{only_tree}
 use Rattle.tinyjson_grammar.specs.Soundness as sound
 use Rattle.tinyjson_grammar.proofs.Callers.{text_sound}
-use Rattle.tinyjson_document.proofs.Callers.{gathered_by}
-use Rattle.tinyjson_document.proofs.Callers.{text_stays}
-use Rattle.tinyjson_document.proofs.Callers.{run_part}
-use Rattle.tinyjson_document.proofs.Callers.{put_last}
+use Rattle.tinyjson_cells.proofs.Callers.{gathered_by}
+use Rattle.tinyjson_cells.proofs.Callers.{text_stays}
+use Rattle.tinyjson_cells.proofs.Callers.{run_part}
+use Rattle.tinyjson_cells.proofs.Callers.{put_last}
 use Rattle.tinyjson_normal.specs.Compacting.{value_bytes, items_bytes, key_bytes, entry_bytes, entries_bytes, members_bytes}
 use Rattle.tinyjson_normal.specs.Compacting.{next_from, members_of, placed, all_placed, AreBegun, Has, HasKey, IsOpen}
 use Rattle.tinyjson_normal.specs.Compacting.{Standing, Splits, HoldsIn, standing, Holds, IsOf}
-use Rattle.tinyjson_document.specs.Holding.{Entry, put_all, AreEntriesBy}
-use Rattle.tinyjson_document.specs.Cell.{IsText, Grows}
-use Rattle.tinyjson_document.specs.Order.{IsOrdered, AreMembersBy, lasts, paired}
+use Rattle.tinyjson_cells.specs.Entries.{Entry, put_all, AreEntriesBy}
+use Rattle.tinyjson_cells.specs.Cell.{IsText, Grows}
+use Rattle.tinyjson_cells.specs.Order.{IsOrdered, AreMembersBy, lasts, paired}
 use Rattle.tinyjson_normal.specs.Normal.{HasTree}
 use Rattle.tinyjson_normal.specs.declared.normal.NormalText.{NormalText}
 use Rattle.tinyjson_normal.specs.declared.compact.Begun.{Begun}
 use Rattle.tinyjson_normal.specs.declared.compact.Compact.{Compact}
 use Rattle.tinyjson_normal.specs.declared.compact.Start.{Start}
-use Rattle.tinyjson_document.specs.declared.store.Member.{Member}
-use Rattle.tinyjson_document.specs.declared.store.Cell.{Cell}
-use Rattle.tinyjson_document.specs.declared.store.Cell.TheVariants as node
-use Rattle.tinyjson_document.specs.declared.store.Span.{Span}
-use Rattle.tinyjson_document.specs.declared.store.Store.{Store}
+use Rattle.tinyjson_cells.specs.declared.store.Member.{Member}
+use Rattle.tinyjson_cells.specs.declared.store.Cell.{Cell}
+use Rattle.tinyjson_cells.specs.declared.store.Cell.TheVariants as node
+use Rattle.tinyjson_cells.specs.declared.store.Span.{Span}
+use Rattle.tinyjson_cells.specs.declared.store.Store.{Store}
 
 -- ---- compact text has no levels
 

@@ -9,15 +9,15 @@ use Rattle.tinyjson_grammar.specs.Tree.{Items, no_items, item, Members, no_membe
 use Rattle.tinyjson_number.specs.Canonical.{IsDecimalAt}
 use Rattle.tinyjson_number.specs.Decimal.{Decimal}
 use Rattle.tinyjson_number.specs.Numeral.{power_width}
-use Rattle.tinyjson_document.specs.Cell.{IsText, IsNumber, Is, Are, AreMembers}
+use Rattle.tinyjson_cells.specs.Cell.{IsText, IsNumber, Is, Are, AreMembers}
 use Rattle.tinyjson_normal.specs.Normal.{IsKept}
 use Rattle.tinyjson_normal.specs.declared.normal.Content.{Content}
 use Rattle.tinyjson_normal.specs.declared.normal.Content.TheVariants as content
-use Rattle.tinyjson_document.specs.declared.store.Member.{Member}
-use Rattle.tinyjson_document.specs.declared.store.Cell.{Cell}
-use Rattle.tinyjson_document.specs.declared.store.Span.{Span}
-use Rattle.tinyjson_document.specs.declared.store.Store.{Store}
-use Rattle.tinyjson_document.specs.Texts.{part_of}
+use Rattle.tinyjson_cells.specs.declared.store.Member.{Member}
+use Rattle.tinyjson_cells.specs.declared.store.Cell.{Cell}
+use Rattle.tinyjson_cells.specs.declared.store.Span.{Span}
+use Rattle.tinyjson_cells.specs.declared.store.Store.{Store}
+use Rattle.tinyjson_cells.specs.Texts.{part_of}
 
 -- an indent of scalars, where there is one
 module _ (w : Option (List ℕ)) (indent : IfSome w AreScalars) (s : Store) where

@@ -4,16 +4,16 @@ use Rattle.tinyjson.specs.Events.{Open, in_array, at_key, at_value}
 use Rattle.tinyjson_grammar.specs.Characters.{begin_array, begin_object, name_separator, value_separator}
 use Rattle.tinyjson_grammar.specs.Text.{compact, quoted}
 use Rattle.tinyjson_grammar.specs.Tree.{Tree, Members, no_members, member}
-use Rattle.tinyjson_document.specs.Holding.{Entry, put_all}
-use Rattle.tinyjson_document.specs.Cell.{IsText}
-use Rattle.tinyjson_document.specs.Order.{part}
+use Rattle.tinyjson_cells.specs.Entries.{Entry, put_all}
+use Rattle.tinyjson_cells.specs.Cell.{IsText}
+use Rattle.tinyjson_cells.specs.Order.{part}
 use Rattle.tinyjson_normal.specs.declared.compact.Begun.{Begun}
 use Rattle.tinyjson_normal.specs.declared.compact.Compact.{Compact}
 use Rattle.tinyjson_normal.specs.declared.compact.Start.{Start}
-use Rattle.tinyjson_document.specs.declared.store.Member.{Member}
-use Rattle.tinyjson_document.specs.declared.store.Cell.{Cell}
-use Rattle.tinyjson_document.specs.declared.store.Cell.TheVariants as node
-use Rattle.tinyjson_document.specs.declared.store.Store.{Store}
+use Rattle.tinyjson_cells.specs.declared.store.Member.{Member}
+use Rattle.tinyjson_cells.specs.declared.store.Cell.{Cell}
+use Rattle.tinyjson_cells.specs.declared.store.Cell.TheVariants as node
+use Rattle.tinyjson_cells.specs.declared.store.Store.{Store}
 
 -- ---- each complete value has a comma after it
 

@@ -10,8 +10,8 @@ ghost use Rattle.tinyjson.specs.Written.{WritesPrefix};
 ghost use Rattle.tinyjson.specs.Events.{literal_tree};
 ghost use Rattle.tinyjson_normal.specs.Compacting.{Holds, IsOf, all_placed, members_of, next_from};
 ghost use Rattle.tinyjson_normal.specs.Compacting.{placed, value_bytes};
-ghost use Rattle.tinyjson_document.specs.Order.{IsOrdered, lasts};
-ghost use Rattle.tinyjson_document.specs.declared.store.Member.{Member as Pair};
+ghost use Rattle.tinyjson_cells.specs.Order.{IsOrdered, lasts};
+ghost use Rattle.tinyjson_cells.specs.declared.store.Member.{Member as Pair};
 ghost use Rattle.tinyjson_number.specs.Text.{decimal_text};
 ghost use Rattle.tinyjson_output.specs.Buffer.{buffered};
 
@@ -20,12 +20,12 @@ use std::alloc::{AllocError, Global};
 use std::io::{self, Write};
 use tinyjson::{Events, JsonNumber};
 use tinyjson_bytes::plain_end;
+use tinyjson_cells::append::{ROOM, append, append_number, append_quoted};
+use tinyjson_cells::ranking::keep_ordered;
+use tinyjson_cells::sorting::rise;
+use tinyjson_cells::store::{Cell, Member, Span, Store, part};
+use tinyjson_cells::texts::Source;
 use tinyjson_document::Node;
-use tinyjson_document::append::{ROOM, append, append_number, append_quoted};
-use tinyjson_document::ranking::keep_ordered;
-use tinyjson_document::sorting::rise;
-use tinyjson_document::store::{Cell, Member, Span, Store, part};
-use tinyjson_document::texts::Source;
 use tinyjson_output::{Buffer, flush, quote, write_number};
 use tinyjson_replay::{NodeEvents, replay};
 

@@ -1,7 +1,7 @@
 use Rattle.std.proofs.Common.{sym, subst}
 use Rattle.tinyjson.specs.Indent.{indent_of}
 use Rattle.tinyjson_output.specs.Buffer.{buffered}
-use Rattle.tinyjson_document.specs.Cell.{IsBytes}
+use Rattle.tinyjson_cells.specs.Cell.{IsBytes}
 use Rattle.tinyjson_document.proofs.Buffering.{taken_back, in_turn}
 use Rattle.tinyjson_document.proofs.quick.quick_member.Goals as goal
 

@@ -10,7 +10,7 @@ use Rattle.tinyjson_output.proofs.Callers.{
   sent_goes as goes,
   sent_written_none as written_none,
 }
-use Rattle.tinyjson_document.specs.Cell.{IsBytes}
+use Rattle.tinyjson_cells.specs.Cell.{IsBytes}
 use Rattle.tinyjson_document.proofs.Buffering.{sent_after, part_after}
 use Rattle.tinyjson_document.proofs.walk.begin_member.Goals as goal
 

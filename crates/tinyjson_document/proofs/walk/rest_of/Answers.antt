@@ -1,6 +1,6 @@
 use Rattle.std.proofs.Common.{◌∙◌, ap, subst}
-use Rattle.tinyjson_document.specs.Cell.{Is}
-use Rattle.tinyjson_document.specs.Order.{part}
+use Rattle.tinyjson_cells.specs.Cell.{Is}
+use Rattle.tinyjson_cells.specs.Order.{part}
 use Rattle.tinyjson_document.proofs.Writing.{seen, array_rest, object_rest}
 use Rattle.tinyjson_document.proofs.walk.rest_of.Goals as goal
 

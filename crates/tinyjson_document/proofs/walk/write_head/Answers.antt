@@ -3,11 +3,11 @@ use Rattle.tinyjson_number.specs.Text.{decimal_text}
 use Rattle.tinyjson_output.specs.Buffer.{Sends, SendsText}
 use Rattle.tinyjson_output.proofs.Callers.{enc_cons, null_bytes}
 use Rattle.tinyjson_grammar.specs.Tree.{array, boolean, null, object}
-use Rattle.tinyjson_document.specs.Cell.{Is, IsBytes}
-use Rattle.tinyjson_document.specs.declared.store.Cell.TheVariants as node
+use Rattle.tinyjson_cells.specs.Cell.{Is, IsBytes}
+use Rattle.tinyjson_cells.specs.declared.store.Cell.TheVariants as node
 use Rattle.tinyjson_document.specs.Walking.{head}
 use Rattle.tinyjson_document.proofs.Buffering.{false_bytes, true_bytes}
-use Rattle.tinyjson_document.proofs.Stored.{number_bytes}
+use Rattle.tinyjson_cells.proofs.Callers.{number_bytes}
 use Rattle.tinyjson_document.proofs.Writing.{head_sent, seen}
 use Rattle.tinyjson_document.proofs.walk.write_head.Goals as goal
 

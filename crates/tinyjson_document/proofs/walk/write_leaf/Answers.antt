@@ -1,5 +1,5 @@
 use Rattle.std.proofs.Common.{◌≡◌, false, subst}
-use Rattle.tinyjson_document.specs.Cell.{Is}
+use Rattle.tinyjson_cells.specs.Cell.{Is}
 use Rattle.tinyjson_document.specs.Walking.{holds_others}
 use Rattle.tinyjson_document.proofs.Writing.{seen}
 use Rattle.tinyjson_document.proofs.Passing.{leaf_array, leaf_object}

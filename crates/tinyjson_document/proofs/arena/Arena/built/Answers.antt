@@ -1,5 +1,5 @@
 use Rattle.std.proofs.Common.{◌≡◌, ◌∙◌, slice_index_or, refl, sym, ap, subst}
-use Rattle.tinyjson_document.specs.Cell.{Is}
+use Rattle.tinyjson_cells.specs.Cell.{Is}
 use Rattle.tinyjson_document.proofs.arena.Arena.built.Goals as goal
 
 pub returns : goal.returns

@@ -1,5 +1,5 @@
 use Rattle.std.proofs.Common.{subst}
-use Rattle.tinyjson_document.specs.Cell.{Is}
+use Rattle.tinyjson_cells.specs.Cell.{Is}
 use Rattle.tinyjson_document.proofs.Writing.{root_is}
 use Rattle.tinyjson_document.proofs.arena.Arena.write_to.Goals as goal
 

@@ -1,6 +1,6 @@
 use Rattle.std.proofs.Common.{refl, ◌∙◌, ap, subst, drop}
-use Rattle.tinyjson_document.specs.Order.{IsOrdered}
-use Rattle.tinyjson_document.proofs.Slices.{slice_rest}
+use Rattle.tinyjson_cells.specs.Order.{IsOrdered}
+use Rattle.tinyjson_cells.proofs.Callers.{slice_rest}
 use Rattle.tinyjson_document.proofs.Waiting.{closes_object, puts_over}
 use Rattle.tinyjson_document.proofs.arena.ArenaEvents.close_object.Goals as goal
 

@@ -1,5 +1,5 @@
 use Rattle.std.proofs.Common.{◌≡◌, ◌∙◌, slice_index_or, sym, ap, subst}
-use Rattle.tinyjson_document.specs.Cell.{Is}
+use Rattle.tinyjson_cells.specs.Cell.{Is}
 use Rattle.tinyjson_document.specs.Known.{known_is}
 use Rattle.tinyjson_document.proofs.document.Document.of_arena.Goals as goal
 

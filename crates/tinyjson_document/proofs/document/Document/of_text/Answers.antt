@@ -5,7 +5,7 @@ use Rattle.tinyjson_grammar.proofs.Callers.{text_sound}
 use Rattle.tinyjson.specs.Events.{TellsText}
 use Rattle.tinyjson_document.specs.Document.{HasTree}
 use Rattle.tinyjson_document.specs.Holding.{IsBuilt}
-use Rattle.tinyjson_document.specs.Texts.{source_bytes}
+use Rattle.tinyjson_cells.specs.Texts.{source_bytes}
 use Rattle.tinyjson_document.proofs.document.Document.of_text.Goals as goal
 
 pub over-requires : goal.over-requires

@@ -3,7 +3,7 @@ use Rattle.std.proofs.lemmas.Grind.{common_steps}
 use Rattle.std.proofs.lemmas.Option.{slice_get_cases}
 use Rattle.tinyjson_document.specs.Document.{tree}
 use Rattle.tinyjson_document.specs.Known.{known_one}
-use Rattle.tinyjson_document.specs.Order.{part}
+use Rattle.tinyjson_cells.specs.Order.{part}
 use Rattle.tinyjson_document.proofs.Places.{cells_at, known_item, known_no_item}
 use Rattle.tinyjson_document.proofs.node.Node.item.Goals as goal
 

@@ -1,8 +1,8 @@
 use Rattle.std.proofs.Common.{◌≡◌, ◌∙◌, sym, ap, subst}
 use Rattle.tinyjson_document.specs.Known.{KnownItems}
-use Rattle.tinyjson_document.specs.Order.{part}
+use Rattle.tinyjson_cells.specs.Order.{part}
 use Rattle.tinyjson_document.proofs.Places.{cells_at, cells_not, items_known, items_left_known}
-use Rattle.tinyjson_document.proofs.Slices.{part_empty}
+use Rattle.tinyjson_cells.proofs.Callers.{part_empty}
 use Rattle.tinyjson_document.proofs.node.Node.items.Goals as goal
 use Rattle.tinyjson_document.proofs.node.Node.items.Goals.{in-Array, in_default}
 

@@ -3,7 +3,7 @@ use Rattle.std.proofs.lemmas.Str.{encodes-chars}
 use Rattle.std.specs.Str.{chars}
 use Rattle.tinyjson_document.specs.Document.{tree}
 use Rattle.tinyjson_document.specs.Known.{known_one}
-use Rattle.tinyjson_document.specs.Order.{part}
+use Rattle.tinyjson_cells.specs.Order.{part}
 use Rattle.tinyjson_document.proofs.Finding.{known_member, known_no_member, sought}
 use Rattle.tinyjson_document.proofs.Places.{members_at}
 use Rattle.tinyjson_document.proofs.node.Node.member.Goals as goal

@@ -1,8 +1,8 @@
 use Rattle.std.proofs.Common.{◌≡◌, ◌∙◌, sym, ap, subst}
 use Rattle.tinyjson_document.specs.Known.{KnownMembers}
-use Rattle.tinyjson_document.specs.Order.{part}
+use Rattle.tinyjson_cells.specs.Order.{part}
 use Rattle.tinyjson_document.proofs.Places.{members_at, members_not, members_known, members_left_known}
-use Rattle.tinyjson_document.proofs.Slices.{part_empty}
+use Rattle.tinyjson_cells.proofs.Callers.{part_empty}
 use Rattle.tinyjson_document.proofs.node.Node.members.Goals as goal
 use Rattle.tinyjson_document.proofs.node.Node.members.Goals.{in-Object, in_default}
 

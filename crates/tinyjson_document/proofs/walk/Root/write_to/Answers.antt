@@ -3,7 +3,7 @@ use Rattle.std.proofs.lemmas.Result.{MatchResult-from_err}
 use Rattle.tinyjson.specs.Indent.{indent_of}
 use Rattle.tinyjson_grammar.specs.Text.{text}
 use Rattle.tinyjson_output.proofs.Callers.{enc, sent_stops_then as stops_then, sent_written_then as written_then}
-use Rattle.tinyjson_document.specs.Cell.{Is}
+use Rattle.tinyjson_cells.specs.Cell.{Is}
 use Rattle.tinyjson_document.specs.Walking.{AreLeft}
 use Rattle.tinyjson_document.proofs.Writing.{behind_flushed, flushed, part_flushed, left_moved}
 use Rattle.tinyjson_document.proofs.walk.Root.write_to.Goals as goal

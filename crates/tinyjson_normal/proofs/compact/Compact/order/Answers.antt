@@ -1,7 +1,7 @@
 use Rattle.std.proofs.Common.{◌≡◌, true, sym, ap, ◌∙◌, ◌++◌, take}
 use Rattle.tinyjson_normal.specs.Compacting.{all_placed}
-use Rattle.tinyjson_document.specs.Order.{rise}
-use Rattle.tinyjson_document.proofs.Callers.{rise_lasts, rise_ordered}
+use Rattle.tinyjson_cells.specs.Order.{rise}
+use Rattle.tinyjson_cells.proofs.Callers.{rise_lasts, rise_ordered}
 use Rattle.tinyjson_normal.proofs.compact.Compact.order.Goals as goal
 
 pub returns-then-rise-clause-text : goal.returns-then-rise-clause-text

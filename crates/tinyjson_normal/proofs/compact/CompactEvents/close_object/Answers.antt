@@ -1,7 +1,7 @@
 use Rattle.std.proofs.Common.{◌≡◌, ap, ◌∙◌, drop, length, arith}
 use Rattle.tinyjson_normal.specs.Compacting.{members_of}
 use Rattle.tinyjson_normal.proofs.Compacting.{closes_object, placed_now}
-use Rattle.tinyjson_document.proofs.Callers.{slice_rest}
+use Rattle.tinyjson_cells.proofs.Callers.{slice_rest}
 use Rattle.tinyjson_normal.proofs.compact.CompactEvents.close_object.Goals as goal
 
 pub returns : goal.returns

@@ -1,9 +1,0 @@
-use Rattle.std.proofs.Common.{◌≡◌, length}
-use Rattle.tinyjson_document.specs.Order.{rise}
-use Rattle.tinyjson_document.proofs.sorting.rise.Given as goal
-
-abbrev pub invariant-loop-member : goal.invariant-loop-member
-invariant-loop-member l = rise l.texts l.rest ≡ rise l.texts l.members
-
-abbrev pub decreases-loop-member : goal.decreases-loop-member
-decreases-loop-member l = length l.rest
