@@ -37,7 +37,7 @@ LIBRARIES = ("tinyjson", "tinyjson_grammar", "tinyjson_number", "tinyjson_normal
 # LIBRARIES the examples are run that assert something; the other ones show a call in the midst of code.
 CRATES = {
     "value_examples": ("tinyjson", "tinyjson_grammar", "tinyjson_number"),
-    "document_examples": ("tinyjson_normal", "tinyjson_document", "tinyjson_replay", "tinyjson_buffers", "tinyjson_path_query"),
+    "document_examples": ("tinyjson_normal", "tinyjson_document", "tinyjson_buffers", "tinyjson_path_query"),
     "text_examples": ("text_iregexp", "text_regexp", "text_ecma_regexp", "text_categories", "text_formats", "text_uri"),
 }
 

@@ -4,9 +4,8 @@ use crate::documents::compact;
 use crate::inputs::Inputs;
 use crate::reply::Reply;
 use std::io;
-use tinyjson_document::{Document, Node};
+use tinyjson_document::{Document, Node, copy};
 use tinyjson_patch::merge_documents;
-use tinyjson_replay::copy;
 
 /// The inputs are texts.
 pub fn answer(reply: &mut Reply, name: &str, inputs: &Inputs) -> io::Result<bool> {

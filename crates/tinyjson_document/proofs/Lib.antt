@@ -13,9 +13,11 @@ pub mod Places
 pub mod Finding
 -- What a value is seen as.
 pub mod Values
--- For proofs of callers.
-pub mod Callers
 -- What a comparison has still to find the same.
 pub mod Comparing
 -- Items and members that are buffered in full, or not at all.
 pub mod Buffering
+-- What is left of a value that is passed to events.
+pub mod Replaying
+-- For proofs of callers.
+pub mod Callers

@@ -11,3 +11,5 @@ pub mod Holding
 pub mod Walking
 -- What a comparison has still to find the same.
 pub mod Comparing
+-- What is left of a value that is passed to events.
+pub mod Replaying

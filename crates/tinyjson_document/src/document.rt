@@ -146,7 +146,7 @@ impl Document {
     ///
     /// ```
     /// let mut arena = Arena::new(alloc);
-    /// replay(alloc, node, &mut arena)?; // of tinyjson_replay
+    /// replay(alloc, node, &mut arena)?;
     /// let copy = Document::of_arena(arena); // its root is equal to the node
     /// ```
     pub fn of_arena(arena: Arena<'static>) -> Document

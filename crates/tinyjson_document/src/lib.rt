@@ -6,17 +6,22 @@
 pub mod arena;
 pub mod document;
 mod equality;
+mod events;
 pub mod iterators;
 mod layout;
 pub mod node;
 pub mod number;
 mod quick;
+mod sending;
 mod text;
 pub mod view;
 mod walk;
 
+pub use arena::Arena;
 pub use document::Document;
+pub use events::NodeEvents;
 pub use iterators::{Items, Members};
 pub use node::Node;
 pub use number::NumberView;
+pub use sending::{copy, replay};
 pub use view::JsonView;

@@ -5,7 +5,7 @@ use Rattle.std.specs.Map.{lookup}
 use Rattle.std.specs.String.{string_cmp}
 use Rattle.tinyjson.specs.View.{text}
 use Rattle.tinyjson_grammar.specs.Tree.{Tree, items_of, put}
-use Rattle.tinyjson_replay.specs.Replaying.{put_members}
+use Rattle.tinyjson_document.specs.Replaying.{put_members}
 use Rattle.tinyjson_edit.specs.Edited.{tree, Item, item_tree, items_tree, members_tree}
 use Rattle.tinyjson_edit.specs.Writing.{listed}
 use Rattle.tinyjson_edit.specs.declared.edited.Edited.{Edited}

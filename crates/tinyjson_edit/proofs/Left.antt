@@ -9,8 +9,8 @@ use Rattle.tinyjson.specs.Events.{Open, in_array, at_key, at_value, Puts}
 use Rattle.tinyjson.specs.View.{text}
 use Rattle.tinyjson_grammar.specs.Tree.{Tree, array, object, items_of, Items, no_items, item, no_members, put}
 use Rattle.tinyjson_document.specs.Comparing.{weight, items_weight, members_weight}
-use Rattle.tinyjson_replay.proofs.Callers.{put_sorted}
-use Rattle.tinyjson_replay.specs.Replaying.{after, put_members}
+use Rattle.tinyjson_document.proofs.Callers.{put_sorted}
+use Rattle.tinyjson_document.specs.Replaying.{after, put_members}
 use Rattle.tinyjson_edit.specs.Edited.{tree, Item, item_tree, items_tree, members_tree}
 use Rattle.tinyjson_edit.specs.Writing.{listed, Encloses, Waits, left_weight}
 use Rattle.tinyjson_edit.specs.declared.write.Left.{Left}

@@ -6,7 +6,7 @@ use Rattle.tinyjson.specs.Events.{Open, in_array, at_key, at_value, Puts}
 use Rattle.tinyjson.specs.View.{text}
 use Rattle.tinyjson_grammar.specs.Tree.{Tree, array, object, item, Members, no_members, member, put}
 use Rattle.tinyjson_document.specs.Comparing.{items_weight, members_weight}
-use Rattle.tinyjson_replay.specs.Replaying.{after, put_members}
+use Rattle.tinyjson_document.specs.Replaying.{after, put_members}
 use Rattle.tinyjson_edit.specs.Edited.{items_tree, seen_entries}
 use Rattle.tinyjson_edit.specs.declared.edited.Edited.{Edited}
 use Rattle.tinyjson_edit.specs.declared.write.Left.{Left}

@@ -13,9 +13,7 @@ use crate::edited::Edited;
 use std::alloc::{AllocError, Global};
 use std::collections::{btree_map, vec_deque};
 use tinyjson::{Events, JsonValue};
-use tinyjson_document::Document;
-use tinyjson_document::arena::Arena;
-use tinyjson_replay::replay;
+use tinyjson_document::{Arena, Document, replay};
 use tinyjson_view::ValueView;
 
 /// What is left of an open container.

@@ -25,9 +25,8 @@ use tinyjson_cells::ranking::keep_ordered;
 use tinyjson_cells::sorting::rise;
 use tinyjson_cells::store::{Cell, Member, Span, Store, part};
 use tinyjson_cells::texts::Source;
-use tinyjson_document::Node;
+use tinyjson_document::{Node, NodeEvents, replay};
 use tinyjson_output::{Buffer, flush, quote, write_number};
-use tinyjson_replay::{NodeEvents, replay};
 
 /// Where an open container begins: its contents in the text, and its members in the list of all.
 #[derive(Clone, Copy)]

@@ -17,7 +17,7 @@ use std::alloc::{AllocError, Global};
 use std::io::{self, ErrorKind, Write};
 use std::str;
 use tinyjson::{JsonGenerateError, JsonGenerateResult, JsonParseError, read_events};
-use tinyjson_document::arena::Arena;
+use tinyjson_document::Arena;
 use tinyjson_output::write_all;
 
 /// The indent of [`NormalText::format`].

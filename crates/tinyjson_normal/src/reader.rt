@@ -12,7 +12,7 @@ use crate::normal::{Content, NormalText};
 use std::alloc::{AllocError, Global};
 use std::mem;
 use tinyjson::{Events, JsonParseError, read_events, read_events_with_depth_limit};
-use tinyjson_document::arena::Arena;
+use tinyjson_document::Arena;
 
 /// Up to this many times the text's length is moved to put members in order.
 const MOVES: usize = 8;

@@ -14,12 +14,12 @@ use Rattle.tinyjson_grammar.specs.Soundness.{IsTree, IsBelow, IsSorted}
 use Rattle.tinyjson_grammar.specs.Tree.{Tree, null, boolean, number, string, array, object}
 use Rattle.tinyjson_grammar.specs.Tree.{Members, no_members, member, put, key_cmp}
 use Rattle.tinyjson_document.proofs.Callers.{members_sound}
-use Rattle.tinyjson_replay.proofs.Callers.{put_sorted}
+use Rattle.tinyjson_document.proofs.Callers.{put_sorted}
 use Rattle.tinyjson_document.specs.Comparing.{weight, members_weight}
 use Rattle.tinyjson_document.specs.Document.{members_left}
 use Rattle.tinyjson_document.specs.Known.{Tree_set}
 use Rattle.tinyjson_document.specs.Parts.{members_in}
-use Rattle.tinyjson_replay.specs.Replaying.{put_members}
+use Rattle.tinyjson_document.specs.Replaying.{put_members}
 use Rattle.tinyjson_document.specs.declared.iterators.Members.{Members as MembersLeft}
 use Rattle.tinyjson_patch.specs.Merge.{members_of, merge_patch, merge_members}
 use Rattle.tinyjson_patch.specs.Merging.{at_first, had, merged_left, Encloses, Waits, Leads, left_weight}

@@ -5,7 +5,7 @@ use Rattle.tinyjson.specs.Soundness.{IsBelow, IsSorted}
 use Rattle.tinyjson.specs.Tree.{Tree, object, Members, no_members, member, put}
 use Rattle.tinyjson_document.specs.Comparing.{members_weight}
 use Rattle.tinyjson_document.specs.Document.{members_left}
-use Rattle.tinyjson_replay.specs.Replaying.{put_members}
+use Rattle.tinyjson_document.specs.Replaying.{put_members}
 use Rattle.tinyjson_document.specs.declared.iterators.Members.{Members as MembersLeft}
 use Rattle.tinyjson_patch.specs.Merge.{merge_members}
 use Rattle.tinyjson_patch.specs.declared.merge_document.Left.{Left}

@@ -7,15 +7,13 @@ ghost use Rattle.tinyjson.specs.Events.{Open, Puts, at_key};
 ghost use Rattle.tinyjson.specs.Tree.{Tree, Members as TreeMembers, key_cmp, null};
 ghost use Rattle.tinyjson_document.specs.Comparing.{weight};
 ghost use Rattle.tinyjson_document.specs.Document.{document_tree, tree};
-ghost use Rattle.tinyjson_replay.specs.Replaying.{put_members};
+ghost use Rattle.tinyjson_document.specs.Replaying.{put_members};
 ghost use Rattle.tinyjson_patch.specs.Merge.{members_of, merge_patch};
 ghost use Rattle.tinyjson_patch.specs.Merging.{Encloses, Leads, Waits, had, left_weight};
 
 use std::alloc::{AllocError, Global};
 use std::cmp::Ordering;
-use tinyjson_document::arena::Arena;
-use tinyjson_document::{Document, Members, Node};
-use tinyjson_replay::NodeEvents;
+use tinyjson_document::{Arena, Document, Members, Node, NodeEvents};
 
 /// What is left of an object of the patch, and of the members of the target beside it, if it is an object there.
 #[derive(Clone, Copy, Drop)]

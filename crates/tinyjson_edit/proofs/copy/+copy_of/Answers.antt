@@ -5,7 +5,7 @@ use Rattle.std.specs.Map.{keys_of}
 use Rattle.std.specs.Str.{chars}
 use Rattle.std.specs.String.{string_cmp}
 use Rattle.std.specs.VecDeque.Iter.{deque_iter_rest}
-use Rattle.tinyjson_replay.specs.Replaying.{put_members}
+use Rattle.tinyjson_document.specs.Replaying.{put_members}
 use Rattle.tinyjson_edit.specs.Edited.{item_tree, members_tree, tree}
 use Rattle.tinyjson_edit.specs.Writing.{listed}
 use Rattle.tinyjson_edit.proofs.Copying.{all_copied, next_copied, next_member_copied}

@@ -1,6 +1,6 @@
 use Rattle.std.proofs.Common.{◌≡◌, ◌+◌, ◌*◌, ◌++◌, length, map}
 use Rattle.std.specs.VecDeque.Iter.{deque_iter_rest}
-use Rattle.tinyjson_replay.specs.Replaying.{put_members}
+use Rattle.tinyjson_document.specs.Replaying.{put_members}
 use Rattle.tinyjson_edit.specs.Edited.{item_tree, members_tree}
 use Rattle.tinyjson_edit.specs.Writing.{listed}
 use Rattle.tinyjson_edit.proofs.copy.+copy_of.Given as goal

@@ -1,4 +1,4 @@
-use Rattle.tinyjson_replay.proofs.Callers.{ok_map}
+use Rattle.tinyjson_document.proofs.Callers.{ok_map}
 use Rattle.tinyjson_view.specs.Views.{members_of, tree_of, trees_of}
 use Rattle.tinyjson_edit.proofs.Counting.{both_spread}
 use Rattle.tinyjson_edit.proofs.count.push_kept.Goals as goal

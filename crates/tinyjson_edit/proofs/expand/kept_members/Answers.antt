@@ -1,8 +1,8 @@
 use Rattle.std.proofs.Common.{◌∙◌, ◌+◌, drop, ap, sym}
 use Rattle.std.specs.Str.{chars}
 use Rattle.tinyjson_grammar.specs.Tree.{no_members, put}
-use Rattle.tinyjson_replay.proofs.Callers.{put_sorted}
-use Rattle.tinyjson_replay.specs.Replaying.{put_members}
+use Rattle.tinyjson_document.proofs.Callers.{put_sorted}
+use Rattle.tinyjson_document.specs.Replaying.{put_members}
 use Rattle.tinyjson_view.proofs.Callers.{drop_at}
 use Rattle.tinyjson_view.specs.Views.{members_of}
 use Rattle.tinyjson_edit.specs.Edited.{tree, members_tree}

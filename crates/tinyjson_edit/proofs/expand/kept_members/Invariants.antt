@@ -1,5 +1,5 @@
 use Rattle.std.proofs.Common.{◌≡◌, drop}
-use Rattle.tinyjson_replay.specs.Replaying.{put_members}
+use Rattle.tinyjson_document.specs.Replaying.{put_members}
 use Rattle.tinyjson_view.specs.Views.{members_of}
 use Rattle.tinyjson_edit.specs.Edited.{members_tree}
 use Rattle.tinyjson_edit.proofs.expand.kept_members.Given as goal

@@ -6,7 +6,7 @@ use Rattle.std.specs.Map.{keys_of}
 use Rattle.std.specs.String.{string_cmp}
 use Rattle.tinyjson.specs.Events.{Puts}
 use Rattle.tinyjson_grammar.specs.Tree.{array, object}
-use Rattle.tinyjson_replay.proofs.Callers.{ok_map}
+use Rattle.tinyjson_document.proofs.Callers.{ok_map}
 use Rattle.tinyjson_edit.specs.Edited.{tree, items_tree, members_tree}
 use Rattle.tinyjson_edit.specs.Writing.{Waits, left_weight}
 use Rattle.tinyjson_edit.specs.declared.write.Left.TheVariants as left

@@ -3,7 +3,7 @@ use Rattle.std.proofs.lemmas.List.{nil_from_length}
 use Rattle.std.proofs.lemmas.Result.{IfOk-from_err}
 use Rattle.std.specs.VecDeque.Iter.{deque_iter_rest}
 use Rattle.tinyjson_document.specs.Comparing.{weight, items_weight, members_weight}
-use Rattle.tinyjson_replay.proofs.Callers.{ok_map}
+use Rattle.tinyjson_document.proofs.Callers.{ok_map}
 use Rattle.tinyjson_edit.specs.Edited.{tree, items_tree}
 use Rattle.tinyjson_edit.specs.Writing.{Waits, left_weight, listed}
 use Rattle.tinyjson_edit.specs.declared.write.Left.TheVariants as left

@@ -4,7 +4,7 @@ use Rattle.tinyjson.specs.Events.{at_key, at_value}
 use Rattle.tinyjson.specs.Tree.{put}
 use Rattle.tinyjson_document.specs.Comparing.{members_weight}
 use Rattle.tinyjson_document.specs.Document.{tree}
-use Rattle.tinyjson_replay.specs.Replaying.{put_members}
+use Rattle.tinyjson_document.specs.Replaying.{put_members}
 use Rattle.tinyjson_patch.specs.Merging.{had}
 use Rattle.tinyjson_patch.proofs.MergingDocuments.{some_weight}
 use Rattle.tinyjson_patch.proofs.merge_document.pass_all.Goals as goal

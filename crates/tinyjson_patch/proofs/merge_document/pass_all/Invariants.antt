@@ -3,7 +3,7 @@ use Rattle.tinyjson.specs.Events.{Open, at_key}
 use Rattle.tinyjson.specs.Tree.{Members}
 use Rattle.tinyjson_document.specs.Comparing.{members_weight}
 use Rattle.tinyjson_document.specs.Document.{members_left}
-use Rattle.tinyjson_replay.specs.Replaying.{put_members}
+use Rattle.tinyjson_document.specs.Replaying.{put_members}
 use Rattle.tinyjson_patch.proofs.merge_document.pass_all.Given as goal
 
 abbrev pub invariant-loop-key : goal.invariant-loop-key

@@ -5,7 +5,7 @@ use Rattle.tinyjson.specs.Events.{at_value}
 use Rattle.tinyjson.specs.Tree.{member, put}
 use Rattle.tinyjson_grammar.proofs.Callers.{flip, key_same}
 use Rattle.tinyjson_document.specs.Document.{members_left, tree}
-use Rattle.tinyjson_replay.specs.Replaying.{put_members}
+use Rattle.tinyjson_document.specs.Replaying.{put_members}
 use Rattle.tinyjson_patch.specs.Merge.{merge_members}
 use Rattle.tinyjson_patch.specs.Merging.{had}
 use Rattle.tinyjson_patch.proofs.MergingDocuments.{leads_above, leads_none, leads_there, same_next, some_weight}

@@ -1,8 +1,8 @@
 use Rattle.std.proofs.Common.{List, reverse}
 use Rattle.tinyjson.specs.Events.{Open}
 use Rattle.tinyjson_document.specs.Document.{tree}
-use Rattle.tinyjson_replay.specs.Replaying.{Waits, left_weight}
-use Rattle.tinyjson_replay.proofs.walk.replay.Given as goal
+use Rattle.tinyjson_document.specs.Replaying.{Waits, left_weight}
+use Rattle.tinyjson_document.proofs.sending.replay.Given as goal
 
 abbrev pub invariant-loop-rest : goal.invariant-loop-rest
 invariant-loop-rest g l = (start : _) (os : List Open) → g.E.Events.holds start l.fn.events os

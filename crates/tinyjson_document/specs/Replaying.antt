@@ -4,8 +4,8 @@ use Rattle.tinyjson_grammar.specs.Tree.{Tree, array, object, Items, item, Member
 use Rattle.tinyjson.specs.Events.{Open, in_array, at_key, at_value, Puts}
 use Rattle.tinyjson_document.specs.Comparing.{items_weight, members_weight}
 use Rattle.tinyjson_document.specs.Document.{items_left, members_left}
-use Rattle.tinyjson_replay.specs.declared.walk.Left.{Left}
-use Rattle.tinyjson_replay.specs.declared.walk.Left.TheVariants as left
+use Rattle.tinyjson_document.specs.declared.sending.Left.{Left}
+use Rattle.tinyjson_document.specs.declared.sending.Left.TheVariants as left
 
 -- the items after these trees
 abbrev pub after : List Tree → Items → Items

@@ -1,7 +1,7 @@
 use Rattle.std.proofs.Common.{[], refl}
 use Rattle.tinyjson_document.proofs.Callers.{node_sound}
 use Rattle.tinyjson_document.specs.Document.{tree}
-use Rattle.tinyjson_replay.proofs.walk.copy.Goals as goal
+use Rattle.tinyjson_document.proofs.sending.copy.Goals as goal
 
 pub replay-requires : goal.replay-requires
 replay-requires c = (c.new-arena.result, [], (c.new-arena.ensures, refl))

@@ -13,11 +13,11 @@ use Rattle.tinyjson_document.specs.Comparing.{weight, items_weight, members_weig
 use Rattle.tinyjson_document.specs.Document.{items_left, members_left}
 use Rattle.tinyjson_document.specs.Known.{Tree_set}
 use Rattle.tinyjson_document.specs.Parts.{boolean_in, items_in, members_in}
-use Rattle.tinyjson_replay.specs.Replaying.{after, put_members, Encloses, Waits, left_weight}
+use Rattle.tinyjson_document.specs.Replaying.{after, put_members, Encloses, Waits, left_weight}
 use Rattle.tinyjson_document.specs.declared.iterators.Items.{Items as ItemsLeft}
 use Rattle.tinyjson_document.specs.declared.iterators.Members.{Members as MembersLeft}
-use Rattle.tinyjson_replay.specs.declared.walk.Left.{Left}
-use Rattle.tinyjson_replay.specs.declared.walk.Left.TheVariants as left
+use Rattle.tinyjson_document.specs.declared.sending.Left.{Left}
+use Rattle.tinyjson_document.specs.declared.sending.Left.TheVariants as left
 
 -- ---- items and members in turn
 

@@ -1,11 +1,11 @@
 use Rattle.std.proofs.Common.{◌≡◌, ◌∷◌, ◌∙◌, ap, arith, reverse, subst}
 use Rattle.std.proofs.lemmas.Result.{IfOk-from_err}
 use Rattle.tinyjson_document.specs.Comparing.{items_weight, members_weight}
-use Rattle.tinyjson_replay.specs.Replaying.{Waits, left_weight}
-use Rattle.tinyjson_replay.specs.declared.walk.Left.TheVariants as left
-use Rattle.tinyjson_replay.proofs.Replaying.{items_closed, members_closed, weight_last}
-use Rattle.tinyjson_replay.proofs.Replaying.{ok_map}
-use Rattle.tinyjson_replay.proofs.walk.resume.Goals as goal
+use Rattle.tinyjson_document.specs.Replaying.{Waits, left_weight}
+use Rattle.tinyjson_document.specs.declared.sending.Left.TheVariants as left
+use Rattle.tinyjson_document.proofs.Replaying.{items_closed, members_closed, weight_last}
+use Rattle.tinyjson_document.proofs.Replaying.{ok_map}
+use Rattle.tinyjson_document.proofs.sending.resume.Goals as goal
 
 pub returns-in_default-clause-waits : goal.returns-in_default-clause-waits
 returns-in_default-clause-waits g c = λ start os t w.

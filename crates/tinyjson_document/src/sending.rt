@@ -1,16 +1,19 @@
-//! The events of a value, without recursion: what is left of the open containers is on a stack.
+//! Passes a value to events, without recursion: what is left of the open containers is on a stack.
 ghost use Rattle.std.specs.Prelude.{◌≡◌, ◌<◌, ◌+◌, ◌∷◌, List, IfOk, OnOk, reverse};
 ghost use Rattle.tinyjson.specs.Events.{Open, Puts};
 ghost use Rattle.tinyjson_grammar.specs.Kind.{kind_of};
 ghost use Rattle.tinyjson_grammar.specs.Tree.{Tree};
 ghost use Rattle.tinyjson_document.specs.Comparing.{weight};
 ghost use Rattle.tinyjson_document.specs.Document.{document_tree, tree};
-ghost use Rattle.tinyjson_replay.specs.Replaying.{Encloses, Waits, left_weight};
+ghost use Rattle.tinyjson_document.specs.Replaying.{Encloses, Waits, left_weight};
 
+use crate::arena::Arena;
+use crate::document::Document;
+use crate::iterators::{Items, Members};
+use crate::node::Node;
+use crate::number::NumberView;
 use std::alloc::{AllocError, Global};
 use tinyjson::{Events, JsonKind};
-use tinyjson_document::arena::Arena;
-use tinyjson_document::{Document, Items, Members, Node, NumberView};
 
 /// What is left of an open container.
 #[derive(Drop)]

@@ -1,9 +1,9 @@
 use Rattle.std.proofs.Common.{◌≡◌, [], ◌∷◌, ◌∙◌, ap, arith, refl, reverse, subst, sym}
 use Rattle.std.proofs.lemmas.List.{nil_from_length, reverse-append}
 use Rattle.tinyjson_document.specs.Document.{tree}
-use Rattle.tinyjson_replay.specs.Replaying.{Encloses, Waits, left_weight}
-use Rattle.tinyjson_replay.proofs.Replaying.{weight_last}
-use Rattle.tinyjson_replay.proofs.walk.replay.Goals as goal
+use Rattle.tinyjson_document.specs.Replaying.{Encloses, Waits, left_weight}
+use Rattle.tinyjson_document.proofs.Replaying.{weight_last}
+use Rattle.tinyjson_document.proofs.sending.replay.Goals as goal
 
 pub loop-rest-init : goal.loop-rest-init
 loop-rest-init g c = λ start os h.

@@ -3,11 +3,11 @@ ghost use Rattle.std.specs.Prelude.{List, OnOk};
 ghost use Rattle.tinyjson.specs.Events.{Open, Puts};
 ghost use Rattle.tinyjson_document.specs.Document.{tree};
 
-use crate::walk::replay;
+use crate::arena::Arena;
+use crate::node::Node;
+use crate::sending::replay;
 use std::alloc::{AllocError, Global};
 use tinyjson::Events;
-use tinyjson_document::Node;
-use tinyjson_document::arena::Arena;
 
 /// Events that take a value of a document, too. What copies the value in a shorter way than event by event does that
 /// here.

@@ -4,11 +4,11 @@ use Rattle.std.proofs.lemmas.Result.{IfOk-from_err}
 use Rattle.tinyjson_document.specs.Comparing.{items_weight, members_weight}
 use Rattle.tinyjson_document.proofs.Callers.{node_sound}
 use Rattle.tinyjson_document.specs.Document.{tree}
-use Rattle.tinyjson_replay.specs.Replaying.{Waits, left_weight}
-use Rattle.tinyjson_replay.specs.declared.walk.Left.TheVariants as left
-use Rattle.tinyjson_replay.proofs.Replaying.{array_weight, completed, items_opened, members_opened, object_weight, some_weight, weight_last}
-use Rattle.tinyjson_replay.proofs.Replaying.{ok_always, ok_map}
-use Rattle.tinyjson_replay.proofs.walk.begin.Goals as goal
+use Rattle.tinyjson_document.specs.Replaying.{Waits, left_weight}
+use Rattle.tinyjson_document.specs.declared.sending.Left.TheVariants as left
+use Rattle.tinyjson_document.proofs.Replaying.{array_weight, completed, items_opened, members_opened, object_weight, some_weight, weight_last}
+use Rattle.tinyjson_document.proofs.Replaying.{ok_always, ok_map}
+use Rattle.tinyjson_document.proofs.sending.begin.Goals as goal
 
 pub returns-in_ok-push-in-Array-clause-less : goal.returns-in_ok-push-in-Array-clause-less
 returns-in_ok-push-in-Array-clause-less g c =
