@@ -28,10 +28,10 @@ def check_documents(calls):
     in_turn = []
     for _, answer in rows.IN_TURN:
         in_turn += answer_of(answer, "document") + ["true"] * isinstance(answer, str)
-    calls.add(rows.IN_TURN[0], "Buffers::read", *(text for text, _ in rows.IN_TURN), gives=in_turn)
+    calls.add(rows.IN_TURN[0], "DocumentReader::read", *(text for text, _ in rows.IN_TURN), gives=in_turn)
     for row in rows.LIMITED:
         text, limit, answer = row
-        calls.add(row, "Buffers::read_with_depth_limit", text, str(limit), gives=refusal(*answer))
+        calls.add(row, "DocumentReader::limited", text, str(limit), gives=refusal(*answer))
 
 
 @calls_of

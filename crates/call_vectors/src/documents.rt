@@ -6,8 +6,7 @@ use crate::reading::error_of;
 use crate::reply::Reply;
 use crate::writing::text_of;
 use std::io;
-use tinyjson_buffers::Buffers;
-use tinyjson_document::{Document, JsonView, Node};
+use tinyjson_document::{Document, DocumentReader, JsonView, Node};
 
 /// The first input is a text. The second is a limit on depth, a key, another text, or what describes a value.
 pub fn answer(reply: &mut Reply, name: &str, inputs: &Inputs) -> io::Result<bool> {
@@ -19,8 +18,8 @@ pub fn answer(reply: &mut Reply, name: &str, inputs: &Inputs) -> io::Result<bool
         "Node::format" => indented(reply, text)?,
         "Node::eq" => equal(reply, text, inputs.text(1))?,
         "Node::equals_value" => equal_to_value(reply, text, inputs.text(1))?,
-        "Buffers::read" => in_turn(reply, inputs.from(0))?,
-        "Buffers::read_with_depth_limit" => limited(reply, text, inputs.count(1).unwrap_or(0))?,
+        "DocumentReader::read" => in_turn(reply, inputs.from(0))?,
+        "DocumentReader::limited" => limited(reply, text, inputs.count(1).unwrap_or(0))?,
         _ => return Ok(false),
     }
     Ok(true)
@@ -84,12 +83,12 @@ fn equal_to_value(reply: &mut Reply, text: &str, words: &str) -> io::Result<()> 
 
 /// What each of the texts is read as, in the memory of those before it.
 fn in_turn(reply: &mut Reply, texts: &[String]) -> io::Result<()> {
-    let buffers = Buffers::new(reply.alloc);
+    let mut reader = DocumentReader::new(reply.alloc);
     for text in texts {
-        match buffers.read(text.as_str()) {
+        match reader.read(text.as_str(), None) {
             Ok(document) => {
                 read(reply, &document, text.as_str())?;
-                buffers.recycle(document);
+                reader.reuse(document);
             }
             Err(error) => error_of(reply, error)?,
         }
@@ -106,7 +105,7 @@ fn read(reply: &mut Reply, document: &Document, text: &str) -> io::Result<()> {
 }
 
 fn limited(reply: &mut Reply, text: &str, limit: usize) -> io::Result<()> {
-    match Buffers::new(reply.alloc).read_with_depth_limit(text, limit) {
+    match DocumentReader::new(reply.alloc).read(text, Some(limit)) {
         Ok(document) => read(reply, &document, text),
         Err(error) => error_of(reply, error),
     }

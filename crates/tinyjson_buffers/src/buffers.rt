@@ -4,18 +4,17 @@ ghost use Rattle.std.specs.Str.{chars};
 ghost use Rattle.tinyjson.specs.Events.{TellsText};
 ghost use Rattle.tinyjson_document.specs.Document.{HasTree};
 
-use crate::memory::Memory;
 use std::alloc::Global;
 use std::cell::RefCell;
 use tinyjson::JsonParseError;
-use tinyjson_document::Document;
+use tinyjson_document::{Document, DocumentReader};
 
 /// Memory for documents of texts that are read one after another. A document takes the memory of the one that was
 /// recycled last, so most take no new memory. What a document took is freed with the buffers, or with the document if
 /// it is not recycled.
 #[derive(Drop)]
 pub struct Buffers {
-    memory: RefCell<Memory>,
+    reader: RefCell<DocumentReader>,
     alloc: Global,
 }
 
@@ -23,7 +22,7 @@ impl Buffers {
     /// Without memory yet.
     pub fn new(alloc: Global) -> Buffers {
         Buffers {
-            memory: RefCell::new(Memory::new(alloc)),
+            reader: RefCell::new(DocumentReader::new(alloc)),
             alloc,
         }
     }
@@ -59,8 +58,8 @@ impl Buffers {
 
     /// Gives the memory of a document to the one that is read next.
     pub fn recycle(&self, document: Document) {
-        if let Ok(mut memory) = self.memory.try_borrow_mut() {
-            memory.take_store(document.into_store());
+        if let Ok(mut reader) = self.reader.try_borrow_mut() {
+            reader.reuse(document);
         }
     }
 
@@ -68,9 +67,9 @@ impl Buffers {
     fn read_limited(&self, limit: Option<usize>, text: &str) -> Result<Document, JsonParseError>
         ensures { TellsText HasTree limit (chars text.now) result }
     {
-        match self.memory.try_borrow_mut() {
-            Ok(mut memory) => memory.read(limit, text),
-            Err(_) => Memory::new(self.alloc).read(limit, text),
+        match self.reader.try_borrow_mut() {
+            Ok(mut reader) => reader.read(text, limit),
+            Err(_) => DocumentReader::new(self.alloc).read(text, limit),
         }
     }
 }

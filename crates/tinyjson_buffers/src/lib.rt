@@ -9,6 +9,5 @@
 #![tactic(auto)]
 
 mod buffers;
-mod memory;
 
 pub use buffers::Buffers;

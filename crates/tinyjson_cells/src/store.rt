@@ -1,4 +1,4 @@
-//! The cells of a document, and the vectors that hold their parts. The vectors only grow.
+//! Cells, which stand for values, and the vectors with their parts.
 ghost use Rattle.std.specs.Prelude.{◌≡◌, ◌≤◌, ◌^◌, ◌⊎◌, ℕ, [], List, IfOk, OnOk, MatchResult, Some};
 ghost use Rattle.std.specs.Prelude.{drop, length, option_map, take};
 ghost use Rattle.std.specs.Str.{chars};
@@ -107,6 +107,44 @@ impl<'t> Store<'t> {
             kept: Vec::new(alloc),
             items: Vec::new(alloc),
             members: Vec::new(alloc),
+            alloc,
+        }
+    }
+
+    /// Forgets all cells and texts but the source. It keeps their memory.
+    pub fn clear(&mut self)
+        ensures added { self.new.texts.added.items ≡ [] }
+        ensures kept { self.new.kept.items ≡ [] }
+        ensures items { self.new.items.items ≡ [] }
+        ensures members { self.new.members.items ≡ [] }
+    {
+        self.texts.clear();
+        self.kept.clear();
+        self.items.clear();
+        self.members.clear();
+    }
+
+    /// The store over another text. A range of the former text is then that range of the new one.
+    pub fn with_source<'s>(self, source: Source<'s>) -> Store<'s>
+        ensures source { source_bytes result.texts.source ≡ source_bytes source.entry }
+        ensures added { result.texts.added.items ≡ self.entry.texts.added.items }
+        ensures kept { result.kept.items ≡ self.entry.kept.items }
+        ensures items { result.items.items ≡ self.entry.items.items }
+        ensures members { result.members.items ≡ self.entry.members.items }
+    {
+        let Store {
+            texts,
+            kept,
+            items,
+            members,
+            alloc,
+        } = self;
+        let added = texts.added;
+        Store {
+            texts: Texts { source, added },
+            kept,
+            items,
+            members,
             alloc,
         }
     }

@@ -16,48 +16,48 @@ use std::io::{self, ErrorKind, Write};
 use tinyjson::{Events, JsonNumber};
 use tinyjson_cells::sorting::pair;
 use tinyjson_cells::store::{Cell, Member, Span, Store};
-use tinyjson_cells::texts::{Source, Texts};
+use tinyjson_cells::texts::Source;
 
 /// Where the pending keys and values of an open container begin.
 #[derive(Clone, Copy)]
-pub struct Place {
-    pub keys: usize,
-    pub values: usize,
+pub(crate) struct Place {
+    pub(crate) keys: usize,
+    pub(crate) values: usize,
 }
 
 /// A tree that is built from a text's events. Keys and values are pending until their container is closed.
 #[derive(Drop)]
 pub struct Arena<'t> {
-    pub store: Store<'t>,
-    pub open: Vec<Place>,
-    pub keys: Vec<Span>,
-    pub values: Vec<Cell>,
+    pub(crate) store: Store<'t>,
+    pub(crate) open: Vec<Place>,
+    pub(crate) keys: Vec<Span>,
+    pub(crate) values: Vec<Cell>,
     /// The members of the object that is being closed.
-    pub gathered: Vec<Member>,
+    pub(crate) gathered: Vec<Member>,
     /// The orders of the members of the last objects, and the members of the last one.
-    pub ranks: Vec<u64>,
-    pub sorted: Vec<Member>,
+    pub(crate) ranks: Vec<u64>,
+    pub(crate) sorted: Vec<Member>,
     /// The greatest number of containers that were open at once.
-    pub deepest: usize,
+    pub(crate) deepest: usize,
 }
 
 /// What an arena has built, without the text that it was over.
 #[derive(Drop)]
-pub struct Built {
-    pub store: Store<'static>,
-    pub root: Cell,
-    pub deepest: usize,
+pub(crate) struct Built {
+    pub(crate) store: Store<'static>,
+    pub(crate) root: Cell,
+    pub(crate) deepest: usize,
 }
 
 /// The vectors of an arena in which something waited.
 #[derive(Drop)]
-pub struct Pending {
-    pub open: Vec<Place>,
-    pub keys: Vec<Span>,
-    pub values: Vec<Cell>,
-    pub gathered: Vec<Member>,
-    pub ranks: Vec<u64>,
-    pub sorted: Vec<Member>,
+pub(crate) struct Pending {
+    pub(crate) open: Vec<Place>,
+    pub(crate) keys: Vec<Span>,
+    pub(crate) values: Vec<Cell>,
+    pub(crate) gathered: Vec<Member>,
+    pub(crate) ranks: Vec<u64>,
+    pub(crate) sorted: Vec<Member>,
 }
 
 impl<'t> Arena<'t> {
@@ -88,32 +88,14 @@ impl<'t> Arena<'t> {
     }
 
     /// What it has built, without the text that was lent, and its other vectors.
-    pub fn built(self) -> (Built, Pending)
+    pub(crate) fn built(self) -> (Built, Pending)
         requires { (t : Tree) × IsTree self t }
         ensures { (t : Tree) → IsTree self.entry t →
             IsBuilt (source_bytes self.entry.store.texts.source) result.0 t }
     {
-        let root = self.values[0];
-        let Store {
-            texts,
-            kept,
-            items,
-            members,
-            alloc,
-        } = self.store;
-        let texts = Texts {
-            source: Source::Lent(""),
-            added: texts.added,
-        };
         let built = Built {
-            store: Store {
-                texts,
-                kept,
-                items,
-                members,
-                alloc,
-            },
-            root,
+            root: self.values[0],
+            store: self.store.with_source(Source::Lent("")),
             deepest: self.deepest,
         };
         let pending = Pending {

@@ -6,7 +6,7 @@ use crate::node::Node;
 use std::alloc::Global;
 use tinyjson::{JsonParseError, read_events, read_events_with_depth_limit};
 use tinyjson_cells::store::{Cell, Store};
-use tinyjson_cells::texts::{Source, Texts};
+use tinyjson_cells::texts::Source;
 
 /// A JSON text that was parsed once, to be read in place. It is immutable, and it is kept in a few vectors. The
 /// members of an object are in the order of their keys.
@@ -92,39 +92,15 @@ impl Document {
     }
 
     /// The document of what was built over this text.
-    #[doc(hidden)]
-    pub fn over(built: Built, text: String) -> Document
+    pub(crate) fn over(built: Built, text: String) -> Document
         requires { (t : Tree) × IsBuilt (string_bytes text) built t × ∥ sound.IsTree t ∥₁ }
         ensures { (t : Tree) → IsBuilt (string_bytes text) built t → HasTree result t }
     {
-        let Store {
-            texts,
-            kept,
-            items,
-            members,
-            alloc,
-        } = built.store;
-        let texts = Texts {
-            source: Source::Kept(text),
-            added: texts.added,
-        };
         Document {
-            store: Store {
-                texts,
-                kept,
-                items,
-                members,
-                alloc,
-            },
+            store: built.store.with_source(Source::Kept(text)),
             root: built.root,
             deepest: built.deepest,
         }
-    }
-
-    /// The vectors of a document that is given up.
-    #[doc(hidden)]
-    pub fn into_store(self) -> Store<'static> {
-        self.store
     }
 
     /// The root: the value of the whole text.

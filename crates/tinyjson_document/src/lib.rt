@@ -2,8 +2,7 @@
 //! node is a value in it, and is copied like an index.
 #![tactic(auto)]
 
-#[doc(hidden)]
-pub mod arena;
+mod arena;
 pub mod document;
 mod equality;
 mod events;
@@ -12,6 +11,7 @@ mod layout;
 pub mod node;
 pub mod number;
 mod quick;
+mod reader;
 mod sending;
 mod text;
 pub mod view;
@@ -23,5 +23,6 @@ pub use events::NodeEvents;
 pub use iterators::{Items, Members};
 pub use node::Node;
 pub use number::NumberView;
+pub use reader::DocumentReader;
 pub use sending::{copy, replay};
 pub use view::JsonView;

@@ -1,34 +1,51 @@
-//! The vectors that documents leave.
+//! Reads texts one after another into documents.
 ghost use Rattle.std.specs.Prelude.{◌≡◌, []};
 ghost use Rattle.std.specs.Str.{chars};
 ghost use Rattle.tinyjson.specs.Events.{TellsText, without_events};
+ghost use Rattle.tinyjson_cells.specs.Texts.{source_bytes};
 ghost use Rattle.tinyjson_document.specs.Document.{HasTree};
 ghost use Rattle.tinyjson_document.specs.Holding.{Holds, HoldsOver, IsBuilt, IsTreeOver};
-ghost use Rattle.tinyjson_cells.specs.Texts.{source_bytes};
 
+use crate::arena::{Arena, Built, Pending};
+use crate::document::Document;
 use std::alloc::Global;
 use std::mem;
 use tinyjson::{JsonParseError, read_events, read_events_with_depth_limit};
 use tinyjson_cells::store::Store;
-use tinyjson_cells::texts::{Source, Texts};
-use tinyjson_document::Document;
-use tinyjson_document::arena::{Arena, Built, Pending};
+use tinyjson_cells::texts::Source;
 
-/// The vectors of a document, and of the arena that builds it.
+/// Parses texts one after the other, and keeps the memory of each for the next. It is for many small texts, as the
+/// lines of a log. It keeps as much memory as the largest text took.
+///
+/// ```
+/// let mut reader = DocumentReader::new(alloc);
+/// let mut output = Vec::new(alloc);
+/// for line in ["[1.0]", r#"{"b": 2, "a": 1}"#] {
+///     let document = reader.read(line, None)?;
+///     document.root().write_to(alloc, &mut output)?;
+///     reader.reuse(document);
+/// }
+/// assert_eq!(rt; output.as_slice(), br#"[1]{"a":1,"b":2}"#.as_slice());
+/// ```
 #[derive(Drop)]
-pub struct Memory {
-    /// The text that a document keeps.
-    source: String,
+pub struct DocumentReader {
+    alloc: Global,
+    /// The text of the last document, if it was returned.
+    text: String,
     store: Store<'static>,
     pending: Pending,
-    alloc: Global,
 }
 
-impl Memory {
-    /// Without memory yet.
-    pub fn new(alloc: Global) -> Memory {
-        Memory {
-            source: String::new(alloc),
+impl DocumentReader {
+    /// A reader without memory yet.
+    ///
+    /// ```
+    /// let mut reader = DocumentReader::new(alloc);
+    /// ```
+    pub fn new(alloc: Global) -> DocumentReader {
+        DocumentReader {
+            alloc,
+            text: String::new(alloc),
             store: Store::new(alloc, Source::Lent("")),
             pending: Pending {
                 open: Vec::new(alloc),
@@ -38,27 +55,50 @@ impl Memory {
                 ranks: Vec::new(alloc),
                 sorted: Vec::new(alloc),
             },
-            alloc,
         }
     }
 
-    /// Parses a text. There may be a limit on nested containers.
-    pub fn read(&mut self, limit: Option<usize>, text: &str) -> Result<Document, JsonParseError>
+    /// Parses a text with at most `limit` nested containers, or any number for `None`. It returns what
+    /// [`Document::read`] and [`Document::read_with_depth_limit`] return, whatever was parsed before. The document
+    /// keeps a copy of the text.
+    ///
+    /// ```
+    /// let mut reader = DocumentReader::new(alloc);
+    /// assert!(rt; reader.read("[[1]]", Some(2)).is_ok());
+    /// let result = reader.read("[[1]]", Some(1));
+    /// assert!(rt; result.is_err_and(|error| error.kind() == JsonParseErrorKind::TooDeep('[')));
+    /// ```
+    pub fn read(&mut self, text: &str, limit: Option<usize>) -> Result<Document, JsonParseError>
         ensures { TellsText HasTree limit (chars text.now) result }
     {
-        let source = self.copy_of(text);
-        match self.build(limit, text, source.as_str()) {
-            Ok(built) => Ok(Document::over(built, source)),
+        let copy = self.copy_of(text);
+        match self.build(text, limit, copy.as_str()) {
+            Ok(built) => Ok(Document::over(built, copy)),
             Err(error) => {
-                self.source = source;
+                self.text = copy;
                 Err(error)
             }
         }
     }
 
+    /// Returns the memory of a document to the reader.
+    ///
+    /// ```
+    /// let mut reader = DocumentReader::new(alloc);
+    /// let document = reader.read("[1.0]", None)?;
+    /// reader.reuse(document);
+    /// ```
+    pub fn reuse(&mut self, document: Document) {
+        let mut store = document.store;
+        if let Source::Kept(text) = mem::replace(&mut store.texts.source, Source::Lent("")) {
+            self.text = text;
+        }
+        self.store = store;
+    }
+
     /// A copy of a text for a document to keep, or nothing where memory runs out.
     fn copy_of(&mut self, text: &str) -> String {
-        let mut copy = mem::replace(&mut self.source, String::new(self.alloc));
+        let mut copy = mem::replace(&mut self.text, String::new(self.alloc));
         copy.clear();
         if copy.push_str(text).is_err() {
             copy.clear();
@@ -70,21 +110,21 @@ impl Memory {
     /// limit on nested containers.
     fn build(
         &mut self,
-        limit: Option<usize>,
         text: &str,
+        limit: Option<usize>,
         source: &str,
     ) -> Result<Built, JsonParseError>
         ensures { TellsText (IsBuilt source.now) limit (chars text.now) result }
     {
         let arena = self.arena(source);
-        match read_limited(self.alloc, limit, text, arena) {
+        match read_into(self.alloc, text, limit, arena) {
             Ok(arena) => {
                 let (built, pending) = arena.built();
                 self.pending = pending;
                 Ok(built)
             }
             Err((error, arena)) => {
-                self.take_arena(arena);
+                self.take(arena);
                 Err(error)
             }
         }
@@ -96,19 +136,11 @@ impl Memory {
         ensures text { source_bytes result.store.texts.source ≡ text.now }
     {
         let alloc = self.alloc;
-        let store = &mut self.store;
+        let mut store = mem::replace(&mut self.store, Store::new(alloc, Source::Lent("")));
+        store.clear();
         let pending = &mut self.pending;
         Arena {
-            store: Store {
-                texts: Texts {
-                    source: Source::Lent(text),
-                    added: emptied(alloc, &mut store.texts.added),
-                },
-                kept: emptied(alloc, &mut store.kept),
-                items: emptied(alloc, &mut store.items),
-                members: emptied(alloc, &mut store.members),
-                alloc,
-            },
+            store: store.with_source(Source::Lent(text)),
             open: emptied(alloc, &mut pending.open),
             keys: emptied(alloc, &mut pending.keys),
             values: emptied(alloc, &mut pending.values),
@@ -121,8 +153,8 @@ impl Memory {
     }
 
     /// Takes the memory of an arena.
-    fn take_arena(&mut self, arena: Arena<'_>) {
-        self.take_store(arena.store);
+    fn take(&mut self, arena: Arena<'_>) {
+        self.store = arena.store.with_source(Source::Lent(""));
         self.pending = Pending {
             open: arena.open,
             keys: arena.keys,
@@ -132,38 +164,13 @@ impl Memory {
             sorted: arena.sorted,
         };
     }
-
-    /// Takes the memory of a store, and of the text that it kept.
-    pub fn take_store(&mut self, store: Store<'_>) {
-        let Store {
-            texts,
-            kept,
-            items,
-            members,
-            alloc,
-        } = store;
-        let Texts { source, added } = texts;
-        if let Source::Kept(source) = source {
-            self.source = source;
-        }
-        self.store = Store {
-            texts: Texts {
-                source: Source::Lent(""),
-                added,
-            },
-            kept,
-            items,
-            members,
-            alloc,
-        };
-    }
 }
 
 /// What an arena holds of a text. There may be a limit on nested containers.
-fn read_limited<'t>(
+fn read_into<'t>(
     alloc: Global,
-    limit: Option<usize>,
     text: &str,
+    limit: Option<usize>,
     arena: Arena<'t>,
 ) -> Result<Arena<'t>, (JsonParseError, Arena<'t>)>
     requires { HoldsOver arena arena [] }

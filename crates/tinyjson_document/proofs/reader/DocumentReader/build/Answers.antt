@@ -1,6 +1,6 @@
 use Rattle.std.proofs.Common.{◌∙◌, sym, subst}
 use Rattle.tinyjson_document.specs.Holding.{IsBuilt}
-use Rattle.tinyjson_buffers.proofs.memory.Memory.build.Goals as goal
+use Rattle.tinyjson_document.proofs.reader.DocumentReader.build.Goals as goal
 
 pub returns-in-Ok : goal.returns-in-Ok
 returns-in-Ok c =

@@ -1,7 +1,7 @@
 use Rattle.std.proofs.Common.{subst}
 use Rattle.tinyjson_grammar.proofs.Callers.{text_sound}
 use Rattle.tinyjson_document.specs.Holding.{IsBuilt}
-use Rattle.tinyjson_buffers.proofs.memory.Memory.read.Goals as goal
+use Rattle.tinyjson_document.proofs.reader.DocumentReader.read.Goals as goal
 
 pub over-requires : goal.over-requires
 over-requires c =
