@@ -6,8 +6,7 @@ use crate::reply::Reply;
 use std::alloc::Global;
 use std::io::{self, ErrorKind};
 use tinyjson::JsonParseError;
-use tinyjson_places::{Place, key_place_of, place_of};
-use tinyjson_pointer::Pointer;
+use tinyjson_pointer::{Place, Pointer, key_place_of, place_of};
 
 /// The inputs are a text and a pointer.
 pub fn answer(reply: &mut Reply, name: &str, inputs: &Inputs) -> io::Result<bool> {

@@ -14,7 +14,7 @@ use Rattle.tinyjson.specs.View.{view, text, items_view}
 use Rattle.tinyjson.specs.declared.value.JsonValue.{JsonValue}
 use Rattle.tinyjson.specs.declared.value.JsonValue.TheVariants as is
 use Rattle.tinyjson_pointer.proofs.Changing.{last_is, rest_is}
-use Rattle.tinyjson_pointer.proofs.Places.{begins, removal, at_index}
+use Rattle.tinyjson_pointer.proofs.Children.{begins, removal, at_index}
 use Rattle.tinyjson_pointer.proofs.Steps.{nth_past}
 use Rattle.tinyjson_pointer.specs.Change.{all_but_last, without_child, without_step, Removes}
 use Rattle.tinyjson_pointer.specs.Index.{index_of}

@@ -3,7 +3,8 @@ pub mod Steps
 pub mod Replacing
 pub mod Indices
 pub mod Changing
-pub mod Places
+pub mod Children
 pub mod Beside
 pub mod Viewed
 pub mod Callers
+pub mod Locating

@@ -5,3 +5,6 @@ pub mod Siblings
 pub mod Index
 pub mod Walk
 pub mod Change
+pub mod Spots
+pub mod Places
+pub mod private

@@ -4,7 +4,7 @@ use Rattle.std.proofs.lemmas.Bool.{false≢true}
 use Rattle.std.specs.Prelude.{IsSome}
 use Rattle.tinyjson.specs.Grammar.{IsLoose, IsText, IsAccepted}
 use Rattle.tinyjson.specs.Tree.{Tree}
-use Rattle.tinyjson_places.specs.Places.{Locates}
+use Rattle.tinyjson_pointer.specs.Places.{Locates}
 use Rattle.tinyjson_pointer.specs.Walk.{part_at}
 
 unlimited : (limit : Option ℕ) (xs : List ℕ) → IsLoose limit xs → IsLoose None xs

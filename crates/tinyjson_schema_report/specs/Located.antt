@@ -3,8 +3,8 @@ use Rattle.std.specs.Prelude.{ℕ, Bool, true, false, ◌||◌, ◌⊎◌, pos, 
 use Rattle.std.specs.Str.{bytes_eq}
 use Rattle.tinyjson.specs.Number.{integer_decimal}
 use Rattle.tinyjson.specs.Tree.{Tree, number, object, put}
-use Rattle.tinyjson_places.specs.Places.{Locates, LocatesKey}
-use Rattle.tinyjson_places.specs.declared.place.Place.{Place}
+use Rattle.tinyjson_pointer.specs.Places.{Locates, LocatesKey}
+use Rattle.tinyjson_pointer.specs.declared.place.Place.{Place}
 use Rattle.tinyjson_pointer.specs.Siblings.{child_name}
 use Rattle.tinyjson_pointer.specs.Tokens.{tokens_of}
 use Rattle.tinyjson_schema.specs.declared.violation.Violation.{Violation}

@@ -7,7 +7,7 @@ ghost use Rattle.tinyjson_grammar.specs.Grammar.{IsText};
 ghost use Rattle.tinyjson_grammar.specs.Tree.{Tree};
 ghost use Rattle.tinyjson_pointer.specs.Tokens.{tokens_of};
 ghost use Rattle.tinyjson_pointer.specs.Walk.{part_at};
-ghost use Rattle.tinyjson_places.specs.Places.{Locates};
+ghost use Rattle.tinyjson_pointer.specs.Places.{Locates};
 ghost use Rattle.tinyjson_schema_report.specs.Located.{IsLocated, IsPlace, located_tree, with_column};
 ghost use Rattle.tinyjson_schema_report.specs.Located.{forbids_member};
 ghost use Rattle.tinyjson_schema_report.specs.Every.{IsAtPart};
@@ -17,8 +17,7 @@ use crate::report::output_unit;
 use std::alloc::{AllocError, Global};
 use std::collections::VecDeque;
 use tinyjson::{JsonNumber, JsonValue};
-use tinyjson_places::{Place, key_place_in, place_in};
-use tinyjson_pointer::{Pointer, put_member};
+use tinyjson_pointer::{Place, Pointer, key_place_in, place_in, put_member};
 use tinyjson_schema::Violation;
 
 /// What a value violates of a schema, and where in its text.

@@ -1,6 +1,6 @@
 use Rattle.std.specs.Str.{chars}
 use Rattle.tinyjson.specs.View.{view}
-use Rattle.tinyjson_pointer.proofs.Places.{into_object}
+use Rattle.tinyjson_pointer.proofs.Children.{into_object}
 use Rattle.tinyjson_pointer.proofs.change.insert_child.Goals as goal
 
 pub returns-in-Some : goal.returns-in-Some

@@ -1,7 +1,7 @@
 use Rattle.std.proofs.Common.{◌≡◌, arith, length, refl}
 use Rattle.std.specs.Str.{chars}
 use Rattle.tinyjson.specs.View.{view}
-use Rattle.tinyjson_pointer.proofs.Places.{not_placed, placed}
+use Rattle.tinyjson_pointer.proofs.Children.{not_placed, placed}
 use Rattle.tinyjson_pointer.proofs.change.insert_item.Goals as goal
 
 pub returns-in_default : goal.returns-in_default

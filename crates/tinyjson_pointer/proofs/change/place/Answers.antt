@@ -1,5 +1,5 @@
 use Rattle.std.proofs.Common.{arith, sym, ◌∙◌}
-use Rattle.tinyjson_pointer.proofs.Places.{dash_place, no_place}
+use Rattle.tinyjson_pointer.proofs.Children.{dash_place, no_place}
 use Rattle.tinyjson_pointer.proofs.change.place.Goals as goal
 
 pub returns-then-eq : goal.returns-then-eq

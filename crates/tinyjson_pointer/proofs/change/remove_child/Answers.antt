@@ -1,5 +1,5 @@
 use Rattle.std.specs.Str.{chars}
-use Rattle.tinyjson_pointer.proofs.Places.{out_of_object}
+use Rattle.tinyjson_pointer.proofs.Children.{out_of_object}
 use Rattle.tinyjson_pointer.proofs.change.remove_child.Goals as goal
 
 pub returns-in-Some : goal.returns-in-Some

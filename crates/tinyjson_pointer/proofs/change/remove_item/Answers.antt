@@ -1,6 +1,6 @@
 use Rattle.std.proofs.Common.{arith, ◌≡◌, ◌≤◌, ◌^◌, ℕ, length, Some, refl}
 use Rattle.std.specs.Str.{chars}
-use Rattle.tinyjson_pointer.proofs.Places.{none_removed, no_removal, removal}
+use Rattle.tinyjson_pointer.proofs.Children.{none_removed, no_removal, removal}
 use Rattle.tinyjson_pointer.specs.Index.{index_of}
 use Rattle.tinyjson_pointer.proofs.change.remove_item.Goals as goal
 

@@ -4,7 +4,7 @@ use Rattle.std.specs.Box.{box_value}
 use Rattle.std.specs.Str.{chars}
 use Rattle.tinyjson.specs.View.{view}
 use Rattle.tinyjson_pointer.proofs.Beside.{boxes_inserted}
-use Rattle.tinyjson_pointer.proofs.Places.{not_placed, placed}
+use Rattle.tinyjson_pointer.proofs.Children.{not_placed, placed}
 use Rattle.tinyjson_pointer.proofs.siblings.insert_at.Goals as goal
 
 pub returns-in_default : goal.returns-in_default

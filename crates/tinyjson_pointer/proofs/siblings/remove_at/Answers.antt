@@ -3,7 +3,7 @@ use Rattle.std.proofs.lemmas.List.{length-map}
 use Rattle.std.specs.Box.{box_value}
 use Rattle.std.specs.Str.{chars}
 use Rattle.tinyjson_pointer.proofs.Beside.{nothing_there, removes_at, same_items, held_in, held_out, held_at, held_left, box_none}
-use Rattle.tinyjson_pointer.proofs.Places.{none_removed}
+use Rattle.tinyjson_pointer.proofs.Children.{none_removed}
 use Rattle.tinyjson_pointer.specs.Index.{index_of}
 use Rattle.tinyjson_pointer.proofs.siblings.remove_at.Goals as goal
 

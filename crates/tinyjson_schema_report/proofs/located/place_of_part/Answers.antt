@@ -1,6 +1,6 @@
 use Rattle.std.proofs.Common.{Ok, subst}
 use Rattle.std.specs.Str.{chars}
-use Rattle.tinyjson_places.specs.Places.{Locates}
+use Rattle.tinyjson_pointer.specs.Places.{Locates}
 use Rattle.tinyjson_pointer.specs.Tokens.{tokens_of}
 use Rattle.tinyjson_schema_report.proofs.Placing.{accepted, never_missed}
 use Rattle.tinyjson_schema_report.proofs.located.place_of_part.Goals as goal

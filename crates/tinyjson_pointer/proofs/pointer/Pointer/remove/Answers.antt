@@ -4,7 +4,7 @@ use Rattle.std.specs.Str.{chars}
 use Rattle.tinyjson.proofs.Callers.{view_IsTree}
 use Rattle.tinyjson.specs.View.{view, text}
 use Rattle.tinyjson_pointer.proofs.Changing.{removes_in, nothing_without}
-use Rattle.tinyjson_pointer.proofs.Places.{none_removed}
+use Rattle.tinyjson_pointer.proofs.Children.{none_removed}
 use Rattle.tinyjson_pointer.specs.Change.{without_child, without_part, Removes}
 use Rattle.tinyjson_pointer.specs.Tokens.{tokens_of}
 use Rattle.tinyjson_pointer.specs.Walk.{step, part_at}

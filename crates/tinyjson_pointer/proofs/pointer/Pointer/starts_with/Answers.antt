@@ -1,7 +1,7 @@
 use Rattle.std.proofs.Common.{◌∙◌, ap}
 use Rattle.std.specs.List.{starts_with}
 use Rattle.std.specs.String.{string_eq}
-use Rattle.tinyjson_pointer.proofs.Places.{begins}
+use Rattle.tinyjson_pointer.proofs.Children.{begins}
 use Rattle.tinyjson_pointer.proofs.pointer.Pointer.starts_with.Goals as goal
 
 pub returns : goal.returns

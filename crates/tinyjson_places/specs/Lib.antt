@@ -1,3 +1,0 @@
-pub mod Spots
-pub mod Places
-pub mod private
