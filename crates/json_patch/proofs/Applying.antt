@@ -14,10 +14,10 @@ use Rattle.tinyjson.specs.Grammar.{IsText}
 use Rattle.tinyjson.specs.Tree.{Tree}
 use Rattle.tinyjson.specs.Written.{Written, WrittenPart, WritesText}
 use Rattle.tinyjson_cli.specs.Layout.{laid_out}
-use Rattle.tinyjson_edit.specs.Copies.{all_copies, IsWithin}
-use Rattle.tinyjson_edit.specs.Patched.{GivesDocument, WritesPatched}
-use Rattle.tinyjson_edit.specs.declared.error.EditError.{EditError}
-use Rattle.tinyjson_edit.specs.declared.error.EditError.TheVariants as edit
+use Rattle.tinyjson_patch.specs.Copies.{all_copies, IsWithin}
+use Rattle.tinyjson_patch.specs.Patched.{GivesDocument, WritesPatched}
+use Rattle.tinyjson_patch.specs.declared.edit.error.EditError.{EditError}
+use Rattle.tinyjson_patch.specs.declared.edit.error.EditError.TheVariants as edit
 use Rattle.tinyjson_patch.specs.Operation.{Action}
 use Rattle.tinyjson_patch.specs.Patch.{all_applied}
 use Rattle.json_patch.specs.Apply.{Answers, GivesPatched, GivesPatchedOf, GivesWithin, TellsFailure, copy_limit}

@@ -13,9 +13,9 @@ use Rattle.tinyjson.specs.Parser.{ParsesText}
 use Rattle.tinyjson.specs.Tree.{Tree}
 use Rattle.tinyjson.specs.Written.{WrittenPart}
 use Rattle.tinyjson_cli.specs.Layout.{laid_out}
-use Rattle.tinyjson_edit.specs.Copies.{all_copies}
-use Rattle.tinyjson_edit.specs.declared.error.EditError.{EditError}
-use Rattle.tinyjson_edit.specs.declared.error.EditError.TheVariants as edit
+use Rattle.tinyjson_patch.specs.Copies.{all_copies}
+use Rattle.tinyjson_patch.specs.declared.edit.error.EditError.{EditError}
+use Rattle.tinyjson_patch.specs.declared.edit.error.EditError.TheVariants as edit
 use Rattle.tinyjson_patch.specs.Message.{numbered_message}
 use Rattle.tinyjson_patch.specs.Operation.{Action, reason_message}
 use Rattle.tinyjson_patch.specs.Patch.{all_applied}

@@ -13,9 +13,8 @@ use std::io::{self, ErrorKind, Write};
 use tinyjson::JsonParseError;
 use tinyjson_buffers::Buffers;
 use tinyjson_document::{Document, Node};
-use tinyjson_edit::{EditError, patch_document, write_patched};
 use tinyjson_lines::write_all;
-use tinyjson_patch::{Patch, Reason};
+use tinyjson_patch::{EditError, Patch, Reason, patch_document, write_patched};
 
 /// How many values the copies of a patch may copy for any text.
 const COPIES: usize = 1_000_000;

@@ -1,6 +1,7 @@
 pub mod Beside
 pub mod Callers
 pub mod Documents
+pub mod Editing
 pub mod Entries
 pub mod Examples
 pub mod Merging

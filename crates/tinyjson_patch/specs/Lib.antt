@@ -6,3 +6,6 @@ pub mod Operation
 pub mod Patch
 pub mod Reading
 pub mod Running
+pub mod Copies
+pub mod Patched
+pub mod private

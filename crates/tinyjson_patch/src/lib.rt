@@ -6,6 +6,8 @@
 //! ```
 //! let patch = Patch::from_value(alloc, &document)?;
 //! patch.apply(alloc, &mut value)?;
+//! let patched = patch_document(alloc, &patch, document.root(), 1_000)?; // of a document, without building a value
+//! write_patched(alloc, &patch, document.root(), 1_000, &mut output)??; // its text alone
 //! ```
 //!
 //! JSON Merge Patch (RFC 7396) is a value. Its members are merged into the target, and `null` removes a
@@ -20,6 +22,7 @@
 mod among;
 mod boxes;
 mod document;
+mod edit;
 mod fault;
 mod merge_document;
 mod merge_patch;
@@ -27,6 +30,7 @@ mod operation;
 mod patch;
 mod run;
 
+pub use edit::{EditError, patch_document, write_patched};
 pub use fault::{Fault, Member, PatchError};
 pub use merge_document::{merge_documents, merge_into};
 pub use merge_patch::merge;

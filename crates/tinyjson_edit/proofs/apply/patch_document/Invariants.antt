@@ -1,9 +1,0 @@
-use Rattle.tinyjson_document.specs.Document.{document_tree, tree}
-use Rattle.tinyjson_edit.proofs.Running.{IsBehind}
-use Rattle.tinyjson_edit.proofs.Taken.{AreTaken}
-use Rattle.tinyjson_edit.proofs.apply.patch_document.Given as goal
-
-abbrev pub invariant-loop : goal.invariant-loop
-invariant-loop l =
-    IsBehind l.total l.patch.operations.items (tree l.node) l.rest (document_tree l.document)
-    × AreTaken l.fn.most l.left l.patch.operations.items (tree l.node) l.rest (document_tree l.document)
