@@ -14,7 +14,7 @@ use Rattle.tinyjson_view.specs.declared.view.ValueView.{ValueView}
 use Rattle.tinyjson_patch.specs.Operation as op
 use Rattle.tinyjson_patch.specs.Operation.{Action, applied, or_fail}
 use Rattle.tinyjson_patch.specs.declared.operation.Reason.TheVariants.{NoPlace, NoTarget}
-use Rattle.tinyjson_pointer.specs.Change.{with_item_before, without_nth, without_item, place_of}
+use Rattle.tinyjson_pointer.specs.Change.{with_item_before, without_nth, without_item, insertion_index}
 use Rattle.tinyjson_pointer.specs.Index.{index_of}
 use Rattle.tinyjson_pointer.specs.Walk.{step, item_of, with_item_of}
 use Rattle.tinyjson_diff.specs.Steps.{AreBelow, Begun, Changes, IsPast, RemoveItems}
@@ -68,7 +68,7 @@ one_index k i j h g = by (sym h ∙ g)
     by : Some i ≡ Some j → i ≡ j
     by e = cc
 
-place_from : (n : ℕ) (k : List ℕ) (i : ℕ) → index_of k ≡ Some i → place_of n k ≡ Some i
+place_from : (n : ℕ) (k : List ℕ) (i : ℕ) → index_of k ≡ Some i → insertion_index n k ≡ Some i
 place_from n k i h = by (bytes_eq k (codes "-")) refl
   where
     by : (b : Bool) → bytes_eq k (codes "-") ≡ b → cond b (Some n) (index_of k) ≡ Some i

@@ -14,8 +14,6 @@ use Rattle.tinyjson.specs.Tree.{Tree, null, array, Items, no_items, item}
 use Rattle.tinyjson.specs.View.{text}
 use Rattle.tinyjson_pointer.proofs.Changing.{part_put, part_again, part_back, with_last, is_back}
 pub use Rattle.tinyjson_pointer.proofs.Changing.{new_part_at, part_last, without_part_at}
-pub use Rattle.tinyjson_pointer.proofs.Children.{dash_place, no_place}
-pub use Rattle.tinyjson_pointer.proofs.Viewed.{no_item_step}
 use Rattle.tinyjson_pointer.proofs.Tokens.{split_pointer}
 use Rattle.tinyjson_pointer.specs.Change.{with_item_before, without_nth, with_child, without_child, without_item, without_step}
 use Rattle.tinyjson_pointer.specs.Change.{changed_at, all_but_last, last_of, with_new_part, without_part}

@@ -19,7 +19,7 @@ use Rattle.tinyjson.specs.declared.value.JsonValue.{JsonValue}
 use Rattle.tinyjson.specs.declared.value.JsonValue.TheVariants as is
 use Rattle.tinyjson_pointer.proofs.Changing.{items_inserted, none_inserted, items_removed}
 use Rattle.tinyjson_pointer.proofs.Steps.{no_item}
-use Rattle.tinyjson_pointer.specs.Change.{place_of, with_item_before, with_child, without_child, without_item, without_step}
+use Rattle.tinyjson_pointer.specs.Change.{insertion_index, with_item_before, with_child, without_child, without_item, without_step}
 use Rattle.tinyjson_pointer.specs.Change.{Inserts, Removes}
 use Rattle.tinyjson_pointer.specs.Index.{index_of}
 use Rattle.tinyjson_pointer.specs.Tokens.{begins_with}
@@ -34,12 +34,12 @@ begins (x ∷ xs) (y ∷ ys) =
 
 -- ---- the place that a token names in an array
 
-pub dash_place : (bs : List ℕ) (count : ℕ) → bytes_eq bs (codes "-") ≡ true → place_of count (chars bs) ≡ Some count
+pub dash_place : (bs : List ℕ) (count : ℕ) → bytes_eq bs (codes "-") ≡ true → insertion_index count (chars bs) ≡ Some count
 dash_place bs count h =
     ap (λ b. cond b (Some count) (index_of (chars bs))) ((bytes_eq-Decides (chars bs) (codes "-")).1
     (ap chars ((bytes_eq-Decides bs (codes "-")).0 h) ∙ chars_literal (codes "-") refl))
 
-other_place : (bs : List ℕ) (count : ℕ) → IsUtf8 bs → bytes_eq bs (codes "-") ≡ false → place_of count (chars bs) ≡ index_of (chars bs)
+other_place : (bs : List ℕ) (count : ℕ) → IsUtf8 bs → bytes_eq bs (codes "-") ≡ false → insertion_index count (chars bs) ≡ index_of (chars bs)
 other_place bs count u h = by (bytes_eq (chars bs) (codes "-")) refl
   where
     by : (b : Bool) → bytes_eq (chars bs) (codes "-") ≡ b → cond b (Some count) (index_of (chars bs)) ≡ index_of (chars bs)
@@ -52,27 +52,27 @@ other_place bs count u h = by (bytes_eq (chars bs) (codes "-")) refl
 
 pub no_place : (bs : List ℕ) (count : ℕ) (r : Option ℕ) → r ≡ None → IsUtf8 bs → bytes_eq bs (codes "-") ≡ false → count < 2 ^ 64
     → ((i : ℕ) → index_of (chars bs) ≡ Some i → 2 ^ 64 ≤ i)
-    → MatchOption r ((i : ℕ) → place_of count (chars bs) ≡ Some i → count < i) (λ i. (place_of count (chars bs) ≡ Some i) × (i ≤ count))
+    → MatchOption r ((i : ℕ) → insertion_index count (chars bs) ≡ Some i → count < i) (λ i. (insertion_index count (chars bs) ≡ Some i) × (i ≤ count))
 no_place bs count None e u h f n = λ i g. let k : 2 ^ 64 ≤ i = n i (sym (other_place bs count u h) ∙ g) in omega arith
 no_place bs count (Some x) e u h f n = cc
 
 -- ---- items
 
-pub not_placed : (vs : List JsonValue) (k : List ℕ) (u : Tree) (n : ℕ) → n ≡ length vs → ((i : ℕ) → place_of n k ≡ Some i → n < i)
+pub not_placed : (vs : List JsonValue) (k : List ℕ) (u : Tree) (n : ℕ) → n ≡ length vs → ((i : ℕ) → insertion_index n k ≡ Some i → n < i)
     → with_child (array (items_view vs)) k u ≡ None
 not_placed vs k u n e h =
-    ap (λ m. option_map array (option_and_then (λ i. with_item_before (items_view vs) i u) (place_of m k))) (item_count_view vs ∙ sym e)
-    ∙ by (place_of n k) refl
+    ap (λ m. option_map array (option_and_then (λ i. with_item_before (items_view vs) i u) (insertion_index m k))) (item_count_view vs ∙ sym e)
+    ∙ by (insertion_index n k) refl
   where
-    by : (o : Option ℕ) → place_of n k ≡ o → option_map array (option_and_then (λ i. with_item_before (items_view vs) i u) o) ≡ None
+    by : (o : Option ℕ) → insertion_index n k ≡ o → option_map array (option_and_then (λ i. with_item_before (items_view vs) i u) o) ≡ None
     by None at = refl
     by (Some i) at = let past : n < i = h i at in ap (option_map array) (none_inserted vs i u (omega arith))
 
-pub placed : (vs ws : List JsonValue) (k : List ℕ) (v : JsonValue) (n i : ℕ) → n ≡ length vs → place_of n k ≡ Some i → i ≤ n
+pub placed : (vs ws : List JsonValue) (k : List ℕ) (v : JsonValue) (n i : ℕ) → n ≡ length vs → insertion_index n k ≡ Some i → i ≤ n
     → ws ≡ insert vs i v → with_child (array (items_view vs)) k (view v) ≡ Some (array (items_view ws))
 placed vs ws k v n i e at within is =
     ap (λ m. option_map array (option_and_then (λ j. with_item_before (items_view vs) j (view v))
-    (place_of m k))) (item_count_view vs ∙ sym e)
+    (insertion_index m k))) (item_count_view vs ∙ sym e)
     ∙ (ap (λ o. option_map array (option_and_then (λ j. with_item_before (items_view vs) j (view v)) o)) at
     ∙ (ap (option_map array) (items_inserted vs i v (omega arith)) ∙ ap (λ xs. Some (array (items_view xs))) (sym is)))
 

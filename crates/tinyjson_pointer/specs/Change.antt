@@ -24,13 +24,13 @@ without_nth (item t ts) zero = ts
 without_nth (item t ts) (suc i) = item t (without_nth ts i)
 
 -- the index at which a token inserts an item into an array of this length; `-` is the end
-abbrev pub place_of : ℕ → List ℕ → Option ℕ
-place_of count k = cond (bytes_eq k (codes "-")) (Some count) (index_of k)
+abbrev pub insertion_index : ℕ → List ℕ → Option ℕ
+insertion_index count k = cond (bytes_eq k (codes "-")) (Some count) (index_of k)
 
 -- the container with u inserted at the token: a member, or one more item
 abbrev pub with_child : Tree → List ℕ → Tree → Option Tree
 with_child (object ms) k u = Some (object (put k u ms))
-with_child (array ts) k u = option_map array (option_and_then (λ i. with_item_before ts i u) (place_of (item_count ts) k))
+with_child (array ts) k u = option_map array (option_and_then (λ i. with_item_before ts i u) (insertion_index (item_count ts) k))
 with_child _ k u = None
 
 abbrev pub without_item : Items → Option ℕ → Items

@@ -5,7 +5,7 @@ ghost use Rattle.std.specs.Prelude.{OnOk};
 ghost use Rattle.std.specs.Str.{chars};
 ghost use Rattle.tinyjson.specs.Tree.{null, array, object, put};
 ghost use Rattle.tinyjson.specs.View.{view, text, items_view, members_view};
-ghost use Rattle.tinyjson_pointer.specs.Change.{place_of, with_child, without_child, with_new_part};
+ghost use Rattle.tinyjson_pointer.specs.Change.{insertion_index, with_child, without_child, with_new_part};
 ghost use Rattle.tinyjson_pointer.specs.Change.{without_part, Inserts, Removes};
 ghost use Rattle.tinyjson_pointer.specs.Tokens.{tokens_of, begins_with};
 ghost use Rattle.tinyjson_pointer.specs.Walk.{step, part_at, with_part};
@@ -176,7 +176,7 @@ fn insert_item(items: &mut Vec<JsonValue>, token: &str, part: JsonValue) -> Resu
         (with_child (array (items_view items.old.items)) (chars token.now) (view part))
         (array (items_view items.old.items)) result (array (items_view items.new.items)) }
 {
-    let Some(at) = place(token, items.len()) else {
+    let Some(at) = insertion_index(token, items.len()) else {
         part.dismantle();
         return Err(InsertError::NoPlace);
     };
@@ -189,11 +189,15 @@ fn insert_item(items: &mut Vec<JsonValue>, token: &str, part: JsonValue) -> Resu
     }
 }
 
-/// The index at which the token inserts an item into an array of `count` items.
-pub(crate) fn place(token: &str, count: usize) -> Option<usize>
+/// The index at which the token inserts an item into an array of `count` items, as [`Pointer::insert`] does.
+///
+/// ```
+/// insertion_index("-", 2) // Some(2); of "1": Some(1); of "3": None
+/// ```
+pub fn insertion_index(token: &str, count: usize) -> Option<usize>
     ensures { MatchOption result
-        ((i : ℕ) → place_of count (chars token.now) ≡ Some i → count < i)
-        (λ i. (place_of count (chars token.now) ≡ Some i) × (i ≤ count)) }
+        ((i : ℕ) → insertion_index count (chars token.now) ≡ Some i → count < i)
+        (λ i. (insertion_index count (chars token.now) ≡ Some i) × (i ≤ count)) }
 {
     if token == "-" {
         return Some(count);

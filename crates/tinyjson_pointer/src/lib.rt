@@ -18,6 +18,8 @@ mod view;
 mod walk;
 
 pub use array_index::index;
-pub use change::{InsertError, put_member};
+pub use change::{InsertError, insertion_index, put_member};
 pub use place::{Place, key_place_in, key_place_of, place_in, place_of};
 pub use pointer::{Pointer, PointerError};
+pub use view::child_part;
+pub use walk::child;

@@ -12,7 +12,7 @@ ghost use Rattle.tinyjson_pointer.specs.Tokens.{tokens_of};
 ghost use Rattle.tinyjson_pointer.specs.Walk.{step};
 
 use crate::array_index::index;
-use crate::change::{InsertError, place, put_back, take_at};
+use crate::change::{InsertError, insertion_index, put_back, take_at};
 use crate::pointer::Pointer;
 use std::collections::VecDeque;
 use tinyjson::JsonValue;
@@ -151,7 +151,7 @@ fn insert_at(
         (with_child (array (boxes_view items.old.items)) (chars token.now) (view part.value))
         (array (boxes_view items.old.items)) result (array (boxes_view items.new.items)) }
 {
-    let Some(at) = place(token, items.len()) else {
+    let Some(at) = insertion_index(token, items.len()) else {
         Box::into_inner(part).dismantle();
         return Err(InsertError::NoPlace);
     };

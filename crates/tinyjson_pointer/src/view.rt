@@ -28,8 +28,12 @@ impl Pointer {
     }
 }
 
-/// The part that one token names.
-fn child_part<'t, V: JsonView<'t>>(view: V, token: &str) -> Option<V>
+/// The part that one token names in a document's node, or in another [`JsonView`].
+///
+/// ```
+/// let part = child_part(document.root(), "0"); // of [7,8] the number 7
+/// ```
+pub fn child_part<'t, V: JsonView<'t>>(view: V, token: &str) -> Option<V>
     ensures { option_map V.tree result ≡ step (V.tree view) (chars token.now) }
 {
     match view.kind() {

@@ -43,8 +43,12 @@ impl Pointer {
     }
 }
 
-/// The part that one token names.
-fn child<'v>(value: &'v JsonValue, token: &str) -> Option<&'v JsonValue>
+/// The part of the value that one token names.
+///
+/// ```
+/// let part = child(&value, "0"); // of [7,8] the number 7
+/// ```
+pub fn child<'v>(value: &'v JsonValue, token: &str) -> Option<&'v JsonValue>
     ensures { option_map (λ x. view x.now) result ≡ step (view value.now) (chars token.now) }
 {
     match value {

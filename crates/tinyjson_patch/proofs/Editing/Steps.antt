@@ -10,7 +10,7 @@ use Rattle.std.specs.String.{string_cmp}
 use Rattle.std.specs.declared.collections.VecDeque.{VecDeque}
 use Rattle.tinyjson.specs.Index.{nth, with_nth, item_count}
 use Rattle.tinyjson_grammar.specs.Tree.{Tree, array, object, Items, no_items, item, find, put}
-use Rattle.tinyjson_pointer.specs.Change.{place_of, with_item_before, with_child, without_nth, without_item, without_step, without_child}
+use Rattle.tinyjson_pointer.specs.Change.{insertion_index, with_item_before, with_child, without_nth, without_item, without_step, without_child}
 use Rattle.tinyjson_pointer.specs.Index.{index_of}
 use Rattle.tinyjson_pointer.specs.Walk.{step, item_of}
 use Rattle.tinyjson_patch.specs.private.Edited.{tree, Item, item_tree, items_tree, members_tree}
@@ -100,24 +100,24 @@ module _ (e : Edited) (m : EditedMap) (is_object : e ≡ is.Object m) (bs : List
 
 -- ---- items that are put into an array, or taken out of it
 
-pub not_placed : (es : List Item) (k : List ℕ) (u : Tree) (n : ℕ) → n ≡ length es → ((i : ℕ) → place_of n k ≡ Some i → n < i)
+pub not_placed : (es : List Item) (k : List ℕ) (u : Tree) (n : ℕ) → n ≡ length es → ((i : ℕ) → insertion_index n k ≡ Some i → n < i)
     → with_child (array (items_tree es)) k u ≡ None
 not_placed es k u n e h =
-    ap (λ m. option_map array (option_and_then (λ i. with_item_before (items_tree es) i u) (place_of m k))) (count_tree es ∙ sym e)
-    ∙ by (place_of n k) refl
+    ap (λ m. option_map array (option_and_then (λ i. with_item_before (items_tree es) i u) (insertion_index m k))) (count_tree es ∙ sym e)
+    ∙ by (insertion_index n k) refl
   where
-    by : (o : Option ℕ) → place_of n k ≡ o → option_map array (option_and_then (λ i. with_item_before (items_tree es) i u) o) ≡ None
+    by : (o : Option ℕ) → insertion_index n k ≡ o → option_map array (option_and_then (λ i. with_item_before (items_tree es) i u) o) ≡ None
     by None at = refl
     by (Some i) at = let past : n < i = h i at in ap (option_map array) (none_inserted es i u (omega arith))
 
-placed : (es fs : List Item) (k : List ℕ) (e : Item) (n i : ℕ) → n ≡ length es → place_of n k ≡ Some i → i ≤ n
+placed : (es fs : List Item) (k : List ℕ) (e : Item) (n i : ℕ) → n ≡ length es → insertion_index n k ≡ Some i → i ≤ n
     → fs ≡ insert es i e → with_child (array (items_tree es)) k (item_tree e) ≡ Some (array (items_tree fs))
 placed es fs k e n i same at within is =
-    ap (λ m. option_map array (option_and_then (λ j. with_item_before (items_tree es) j (item_tree e)) (place_of m k))) (count_tree es ∙ sym same)
+    ap (λ m. option_map array (option_and_then (λ j. with_item_before (items_tree es) j (item_tree e)) (insertion_index m k))) (count_tree es ∙ sym same)
     ∙ (ap (λ o. option_map array (option_and_then (λ j. with_item_before (items_tree es) j (item_tree e)) o)) at
     ∙ (ap (option_map array) (items_inserted es i e (omega arith)) ∙ ap (λ xs. Some (array (items_tree xs))) (sym is)))
 
-pub placed_of : (es fs : List Item) (k : List ℕ) (b : Item) (e : Edited) (n i : ℕ) → n ≡ length es → place_of n k ≡ Some i → i ≤ n
+pub placed_of : (es fs : List Item) (k : List ℕ) (b : Item) (e : Edited) (n i : ℕ) → n ≡ length es → insertion_index n k ≡ Some i → i ≤ n
     → fs ≡ insert es i b → item_tree b ≡ tree e → with_child (array (items_tree es)) k (tree e) ≡ Some (array (items_tree fs))
 placed_of es fs k b e n i same at within is held =
     ap (with_child (array (items_tree es)) k) (sym held) ∙ placed es fs k b n i same at within is

@@ -1,12 +1,12 @@
 //! Changes of the part that tokens name.
-ghost use Rattle.std.specs.Prelude.{◌≡◌, [], ℕ, ◌<◌, ◌≤◌, Some, Err, MatchOption, map};
+ghost use Rattle.std.specs.Prelude.{◌≡◌, [], Err, map};
 ghost use Rattle.std.specs.Str.{chars};
 ghost use Rattle.tinyjson.specs.View.{text};
 ghost use Rattle.tinyjson_grammar.specs.Tree.{array, no_items, object};
 ghost use Rattle.tinyjson_patch.specs.private.Changes.{Changes, ChangesPart, Inserts, Removes};
 ghost use Rattle.tinyjson_patch.specs.private.Edited.{tree, items_tree, members_tree};
 ghost use Rattle.tinyjson_patch.specs.private.Opening.{closed};
-ghost use Rattle.tinyjson_pointer.specs.Change.{place_of, with_child, without_child};
+ghost use Rattle.tinyjson_pointer.specs.Change.{with_child, without_child};
 ghost use Rattle.tinyjson_pointer.specs.Walk.{step};
 
 use crate::edit::edited::Edited;
@@ -14,7 +14,7 @@ use crate::edit::opened::{Opened, close_all, go_down};
 use std::alloc::{AllocError, Global};
 use std::collections::{BTreeMap, VecDeque};
 use std::mem;
-use tinyjson_pointer::index;
+use tinyjson_pointer::{index, insertion_index};
 
 /// Why a value is not changed.
 #[derive(Clone, Copy)]
@@ -192,7 +192,7 @@ fn insert_item<'d>(
         (with_child (array (items_tree items.old.items)) (chars token.now) (tree child.entry))
         result (array (items_tree items.new.items)) }
 {
-    let Some(at) = place(token, items.len()) else {
+    let Some(at) = insertion_index(token, items.len()) else {
         child.dismantle(alloc);
         return Err(ChangeError::NoPlace);
     };
@@ -210,22 +210,6 @@ fn insert_item<'d>(
             Err(ChangeError::OutOfMemory)
         }
     }
-}
-
-/// The index at which the token inserts an item into an array of `count` items.
-fn place(token: &str, count: usize) -> Option<usize>
-    ensures { MatchOption result
-        ((i : ℕ) → place_of count (chars token.now) ≡ Some i → count < i)
-        (λ i. (place_of count (chars token.now) ≡ Some i) × (i ≤ count)) }
-{
-    if token == "-" {
-        return Some(count);
-    }
-    let at = index(token)?;
-    if at > count {
-        return None;
-    }
-    Some(at)
 }
 
 #[tactic(auto, using(crate::proofs::Editing::Trees::tree_Array))]

@@ -4,12 +4,9 @@ ghost use Rattle.std.specs.Str.{chars};
 ghost use Rattle.tinyjson_patch.specs.private.Edited.{tree, part_tree};
 ghost use Rattle.tinyjson_pointer.specs.Tokens.{tokens_of};
 ghost use Rattle.tinyjson_pointer.specs.Walk.{step, part_at};
-ghost use Rattle.tinyjson_view.specs.Views.{tree_of};
 
 use crate::edit::edited::Edited;
-use tinyjson::JsonKind;
-use tinyjson_document::JsonView;
-use tinyjson_pointer::{Pointer, index};
+use tinyjson_pointer::{Pointer, child_part, index};
 use tinyjson_view::ValueView;
 
 /// A part of a value.
@@ -47,7 +44,7 @@ fn child<'e, 'd>(part: Part<'e, 'd>, token: &str) -> Option<Part<'e, 'd>>
     ensures { option_map part_tree result ≡ step (part_tree part.entry) (chars token.now) }
 {
     match part {
-        Part::Kept(view) => Some(Part::Kept(viewed(view, token)?)),
+        Part::Kept(view) => Some(Part::Kept(child_part(view, token)?)),
         Part::Changed(value) => changed(value, token),
     }
 }
@@ -57,26 +54,8 @@ fn changed<'e, 'd>(value: &'e Edited<'d>, token: &str) -> Option<Part<'e, 'd>>
     ensures { option_map part_tree result ≡ step (tree value.now) (chars token.now) }
 {
     match value {
-        Edited::Kept(view) => Some(Part::Kept(viewed(*view, token)?)),
+        Edited::Kept(view) => Some(Part::Kept(child_part(*view, token)?)),
         Edited::Array(items) => Some(part_of(items.get(index(token)?)?.as_ref())),
         Edited::Object(members) => Some(part_of(members.get(token)?)),
-    }
-}
-
-/// The part that one token names in a value as it was.
-fn viewed<'d>(view: ValueView<'d>, token: &str) -> Option<ValueView<'d>>
-    ensures { option_map tree_of result ≡ step (tree_of view.entry) (chars token.now) }
-{
-    match view.kind() {
-        JsonKind::Object => view.member(token),
-        JsonKind::Array => {
-            let count = view.len();
-            let at = index(token)?;
-            if at >= count {
-                return None;
-            }
-            view.item(at)
-        }
-        _ => None,
     }
 }

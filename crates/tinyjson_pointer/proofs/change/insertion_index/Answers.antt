@@ -1,6 +1,6 @@
 use Rattle.std.proofs.Common.{arith, sym, ◌∙◌}
 use Rattle.tinyjson_pointer.proofs.Children.{dash_place, no_place}
-use Rattle.tinyjson_pointer.proofs.change.place.Goals as goal
+use Rattle.tinyjson_pointer.proofs.change.insertion_index.Goals as goal
 
 pub returns-then-eq : goal.returns-then-eq
 returns-then-eq c = (dash_place c.args.token.now c.args.count (sym c.eq.ensures ∙ c.if-eq.true), omega arith)
