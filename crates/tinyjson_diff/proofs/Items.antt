@@ -8,12 +8,13 @@ use Rattle.std.proofs.lemmas.Slice.Eq.{bytes_eq-Decides}
 use Rattle.std.specs.Prelude.{option_and_then}
 use Rattle.tinyjson.proofs.Callers.{nth_past, nth_with_nth, with_nth_back}
 use Rattle.tinyjson.specs.Index.{item_count, nth, with_nth}
-use Rattle.tinyjson.specs.Tree.{Tree, array, Items, no_items, item}
+use Rattle.tinyjson.specs.Tree.{Tree, array, Items, item}
 use Rattle.tinyjson_view.specs.Views.{tree_of, trees_of}
 use Rattle.tinyjson_view.specs.declared.view.ValueView.{ValueView}
 use Rattle.tinyjson_patch.specs.Operation as op
 use Rattle.tinyjson_patch.specs.Operation.{Action, applied, or_fail}
 use Rattle.tinyjson_patch.specs.declared.operation.Reason.TheVariants.{NoPlace, NoTarget}
+use Rattle.tinyjson_pointer.proofs.Callers.{with_nth_again}
 use Rattle.tinyjson_pointer.specs.Change.{with_item_before, without_nth, without_item, insertion_index}
 use Rattle.tinyjson_pointer.specs.Index.{index_of}
 use Rattle.tinyjson_pointer.specs.Walk.{step, item_of, with_item_of}
@@ -47,11 +48,6 @@ removed_last [] v zero h = refl
 removed_last [] v (suc i) h = absurd (omega arith)
 removed_last (d ∷ ds) v zero h = absurd (omega arith)
 removed_last (d ∷ ds) v (suc i) h = ap (item (tree_of d)) (removed_last ds v i (omega arith))
-
-set_again : (ts : Items) (i : ℕ) (x y : Tree) → with_nth (with_nth ts i x) i y ≡ with_nth ts i y
-set_again no_items i x y = refl
-set_again (item t ts) zero x y = refl
-set_again (item t ts) (suc i) x y = ap (item t) (set_again ts i x y)
 
 counted_trees : (vs : List ValueView) → item_count (trees_of vs) ≡ length vs
 counted_trees [] = refl
@@ -268,7 +264,7 @@ module _ (r : ℕ) (vs ws : List ValueView) (i : ℕ) (w : ValueView) (more : Li
         (λ q x e. ap (item_of (with_nth (trees_of (h.done ++ p ∷ others)) i x)) e
         ∙ nth_with_nth (trees_of (h.done ++ p ∷ others)) i x (tree_of p) there)
         (λ q x y e. ap (λ o. array (with_item_of (with_nth (trees_of (h.done ++ p ∷ others)) i x) o y)) e
-        ∙ ap array (set_again (trees_of (h.done ++ p ∷ others)) i x y))
+        ∙ ap array (with_nth_again (trees_of (h.done ++ p ∷ others)) i x y))
         (IsTurned i (length ws)) (IsTurned (i + 1) (length ws)) xs ys inner no_other weaker own
         (subst (λ z. Begun r (array (trees_of vs)) (array (trees_of ws)) z (IsTurned i (length ws)) xs) (sym back) h.begun) c below);
   }

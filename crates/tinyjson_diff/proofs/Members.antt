@@ -9,6 +9,7 @@ use Rattle.tinyjson.specs.Tree.{Tree, object, Members, no_members, member, find,
 use Rattle.tinyjson_patch.specs.Operation as op
 use Rattle.tinyjson_patch.specs.Operation.{Action, applied, or_fail}
 use Rattle.tinyjson_patch.specs.declared.operation.Reason.TheVariants.{NoTarget}
+use Rattle.tinyjson_pointer.proofs.Callers.{put_again}
 use Rattle.tinyjson_pointer.specs.Change.{without_step}
 use Rattle.tinyjson_diff.specs.Steps.{AreBelow, Begun, Changes, kept, RemoveMembers}
 use Rattle.tinyjson_diff.proofs.Leading.{add_more, alone_new, alone_old, begun_ends, begun_none, begun_same, part_more, remove_more}
@@ -180,16 +181,6 @@ adding_begins r os ns xs s h =
     by : (o n : Option Tree) → kept o n ≡ turned n (kept o n) n
     by o (Some t) = refl
     by o None = refl
-
-same_cond : (b : Bool) (x y : Tree) (o : Option Tree) → cond b (Some y) (cond b (Some x) o) ≡ cond b (Some y) o
-same_cond true x y o = refl
-same_cond false x y o = refl
-
-put_again : (k : List ℕ) (x y : Tree) (ms : Members) → IsSorted ms → put k y (put k x ms) ≡ put k y ms
-put_again k x y ms s =
-    members_from_find (put k y (put k x ms)) (put k y ms) (sorted_put k y (put k x ms) (sorted_put k x ms s)) (sorted_put k y ms s)
-    (λ q. find_put q k y (put k x ms) ∙ (ap (cond (bytes_eq q k) (Some y)) (find_put q k x ms)
-    ∙ (same_cond (bytes_eq q k) x y (find q ms) ∙ sym (find_put q k y ms))))
 
 -- the object with x at the key
 abbrev set_member : Members → List ℕ → Tree → Tree

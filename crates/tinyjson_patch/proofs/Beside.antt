@@ -17,7 +17,7 @@ use Rattle.tinyjson_patch.proofs.Merging.{changed, one_change, sorted_merge, sor
 
 -- ---- the order of keys
 
-itself : (k : List ℕ) → key_cmp k k ≡ Equal
+pub itself : (k : List ℕ) → key_cmp k k ≡ Equal
 itself k = by (key_cmp k k) refl
   where
     by : (o : Ordering) → key_cmp k k ≡ o → o ≡ Equal

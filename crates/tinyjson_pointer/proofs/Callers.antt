@@ -1,4 +1,5 @@
--- What callers need of the text of a pointer, and of the container of a place, apart from the tree that holds it.
+-- What callers need of the text of a pointer, of parts that are replaced again, and of the container of a place, apart
+-- from the tree that holds it.
 use Rattle.std.proofs.Common.{◌≡◌, ◌==◌, ◌&&◌, ℕ, zero, suc, Bool, true, false, cond, bytes_eq, codes, List, [], ◌∷◌, ◌++◌, map}
 use Rattle.std.proofs.Common.{Option, Some, None, IsSome, IsTrue, String, Global}
 use Rattle.std.proofs.Common.{encode_utf8_all, string_bytes, option_map, refl, sym, ap, ◌∙◌}
@@ -13,7 +14,7 @@ use Rattle.tinyjson.specs.Index.{nth, with_nth, item_count}
 use Rattle.tinyjson.specs.Tree.{Tree, null, array, Items, no_items, item}
 use Rattle.tinyjson.specs.View.{text}
 use Rattle.tinyjson_pointer.proofs.Changing.{part_put, part_again, part_back, with_last, is_back}
-pub use Rattle.tinyjson_pointer.proofs.Changing.{new_part_at, part_last, without_part_at}
+pub use Rattle.tinyjson_pointer.proofs.Changing.{new_part_at, part_last, put_again, with_nth_again, without_part_at}
 use Rattle.tinyjson_pointer.proofs.Tokens.{split_pointer}
 use Rattle.tinyjson_pointer.specs.Change.{with_item_before, without_nth, with_child, without_child, without_item, without_step}
 use Rattle.tinyjson_pointer.specs.Change.{changed_at, all_but_last, last_of, with_new_part, without_part}

@@ -58,13 +58,13 @@ same_cond : (b : Bool) (q w : Tree) (o : Option Tree) → cond b (Some w) (cond 
 same_cond true q w o = refl
 same_cond false q w o = refl
 
-put_again : (k : List ℕ) (q w : Tree) (ms : Members) → IsSorted ms → put k w (put k q ms) ≡ put k w ms
+pub put_again : (k : List ℕ) (q w : Tree) (ms : Members) → IsSorted ms → put k w (put k q ms) ≡ put k w ms
 put_again k q w ms s =
     members_from_find (put k w (put k q ms)) (put k w ms) (sorted_put k w (put k q ms) (sorted_put k q ms s)) (sorted_put k w ms s)
     (λ x. find_put x k w (put k q ms) ∙ (ap (cond (bytes_eq x k) (Some w)) (find_put x k q ms)
     ∙ (same_cond (bytes_eq x k) q w (find x ms) ∙ sym (find_put x k w ms))))
 
-with_nth_again : (ts : Items) (i : ℕ) (q w : Tree) → with_nth (with_nth ts i q) i w ≡ with_nth ts i w
+pub with_nth_again : (ts : Items) (i : ℕ) (q w : Tree) → with_nth (with_nth ts i q) i w ≡ with_nth ts i w
 with_nth_again no_items i q w = refl
 with_nth_again (item t ts) zero q w = refl
 with_nth_again (item t ts) (suc i) q w = ap (item t) (with_nth_again ts i q w)

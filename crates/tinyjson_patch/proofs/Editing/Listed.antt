@@ -9,14 +9,15 @@ use Rattle.std.specs.Cmp.Lexicographic.{slice_cmp}
 use Rattle.std.specs.List.Sorted.{IsStrictlySortedBy}
 use Rattle.std.specs.Map.{keys_of, lookup}
 use Rattle.std.specs.Option.{IsSome}
-use Rattle.std.specs.Ordering.{nat_cmp, is_eq, ordering_reverse}
+use Rattle.std.specs.Ordering.{nat_cmp, is_eq}
 use Rattle.std.specs.Str.{IsUtf8, chars, encode_utf8_all}
 use Rattle.std.specs.String.{string_cmp}
 use Rattle.tinyjson.proofs.Callers.{find_put, find_remove, members_from_find, sorted_put, sorted_remove}
-use Rattle.tinyjson_grammar.proofs.Callers.{key_same, key_total}
+use Rattle.tinyjson_grammar.proofs.Callers.{key_same}
 use Rattle.tinyjson_grammar.specs.Characters.{text}
 use Rattle.tinyjson_grammar.specs.Soundness.{IsBelow, IsSorted}
 use Rattle.tinyjson_grammar.specs.Tree.{Tree, Members, no_members, member, key_cmp, put, put_at, find, remove}
+use Rattle.tinyjson_patch.proofs.Beside.{itself}
 use Rattle.tinyjson_patch.specs.private.Edited.{tree, members_tree}
 use Rattle.tinyjson_patch.specs.private.Writing.{listed}
 use Rattle.tinyjson_patch.specs.declared.edit.edited.Edited.{Edited}
@@ -35,14 +36,6 @@ cmp_is bs k u =
 
 key_cmp_is : (k l : String Global) → key_cmp (text k) (text l) ≡ string_cmp k l
 key_cmp_is k l = cmp_is (string_bytes k) l (IsUtf8-string_bytes k)
-
-itself : (k : List ℕ) → key_cmp k k ≡ Equal
-itself k = by (key_cmp k k) refl
-  where
-    by : (o : Ordering) → key_cmp k k ≡ o → o ≡ Equal
-    by Less e = let f : Less ≡ Greater = sym e ∙ (key_total.antisymm k k ∙ ap ordering_reverse e) in cc
-    by Equal e = refl
-    by Greater e = let f : Greater ≡ Less = sym e ∙ (key_total.antisymm k k ∙ ap ordering_reverse e) in cc
 
 -- what is compared as equal is the same key
 eq_is : (k l : List ℕ) (o : Ordering) → key_cmp k l ≡ o → bytes_eq k l ≡ is_eq o

@@ -1,11 +1,12 @@
 -- Containers that are open, and a part that is put back.
-use Rattle.std.proofs.Common.{◌≡◌, ℕ, zero, suc, Bool, true, false, List, [], ◌∷◌, ◌++◌, Option, Some, None, Result, Ok, Err, cond, bytes_eq}
+use Rattle.std.proofs.Common.{◌≡◌, ℕ, List, [], ◌∷◌, ◌++◌, Some, None, Result, Ok, Err}
 use Rattle.std.proofs.Common.{refl, sym, ap, ◌∙◌}
 use Rattle.std.specs.Option.{option_map_or}
-use Rattle.tinyjson.proofs.Callers.{find_put, find_put_same, sorted_put, members_from_find}
+use Rattle.tinyjson.proofs.Callers.{find_put_same}
 use Rattle.tinyjson.specs.Index.{with_nth}
 use Rattle.tinyjson_grammar.specs.Soundness.{IsSorted}
-use Rattle.tinyjson_grammar.specs.Tree.{Tree, object, Items, no_items, item, Members, find, put}
+use Rattle.tinyjson_grammar.specs.Tree.{Tree, object, Items, Members, find, put}
+use Rattle.tinyjson_pointer.proofs.Callers.{put_again, with_nth_again}
 use Rattle.tinyjson_pointer.specs.Walk.{part_at, with_step, with_part}
 use Rattle.std.specs.Prelude.{option_and_then}
 use Rattle.tinyjson_patch.specs.private.Edited.{tree}
@@ -17,23 +18,8 @@ use Rattle.tinyjson_patch.specs.declared.edit.opened.Opened.{Opened}
 
 -- ---- a part that was put into the place of another
 
-same_cond : (b : Bool) (q w : Tree) (o : Option Tree) → cond b (Some w) (cond b (Some q) o) ≡ cond b (Some w) o
-same_cond true q w o = refl
-same_cond false q w o = refl
-
-put_again : (k : List ℕ) (q w : Tree) (ms : Members) → IsSorted ms → put k w (put k q ms) ≡ put k w ms
-put_again k q w ms s =
-    members_from_find (put k w (put k q ms)) (put k w ms) (sorted_put k w (put k q ms) (sorted_put k q ms s)) (sorted_put k w ms s)
-    (λ x. find_put x k w (put k q ms) ∙ (ap (cond (bytes_eq x k) (Some w)) (find_put x k q ms)
-    ∙ (same_cond (bytes_eq x k) q w (find x ms) ∙ sym (find_put x k w ms))))
-
 pub nth_again : (ts us : Items) (i : ℕ) (q w : Tree) → us ≡ with_nth ts i q → with_nth us i w ≡ with_nth ts i w
-nth_again ts us i q w e = ap (λ xs. with_nth xs i w) e ∙ by ts i
-  where
-    by : (xs : Items) (j : ℕ) → with_nth (with_nth xs j q) j w ≡ with_nth xs j w
-    by no_items j = refl
-    by (item x xs) zero = refl
-    by (item x xs) (suc j) = ap (item x) (by xs j)
+nth_again ts us i q w e = ap (λ xs. with_nth xs i w) e ∙ with_nth_again ts i q w
 
 -- the member that has the key is replaced, if there is one
 pub part_of_member : (ms : Members) (k : List ℕ) (q w : Tree) → find k ms ≡ Some q → with_part (object ms) (k ∷ []) w ≡ object (put k w ms)
