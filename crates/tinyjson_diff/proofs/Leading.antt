@@ -1,16 +1,18 @@
 -- Actions in turn, and actions on a part.
-use Rattle.std.proofs.Common.{◌≡◌, ℕ, suc, List, [], ◌∷◌, ◌++◌, Option, Some}
+use Rattle.std.proofs.Common.{◌≡◌, ◌⊎◌, inl, inr, ⊎_elim, ℕ, suc, List, [], ◌∷◌, ◌++◌, Option, Some, length}
 use Rattle.std.proofs.Common.{None, option_map, Ok, refl, sym, ap, ◌∙◌, subst, arith}
 use Rattle.std.specs.Option.{option_map_or}
 use Rattle.std.specs.Prelude.{option_and_then}
-use Rattle.tinyjson.specs.Tree.{Tree}
+use Rattle.tinyjson.specs.JsonKind.TheVariants as kind
+use Rattle.tinyjson.specs.Kind.{kind_of}
+use Rattle.tinyjson.specs.Tree.{Tree, array, object}
 use Rattle.tinyjson_patch.specs.Operation.{Action, add, remove, replace, move, copy, test, applied, or_fail, and_then}
 use Rattle.tinyjson_patch.specs.Patch.{after, all_applied}
 use Rattle.tinyjson_patch.specs.declared.operation.Reason.TheVariants.{NoPlace, NoTarget}
 use Rattle.tinyjson_pointer.specs.Change.{with_child, without_child, changed_at, all_but_last, last_of, with_new_part, without_part}
 use Rattle.tinyjson_pointer.specs.Walk.{step, part_at, with_step, with_part}
-use Rattle.tinyjson_diff.specs.Patching.{path_of, AreDifferences, AreElsewhere, AreApart}
-use Rattle.tinyjson_diff.specs.Steps.{below, AreBelow, Lead, IsPlace, IsFit, AreFit, AreAt, Begun, Changes}
+use Rattle.tinyjson_diff.specs.Patching.{path_of, AreLikeContainers, AreDifferences, AreElsewhere, AreApart}
+use Rattle.tinyjson_diff.specs.Steps.{below, AreBelow, Lead, IsFit, AreFit, AreAt, Begun, Changes}
 
 -- ---- in turn
 
@@ -88,25 +90,26 @@ begun_none P r t u = record { lead = refl; fit = tt; apart = tt; names = tt }
 abbrev here_or_not : Option Tree → Option Tree
 here_or_not = option_and_then (λ c. Some c)
 
-pub alone_old : (r : ℕ) (t u v : Tree) (k : List ℕ) → step t k ≡ Some v → step u k ≡ None → IsPlace (suc r) t u (k ∷ [])
-alone_old r t u v k h g = (omega arith, λ e. by (sym (ap here_or_not h) ∙ (e ∙ ap here_or_not g)))
-  where
-    by : Some v ≡ None → ⊥
-    by e = cc
+some_there : (v : Tree) → Some v ≡ None → ⊥
+some_there v e = cc
 
-pub alone_new : (r : ℕ) (t u v : Tree) (k : List ℕ) → step t k ≡ None → step u k ≡ Some v → IsPlace (suc r) t u (k ∷ [])
-alone_new r t u v k h g = let p = alone_old r u t v k g h in (p.0, λ e. p.1 (sym e))
+pub alone_old : (r : ℕ) (t u v : Tree) (k : List ℕ) → step t k ≡ Some v → step u k ≡ None → IsFit (suc r) t u (remove (k ∷ []))
+alone_old r t u v k h g = (omega arith, ((λ e. some_there v (sym (ap here_or_not h) ∙ e)), ap here_or_not g))
+
+pub alone_new : (r : ℕ) (t u v : Tree) (k : List ℕ) → step t k ≡ None → step u k ≡ Some v → IsFit (suc r) t u (add (k ∷ []) v)
+alone_new r t u v k h g = (omega arith, (ap here_or_not h, ap here_or_not g))
 
 -- the action on that part after the first ones
 module _ (P N R : List ℕ → Type 0) (no : (k : List ℕ) → P k → N k → ⊥) (p : (k : List ℕ) → P k → R k) (n : (k : List ℕ) → N k → R k)
     (r : ℕ) (t u now next : Tree) (k : List ℕ) (named : N k) where
-  pub remove_more : (xs : List Action) → Begun r t u now P xs → applied (remove (k ∷ [])) now ≡ Ok next → IsPlace (suc r) t u (k ∷ [])
+  pub remove_more : (xs : List Action) → Begun r t u now P xs → applied (remove (k ∷ [])) now ≡ Ok next
+      → IsFit (suc r) t u (remove (k ∷ []))
       → Begun r t u next R (xs ++ remove (k ∷ []) ∷ [])
   remove_more xs b h f =
       begun_more P N R no r t u now next xs (remove (k ∷ []) ∷ []) b (next, h, refl) (f, tt) (tt, tt) ((k, [], named, refl), tt) p n
 
   pub add_more : (v : Tree) (xs : List Action) → Begun r t u now P xs → applied (add (k ∷ []) v) now ≡ Ok next
-      → IsPlace (suc r) t u (k ∷ []) → Begun r t u next R (xs ++ add (k ∷ []) v ∷ [])
+      → IsFit (suc r) t u (add (k ∷ []) v) → Begun r t u next R (xs ++ add (k ∷ []) v ∷ [])
   add_more v xs b h f =
       begun_more P N R no r t u now next xs (add (k ∷ []) v ∷ []) b (next, h, refl) (f, tt) (tt, tt) ((k, [], named, refl), tt) p n
 
@@ -163,14 +166,14 @@ module _ (s x y : Tree) (k : List ℕ) (here : step s k ≡ Some x) where
           let same : with_part x p u ≡ y = cc in ap Ok (with_part_step s x u k p here ∙ ap (with_step s k) same)
 
   applied_below : (r : ℕ) (t u : Tree) (a : Action) → IsFit r t u a → applied a x ≡ Ok y → applied (below k a) s ≡ Ok (with_step s k y)
-  applied_below r t u (add [] v) f h = absurd f
+  applied_below r t u (add [] v) f h = absurd (some_there t f.1.0)
   applied_below r t u (add (j ∷ js) v) f h = inner_added j js v h
-  applied_below r t u (remove []) f h = absurd f
+  applied_below r t u (remove []) f h = absurd (some_there u f.1.1)
   applied_below r t u (remove (j ∷ js)) f h = inner_removed j js h
   applied_below r t u (replace p v) f h = inner_replaced p v h
-  applied_below r t u (move from p) f h = absurd f
-  applied_below r t u (copy from p) f h = absurd f
-  applied_below r t u (test p v) f h = absurd f
+  applied_below r t u (move from p) f h = absurd f.1
+  applied_below r t u (copy from p) f h = absurd f.1
+  applied_below r t u (test p v) f h = absurd f.1
 
 path_below : (k : List ℕ) (a : Action) → path_of (below k a) ≡ k ∷ path_of a
 path_below k (add p u) = refl
@@ -208,21 +211,29 @@ module _ (N : List ℕ → Type 0) where
   )
 
   module _ (r : ℕ) (t u v w : Tree) (old : (k : List ℕ) → N k → step t k ≡ Some v) (new : (k : List ℕ) → N k → step u k ≡ Some w) where
-    place_below : (k : List ℕ) (p : List (List ℕ)) → N k → IsPlace r v w p → IsPlace (suc r) t u (k ∷ p)
-    place_below k p n h = (
-      omega (arith, h.0),
-      λ e. h.1 (sym (ap (option_and_then (λ c. part_at c p)) (old k n)) ∙ (e ∙ ap (option_and_then (λ c. part_at c p)) (new k n))),
-    )
+    old_part : (k : List ℕ) (p : List (List ℕ)) → N k → part_at t (k ∷ p) ≡ part_at v p
+    old_part k p n = ap (option_and_then (λ c. part_at c p)) (old k n)
+
+    new_part : (k : List ℕ) (p : List (List ℕ)) → N k → part_at u (k ∷ p) ≡ part_at w p
+    new_part k p n = ap (option_and_then (λ c. part_at c p)) (new k n)
+
+    may_below : (k : List ℕ) (p : List (List ℕ)) → N k → (length p ≡ r) ⊎ ¬ AreLikeContainers (part_at v p) (part_at w p)
+        → (length (k ∷ p) ≡ suc r) ⊎ ¬ AreLikeContainers (part_at t (k ∷ p)) (part_at u (k ∷ p))
+    may_below k p n =
+        ⊎_elim (λ e. inl (ap suc e))
+        (λ no. inr (λ c. no (subst (λ o. AreLikeContainers o (part_at w p)) (old_part k p n)
+        (subst (AreLikeContainers (part_at t (k ∷ p))) (new_part k p n) c))))
 
     one_fit : (k : List ℕ) (a : Action) → N k → IsFit r v w a → IsFit (suc r) t u (below k a)
-    one_fit k (add [] z) n h = absurd h
-    one_fit k (add (j ∷ js) z) n h = place_below k (j ∷ js) n h
-    one_fit k (remove []) n h = absurd h
-    one_fit k (remove (j ∷ js)) n h = place_below k (j ∷ js) n h
-    one_fit k (replace p z) n h = place_below k p n h
-    one_fit k (move from p) n h = absurd h
-    one_fit k (copy from p) n h = absurd h
-    one_fit k (test p z) n h = absurd h
+    one_fit k (add p z) n h = (omega (arith, h.0), (old_part k p n ∙ h.1.0, new_part k p n ∙ h.1.1))
+    one_fit k (remove p) n h = (omega (arith, h.0), ((λ e. h.1.0 (sym (old_part k p n) ∙ e)), new_part k p n ∙ h.1.1))
+    one_fit k (replace p z) n h = (
+      omega (arith, h.0),
+      ((λ e. h.1.0 (sym (old_part k p n) ∙ (e ∙ new_part k p n))), new_part k p n ∙ h.1.1, may_below k p n h.1.2),
+    )
+    one_fit k (move from p) n h = absurd h.1
+    one_fit k (copy from p) n h = absurd h.1
+    one_fit k (test p z) n h = absurd h.1
 
     fit_below : (xs ys : List Action) → AreFit r v w xs → AreBelow N xs ys → AreFit (suc r) t u ys
     fit_below [] [] h g = tt
@@ -258,45 +269,26 @@ module _ (N : List ℕ → Type 0) where
 pub no_changes : (r : ℕ) (t u : Tree) → t ≡ u → Changes r t u []
 no_changes r t u e = record { lead = e; fit = tt; apart = tt }
 
-pub whole_change : (r : ℕ) (t u : Tree) → ¬ (t ≡ u) → Changes r t u (replace [] u ∷ [])
-whole_change r t u differ = record {
+pub whole_change : (r : ℕ) (t u : Tree) → ¬ (t ≡ u) → (0 ≡ r) ⊎ ¬ AreLikeContainers (Some t) (Some u)
+    → Changes r t u (replace [] u ∷ [])
+whole_change r t u differ may = record {
   lead = (u, refl, refl);
-  fit = ((omega arith, λ e. differ (by e)), tt);
+  fit = ((omega arith, ((λ e. differ (by e)), refl, may)), tt);
   apart = (tt, tt);
 }
   where
     by : Some t ≡ Some u → t ≡ u
     by e = cc
 
-fit_wider : (r : ℕ) (t u : Tree) (xs : List Action) → AreFit 0 t u xs → AreFit r t u xs
-fit_wider r t u [] h = tt
-fit_wider r t u (a ∷ xs) h = (by a h.0, fit_wider r t u xs h.1)
-  where
-    by : (b : Action) → IsFit 0 t u b → IsFit r t u b
-    by (add [] v) f = absurd f
-    by (add (k ∷ ks) v) f = (omega (arith, f.0), f.1)
-    by (remove []) f = absurd f
-    by (remove (k ∷ ks)) f = (omega (arith, f.0), f.1)
-    by (replace p v) f = (omega (arith, f.0), f.1)
-    by (move from p) f = absurd f
-    by (copy from p) f = absurd f
-    by (test p v) f = absurd f
-
-pub wider : (r : ℕ) (t u : Tree) (xs : List Action) → Changes 0 t u xs → Changes r t u xs
-wider r t u xs c = record { lead = c.lead; fit = fit_wider r t u xs c.fit; apart = c.apart }
+-- values of other kinds than the two that are compared part by part
+pub no_containers : (t u : Tree) → (kind.Object ≡ kind_of t → kind.Object ≡ kind_of u → ⊥)
+    → (kind.Array ≡ kind_of t → kind.Array ≡ kind_of u → ⊥) → ¬ AreLikeContainers (Some t) (Some u)
+no_containers (object ms) (object ns) f g h = f refl refl
+no_containers (array ts) (array us) f g h = g refl refl
+no_containers _ _ f g h = absurd h
 
 -- ---- what is promised
 
-pub differences : (r : ℕ) (t u : Tree) (xs : List Action) → AreFit r t u xs → AreDifferences t u xs
+pub differences : (r : ℕ) (t u : Tree) (xs : List Action) → AreFit r t u xs → AreDifferences r t u xs
 differences r t u [] h = tt
-differences r t u (a ∷ xs) h = (by a h.0, differences r t u xs h.1)
-  where
-    by : (b : Action) → IsFit r t u b → ¬ (part_at t (path_of b) ≡ part_at u (path_of b))
-    by (add [] v) f = absurd f
-    by (add (k ∷ ks) v) f = f.1
-    by (remove []) f = absurd f
-    by (remove (k ∷ ks)) f = f.1
-    by (replace p v) f = f.1
-    by (move from p) f = absurd f
-    by (copy from p) f = absurd f
-    by (test p v) f = absurd f
+differences r t u (a ∷ xs) h = (h.0.1, differences r t u xs h.1)

@@ -5,13 +5,13 @@ use Rattle.std.proofs.lemmas.List.{drop_all, drop_more, map-append}
 use Rattle.std.specs.Str.{chars}
 use Rattle.tinyjson.specs.Tree.{Tree, member}
 use Rattle.tinyjson_patch.specs.Document.{token_limit}
-use Rattle.tinyjson_patch.specs.Operation.{Action, add, remove, replace, move, copy, test}
+use Rattle.tinyjson_patch.specs.Operation.{Action}
 use Rattle.tinyjson_pointer.specs.Index.{index_of}
 use Rattle.tinyjson_pointer.specs.Tokens.{tokens_of}
 use Rattle.tinyjson_pointer.specs.declared.pointer.Pointer.{Pointer}
 use Rattle.tinyjson_view.specs.Views.{tree_of, members_of}
 use Rattle.tinyjson_view.specs.declared.view.MemberView.{MemberView}
-use Rattle.tinyjson_diff.specs.Steps.{action_of, actions_of, changed_by, below, AreBelow, AppendsBelow, AreFit, IsFit, IsShort, AreShort}
+use Rattle.tinyjson_diff.specs.Steps.{action_of, actions_of, changed_by, below, AreBelow, AppendsBelow, AreFit, AreShort}
 use Rattle.tinyjson_diff.specs.Steps.{IsStepAt}
 use Rattle.tinyjson_diff.specs.declared.step.Change.{Change}
 use Rattle.tinyjson_diff.specs.declared.step.Change.TheVariants as change
@@ -95,14 +95,4 @@ module _ (N : List ℕ → Type 0) where
 
 pub short : (t u : Tree) (xs : List Action) → AreFit token_limit t u xs → AreShort xs
 short t u [] h = tt
-short t u (a ∷ xs) h = (by a h.0, short t u xs h.1)
-  where
-    by : (b : Action) → IsFit token_limit t u b → IsShort b
-    by (add [] v) f = absurd f
-    by (add (k ∷ ks) v) f = f.0
-    by (remove []) f = absurd f
-    by (remove (k ∷ ks)) f = f.0
-    by (replace p v) f = f.0
-    by (move from p) f = absurd f
-    by (copy from p) f = absurd f
-    by (test p v) f = absurd f
+short t u (a ∷ xs) h = (h.0.0, short t u xs h.1)

@@ -7,10 +7,9 @@ use Rattle.tinyjson_patch.specs.Document.{token_limit}
 use Rattle.tinyjson_patch.specs.Operation.{Action, add, remove, replace, move, copy, test, applied}
 use Rattle.tinyjson_pointer.specs.Index.{index_of}
 use Rattle.tinyjson_pointer.specs.Tokens.{tokens_of}
-use Rattle.tinyjson_pointer.specs.Walk.{part_at}
 use Rattle.tinyjson_view.specs.Views.{trees_of}
 use Rattle.tinyjson_view.specs.declared.view.ValueView.{ValueView}
-use Rattle.tinyjson_diff.specs.Patching.{path_of, AreApart}
+use Rattle.tinyjson_diff.specs.Patching.{path_of, AreApart, AreLikeContainers, IsDifference}
 use Rattle.tinyjson_diff.specs.declared.step.Change.{Change}
 use Rattle.tinyjson_diff.specs.declared.step.Change.TheVariants as change
 use Rattle.tinyjson_diff.specs.declared.step.Step.{Step}
@@ -51,16 +50,9 @@ abbrev pub Lead : List Action → Tree → Tree → Type 0
 Lead [] t u = t ≡ u
 Lead (a ∷ rest) t u = (v : Tree) × (applied a t ≡ Ok v) × Lead rest v u
 
--- the path has at most that many tokens, and names a place where the trees differ
-abbrev pub IsPlace : ℕ → Tree → Tree → List (List ℕ) → Type 0
-IsPlace room t u path = (length path ≤ room) × ¬ (part_at t path ≡ part_at u path)
-
--- an action that is the same on a part: the root alone is replaced
+-- the path has at most that many tokens, and the action does there what the trees need
 abbrev pub IsFit : ℕ → Tree → Tree → Action → Type 0
-IsFit room t u (add (k ∷ ks) v) = IsPlace room t u (k ∷ ks)
-IsFit room t u (remove (k ∷ ks)) = IsPlace room t u (k ∷ ks)
-IsFit room t u (replace path v) = IsPlace room t u path
-IsFit room t u _ = ⊥
+IsFit room t u a = (length (path_of a) ≤ room) × IsDifference room t u a
 
 abbrev pub AreFit : ℕ → Tree → Tree → List Action → Type 0
 AreFit room t u [] = Unit {0}
@@ -71,6 +63,11 @@ pub record Changes (room : ℕ) (t u : Tree) (actions : List Action) : Type 0 wh
   pub lead : Lead actions t u
   pub fit : AreFit room t u actions
   pub apart : AreApart actions
+
+-- The actions replace t by u where they may: where no token is left, and where t and u are no containers of one kind.
+abbrev pub IsReplacement : Tree → Tree → List Action → Type 0
+IsReplacement t u actions =
+    (room : ℕ) → ((0 ≡ room) ⊎ ¬ AreLikeContainers (Some t) (Some u)) → Changes room t u actions
 
 -- each action is on a part that such a token names
 abbrev pub AreAt : (List ℕ → Type 0) → List Action → Type 0

@@ -1,11 +1,12 @@
 //! The JSON Patch from one value to another.
-ghost use Rattle.std.specs.Prelude.{◌≡◌, ◌+◌, IfOk};
+ghost use Rattle.std.specs.Prelude.{◌+◌, IfOk};
 ghost use Rattle.tinyjson.specs.Tree.{array, object};
 ghost use Rattle.tinyjson.specs.View.{view};
 ghost use Rattle.tinyjson_document.specs.Parts.{members_in};
 ghost use Rattle.tinyjson_view.specs.Views.{tree_of, trees_of};
 ghost use Rattle.tinyjson_diff.specs.Patching.{IsPatchBetween};
-ghost use Rattle.tinyjson_diff.specs.Steps.{actions_of, Changes, RemoveMembers, RemoveItems};
+ghost use Rattle.tinyjson_diff.specs.Steps.{actions_of, Changes, IsReplacement};
+ghost use Rattle.tinyjson_diff.specs.Steps.{RemoveItems, RemoveMembers};
 
 use crate::document::document;
 use crate::parts::{are_found_equal, copy_of, has_key};
@@ -131,7 +132,7 @@ fn replacement(
     old: ValueView<'_>,
     new: ValueView<'_>,
 ) -> Result<Vec<Step>, AllocError>
-    ensures { IfOk result (λ steps. Changes 0 (tree_of old.entry) (tree_of new.entry)
+    ensures { IfOk result (λ steps. IsReplacement (tree_of old.entry) (tree_of new.entry)
         (actions_of steps.items)) }
 {
     let mut steps = Vec::new(alloc);

@@ -1,28 +1,32 @@
-use Rattle.std.proofs.Common.{◌≡◌, ◌∙◌, ◌+◌, ◌++◌, ◌-◌, ◌*◌, ◌<◌, [], ◌∷◌, suc}
-use Rattle.std.proofs.Common.{option_map, drop, refl, sym, ap, subst, arith, rules}
+use Rattle.std.proofs.Common.{◌≡◌, inl, inr, ◌∙◌, ◌+◌, ◌++◌, ◌-◌, ◌*◌, ◌<◌, [], ◌∷◌, suc}
+use Rattle.std.proofs.Common.{Some, option_map, drop, refl, sym, ap, subst, arith, rules}
 use Rattle.std.specs.Str.{chars}
+use Rattle.tinyjson.specs.JsonKind.TheVariants as kind
 use Rattle.tinyjson.specs.Tree.{array, object, find, member}
 use Rattle.tinyjson_document.specs.Parts.{members_in}
 use Rattle.tinyjson_patch.specs.Operation.{add}
 use Rattle.tinyjson_view.proofs.Callers.{array_is, key_at, object_is}
 use Rattle.tinyjson_view.specs.Views.{tree_of, trees_of, members_of}
+use Rattle.tinyjson_diff.specs.Patching.{AreLikeContainers}
 use Rattle.tinyjson_diff.specs.Steps.{actions_of, Changes}
 use Rattle.tinyjson_diff.specs.declared.step.Change.TheVariants as change
 use Rattle.tinyjson_diff.proofs.Items.{ItemsPassed, passing_adds, passing_begins, passing_changes, passing_ends}
-use Rattle.tinyjson_diff.proofs.Leading.{no_changes}
+use Rattle.tinyjson_diff.proofs.Leading.{no_changes, no_containers}
 use Rattle.tinyjson_diff.proofs.Members.{AddsPassed, adding_adds, adding_begins, adding_changes, adding_ends}
-use Rattle.tinyjson_diff.proofs.Promised.{inside_when, wider_when}
+use Rattle.tinyjson_diff.proofs.Promised.{inside_when, replaced_when}
 use Rattle.tinyjson_diff.proofs.Steps.{drop_end, drop_item, listed_first, pushed_at, pushed_item}
 use Rattle.tinyjson_diff.proofs.Values.{sorted_members}
 use Rattle.tinyjson_diff.proofs.patch.+changes.Goals.{of_members-in-Some+in_ok-inner-in-Some+in_ok-append_of_member-in-Some}
 use Rattle.tinyjson_diff.proofs.patch.+changes.Goals.{of_members-in-None+in_ok-copy_of-in-None+in_ok-at_key-in-None+in_ok-push-in-None}
 use Rattle.tinyjson_diff.proofs.patch.+changes.Goals.{of_items-then-index-left+in_ok-inner+in_ok-append_of_item}
 use Rattle.tinyjson_diff.proofs.patch.+changes.Goals.{of_items-else-index-left+in_ok-copy_of+in_ok-at_index+in_ok-push}
+use Rattle.tinyjson_diff.proofs.patch.+changes.Goals.{changes-in_default-via-in-Object+in_default, changes-in_default-via-in-Array+in_default, changes-in_default-via-in_default}
 use Rattle.tinyjson_diff.proofs.patch.+changes.Goals as goal
 
 pub changes-returns-then-room-eq0 : goal.changes-returns-then-room-eq0
 changes-returns-then-room-eq0 t c =
-    wider_when c.replacement.result c.args.room (tree_of c.args.old) (tree_of c.args.new) c.replacement.ensures
+    replaced_when c.replacement.result c.args.room (tree_of c.args.old) (tree_of c.args.new)
+    (inl (omega (arith, c.if-room-eq0.true))) c.replacement.ensures
 
 pub changes-returns-then-are_found_equal : goal.changes-returns-then-are_found_equal
 changes-returns-then-are_found_equal t c =
@@ -33,7 +37,20 @@ changes-returns-then-are_found_equal t c =
 
 pub changes-returns-in_default : goal.changes-returns-in_default
 changes-returns-in_default t c =
-    wider_when c.replacement-in_default.result c.args.room (tree_of c.args.old) (tree_of c.args.new) c.replacement-in_default.ensures
+    let t = tree_of c.args.old in
+    let u = tree_of c.args.new in
+    let apart : ¬ AreLikeContainers (Some t) (Some u) = elim c.in_default.branch [
+      | changes-in_default-via-in-Object+in_default w ↦ no_containers t u
+          (λ a b. w.in_default.not-Object-1 (c.kind-2.ensures ∙ sym b))
+          (λ a b. let e : kind.Object ≡ kind.Array = sym w.in_default.is-0 ∙ (c.kind.ensures ∙ sym a) in cc)
+      | changes-in_default-via-in-Array+in_default w ↦ no_containers t u
+          (λ a b. let e : kind.Array ≡ kind.Object = sym w.in_default.is-0 ∙ (c.kind.ensures ∙ sym a) in cc)
+          (λ a b. w.in_default.not-Array-1 (c.kind-2.ensures ∙ sym b))
+      | changes-in_default-via-in_default w ↦ no_containers t u
+          (λ a b. w.in_default.not-Object-0 (c.kind.ensures ∙ sym a))
+          (λ a b. w.in_default.not-Array-0 (c.kind.ensures ∙ sym a))
+    ] in
+    replaced_when c.replacement-in_default.result c.args.room t u (inr apart) c.replacement-in_default.ensures
 
 pub changes-of_members-requires : goal.changes-of_members-requires
 changes-of_members-requires t c =

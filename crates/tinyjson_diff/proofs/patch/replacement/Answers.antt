@@ -9,20 +9,20 @@ use Rattle.tinyjson_diff.proofs.Leading.{no_changes, whole_change}
 use Rattle.tinyjson_diff.proofs.patch.replacement.Goals as goal
 
 pub returns-then-equals : goal.returns-then-equals
-returns-then-equals c =
+returns-then-equals c = λ room may.
     let t = tree_of c.args.old in
     let u = tree_of c.args.new in
-    subst (λ l. Changes 0 t u (actions_of l)) (sym c.new-steps.ensures.items)
-    (no_changes 0 t u ((tree_eq_Decides t u).0 (sym c.equals.ensures ∙ c.if-equals.true)))
+    subst (λ l. Changes room t u (actions_of l)) (sym c.new-steps.ensures.items)
+    (no_changes room t u ((tree_eq_Decides t u).0 (sym c.equals.ensures ∙ c.if-equals.true)))
 
 pub returns : goal.returns
-returns c =
+returns c = λ room may.
     let t = tree_of c.args.old in
     let u = tree_of c.args.new in
     let differ : ¬ (t ≡ u) = λ e. true≢false (sym ((tree_eq_Decides t u).1 e) ∙ (sym c.equals.ensures ∙ c.if-equals.false)) in
-    subst (Changes 0 t u)
+    subst (Changes room t u)
     (sym (ap actions_of (c.in_ok-push.ensures.items
     ∙ ap (λ l. l ++ record { path = c.root.result; change = change.Replace c.in_ok-copy_of.field-0 } ∷ [])
     c.new-steps.ensures.items)
     ∙ (ap (λ p. replace p (view c.in_ok-copy_of.field-0) ∷ []) c.root.ensures ∙ ap (λ x. replace [] x ∷ []) c.in_ok-copy_of.ensures)))
-    (whole_change 0 t u differ)
+    (whole_change room t u differ may)
