@@ -137,16 +137,51 @@ def check_categories(calls):
         calls.add(row, "Category::value_named", name, member + other, gives=["true", "false"])
 
 
-def table_sum():
-    """The checksum of the table of categories, as `published.py` has it."""
+def sum_of(lines):
+    return hashlib.sha256("".join(f"{it}\n" for it in lines).encode()).hexdigest()
+
+
+def runs():
+    """The table of categories: for each run the code point after its end, and the category."""
     source = pathlib.Path(TOP, "crates/text_categories/src/table.rt").read_text()
-    runs = [divmod(int(it, 16), 32) for it in re.findall(r"0x([0-9A-F]{8})", source)]
-    return hashlib.sha256("".join(f"{end} {texts.NAMES[number]}\n" for end, number in runs).encode()).hexdigest()
+    numbers = [divmod(int(it, 16), 32) for it in re.findall(r"0x([0-9A-F]{8})", source)]
+    return [(end, texts.NAMES[number]) for end, number in numbers]
+
+
+def members(names):
+    """The characters of these categories, by the table."""
+    ends = runs()
+    begins = [0, *(end for end, _ in ends)]
+    return {c for begin, (end, name) in zip(begins, ends) if name in names for c in range(begin, end)}
+
+
+def newer(table):
+    """The characters of a table of `newer.rt`."""
+    source = pathlib.Path(TOP, "crates/text_ecma_regexp/src/newer.rt").read_text().partition(table)[2].partition("];")[0]
+    return of_ranges((int(first, 16), int(last, 16)) for first, last in re.findall(r"\(0x(\w+), 0x(\w+)\)", source))
+
+
+def of_ranges(ranges):
+    return {c for first, last in ranges for c in range(first, last + 1)}
+
+
+def identifiers():
+    """The characters that have `ID_Start`, and those that have `ID_Continue`, as the library defines them."""
+    starts = members("Lu Ll Lt Lm Lo Nl".split()) - {0x2E2F} | of_ranges(texts.OTHER_STARTS) | newer("NEWER_STARTS")
+    return starts, starts | members("Mn Mc Nd Pc".split()) | of_ranges(texts.OTHER_PARTS) | newer("NEWER_PARTS")
+
+
+def sum_of_runs(characters):
+    ends = [c for c in sorted(characters) if c + 1 not in characters]
+    begins = [c for c in sorted(characters) if c - 1 not in characters]
+    return sum_of(f"{first:04X}..{last:04X}" for first, last in zip(begins, ends))
 
 
 def check_table(checks):
-    """The table of categories is that of Unicode."""
-    checks.row("text_categories: the table", published.CATEGORIES, table_sum)
+    """The tables of categories and of identifiers are those of Unicode."""
+    checks.row("text_categories: the table", published.CATEGORIES, lambda: sum_of(f"{end} {name}" for end, name in runs()))
+    sums = tuple(published.IDENTIFIERS.values())
+    checks.row("text_ecma_regexp: the tables", sums, lambda: tuple(sum_of_runs(it) for it in identifiers()))
 
 
 @calls_of

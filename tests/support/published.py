@@ -44,3 +44,10 @@ META_SCHEMAS = {
 # Of the general categories of Unicode 14.0.0, by Python's `unicodedata`: for each run of code points of one category a line with the code
 # point after its end, and the category.
 CATEGORIES = "1a8ad298ea2806dd07c392c306213a001245379af454c6444b6bf1feb9bff40a"
+
+# Of the properties of Unicode 17.0.0 by `\\p` of regular expressions in Node.js 20.20.2 (ICU 78.2): for each run of characters that have
+# it a line as `0041..005A`.
+IDENTIFIERS = {
+    "ID_Start": "d0cdb0f92e8155d9b7685548e27e4f6cbe89e8c67ba39e627fb894d28767eed6",
+    "ID_Continue": "315a8743865af85d5fc4505631f707dc700b6cbd30b90347d5ee925392d48de9",
+}

@@ -679,6 +679,10 @@ REGEXES = [
     # names
     (r"\k<x>(?<x>a) (?<$>a)(?<_>b)(?<a1>c) (?<toString>a) [(?<a>] \(?<a> (?<x>[(?<x>])", True),
     ("(?<\xe9>a)\\k<\xe9> (?<\u6f22>a) (?<a\u0301>a) (?<a\u200d>a)", True),
+    # of `Other_ID_Start`, of `Other_ID_Continue`, and newer than Unicode 14.0
+    ("(?<\u2118>a) (?<\u212e>a) (?<\u309b>a) (?<\u309c>a) (?<\u1885>a) (?<\u1886>a)", True),
+    ("(?<a\xb7>a) (?<a\u0387>a) (?<a\u30fb>a) (?<a\uff65>a) (?<a\u19da>a) (?<a\u1369>a) (?<a\u136b>a) (?<a\u1371>a)", True),
+    ("(?<\U00031350>a) (?<\U00033479>a) (?<\u088f>a) (?<a\u0897>a) (?<a\U0001e6f5>a)", True),
     # properties
     (r"\p{L}\P{Letter} \p{gc=Lu} \p{General_Category=Uppercase_Letter} \p{sc=Grek} \p{Script=Greek}", True),
     (r"\p{scx=Latn} \p{Script_Extensions=Latin} \p{Alphabetic}\p{Alpha}", True),
@@ -708,6 +712,11 @@ REGEXES = [
     (r"(?<>a) (?<1>a) (?<a-b>c) (?<a (?<a) (?<x>a)(?<x>b) (?<x>(?<x>b)) \k \k< \kx (?<x>a)\k<y>", False),
     (r"(?<x>a)\k<xx> (?<x>a)\k<x (?<x>a)\k<> [(?<x>a]\k<x>", False),
     ("(?<\xe9>a)(?<\xe9>b) (?<\U0001f600>a) (?<\u0301>a)", False),
+    # of `Pattern_Syntax`; no more than `ID_Continue`; neither
+    ("(?<\u2e2f>a) (?<a\u2e2f>a) (?<\xb7>a) (?<\u30fb>a) (?<\u1369>a) (?<\u19da>a) (?<\u0897>a) (?<\U0001e6f5>a)", False),
+    ("(?<a\u2119\u2117>a) (?<a\u136a\u1372>a) (?<a\u309a\u30a0>a) (?<\U0003347a>a) (?<a\U000323b0\U000e0100\U000e01f0>a)", False),
+    # of ECMA-262 of 2025: modifiers, and a name in two alternatives
+    (r"(?i:a) (?-i:a) (?<a>.)|(?<a>.)", False),
     # properties
     (r"\p \pL \p{ \p{L \p{} \p{=} \p{L=} \p{=L} \p{lu} \p{gc=Greek} \p{sc=Lu} \p{Greek} \p{gc}", False),
     (r"\p{Script} \p{alpha} \p{Alphabetic=Yes} \p{sc=} \p{Block=ASCII} [\p{Foo}]", False),

@@ -3,6 +3,10 @@
 # The names of the categories, by their numbers in the table; the last one has no characters.
 NAMES = "Lu Ll Lt Lm Lo Mn Mc Me Nd Nl No Pc Pd Ps Pe Pi Pf Po Zs Zl Zp Sm Sc Sk So Cc Cf Cn Co Cs".split()
 
+# `Other_ID_Start` and `Other_ID_Continue` (Unicode 17.0.0, `PropList.txt`): the first and the last character of each range.
+OTHER_STARTS = [(0x1885, 0x1886), (0x2118, 0x2118), (0x212E, 0x212E), (0x309B, 0x309C)]
+OTHER_PARTS = [(0xB7, 0xB7), (0x387, 0x387), (0x1369, 0x1371), (0x19DA, 0x19DA), (0x200C, 0x200D), (0x30FB, 0x30FB), (0xFF65, 0xFF65)]
+
 # The letter of a group, that of a category, and characters of this category (Unicode, `UnicodeData.txt`).
 CATEGORIES = [
     ("L", "u", "AZÀΩЖ𝐀"),

@@ -1,4 +1,5 @@
 pub mod Letters
 pub mod PropertyNames
+pub mod Identifiers
 pub mod Regex
 pub mod Scan

@@ -1,13 +1,13 @@
--- Regular expressions: `Pattern` of ECMA-262, 22.2.1, with `UnicodeMode` and `NamedCaptureGroups`, and its early errors (22.2.1.1).
+-- Regular expressions: `Pattern` of ECMA-262, 15th edition (2024), 22.2.1, with `UnicodeMode` and `NamedCaptureGroups`, and its early
+-- errors (22.2.1.1).
 -- A front is what follows it in the text, with its value if it has one; nothing if the text does not begin with it.
 use Rattle.std.specs.Prelude.{ℕ, zero, suc, ◌+◌, ◌-◌, ◌*◌, ◌%◌, Bool, true, false, ◌&&◌, ◌||◌, ◌==◌, nat_le, nat_lt, not, List, [], ◌∷◌}
 use Rattle.std.specs.Prelude.{length, Option, Some, None, option_map, option_and_then, unwrap_or, drop, cond, codes, bytes_eq}
 use Rattle.std.specs.Char.{is_ascii_digit, is_ascii_hexdigit, is_ascii_alphabetic}
-use lib.Utf8.{scalar}
 use Rattle.std.specs.List.{list_any, slice_split}
 use Rattle.std.specs.Option.{option_map_or}
 use Rattle.std.specs.Str.{continuation_len, lead_bits}
-use Rattle.text_categories.specs.Categories.{is_in}
+use Rattle.text_ecma_regexp.specs.Identifiers.{is_id_start, is_id_part}
 use Rattle.text_ecma_regexp.specs.Letters.{begins, is_among, is_brace_end, is_empty, is_equals_sign, is_greater_sign, is_not_digit}
 use Rattle.text_ecma_regexp.specs.PropertyNames.{general_categories, binary_properties, scripts}
 use Rattle.text_uri.specs.Letters.{before, from, after}
@@ -179,18 +179,12 @@ after_sign text = unwrap_or (after (codes "?") text) text
 abbrev pub after_quantifier : List ℕ → List ℕ
 after_quantifier text = option_map_or after_sign (prefix_front text) text
 
--- `IdentifierStartChar` and `IdentifierPartChar`, by general categories: letters and letter numbers; marks, digits and connectors
-abbrev pub is_letter : ℕ → Bool
-is_letter c = scalar c && (is_in 0 4 c || is_in 9 9 c)
-
-abbrev pub is_mark : ℕ → Bool
-is_mark c = scalar c && (is_in 5 5 c || (is_in 6 6 c || (is_in 8 8 c || is_in 11 11 c)))
-
+-- `IdentifierStartChar` and `IdentifierPartChar`
 abbrev pub is_start : ℕ → Bool
-is_start c = (c == 36) || ((c == 95) || is_letter c)
+is_start c = (c == 36) || ((c == 95) || is_id_start c)
 
 abbrev pub is_part : ℕ → Bool
-is_part c = is_start c || ((c == 8204) || ((c == 8205) || is_mark c))
+is_part c = (c == 36) || ((c == 0x200C) || ((c == 0x200D) || is_id_part c))
 
 -- a character of a name: by itself, or as a `RegExpUnicodeEscapeSequence` behind its backslash
 abbrev pub name_character : List ℕ → Option (ℕ × List ℕ)

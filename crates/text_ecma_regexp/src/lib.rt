@@ -1,4 +1,4 @@
-//! Regular expressions of ECMA-262.
+//! Regular expressions of ECMA-262, 15th edition (2024).
 //!
 //! ```
 //! assert!(rt; is_regex("[0-9]{4}(?=-)"));
@@ -10,6 +10,7 @@ mod class;
 mod escape;
 mod letters;
 mod names;
+mod newer;
 mod property;
 mod property_names;
 mod quantifier;

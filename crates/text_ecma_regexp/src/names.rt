@@ -2,12 +2,15 @@
 ghost use Rattle.std.specs.List.{list_any};
 ghost use Rattle.std.specs.Option.{option_map_or};
 ghost use Rattle.std.specs.Prelude.{◌≡◌, ◌<◌, ◌∷◌, [], length, IfSome};
-ghost use Rattle.text_ecma_regexp.specs.Regex.{is_letter, is_mark, is_start, is_part, name_character, are_parts, is_name};
+ghost use Rattle.text_ecma_regexp.specs.Identifiers.{is_letter, is_mark, is_other_start, is_other_part, is_within};
+ghost use Rattle.text_ecma_regexp.specs.Identifiers.{is_id_start, is_id_part};
+ghost use Rattle.text_ecma_regexp.specs.Regex.{is_start, is_part, name_character, are_parts, is_name};
 ghost use Rattle.text_ecma_regexp.specs.Regex.{name_value, is_same_name, are_distinct};
 ghost use Rattle.text_ecma_regexp.specs.Scan.{is_in_named, left_of, found, texts};
 ghost use Rattle.text_categories.specs.Categories.{named};
 
 use crate::escape::{character, unicode_front};
+use crate::newer::{NEWER_PARTS, NEWER_STARTS};
 use text_categories::Category;
 
 /// Whether the character is a letter or a letter number.
@@ -42,18 +45,61 @@ fn is_in(group: char, letter: Option<char>, c: char) -> bool
     }
 }
 
+/// Whether the character has `Other_ID_Start`.
+fn is_other_start(n: u32) -> bool
+    ensures { result ≡ is_other_start n }
+{
+    matches!(n, 0x1885..=0x1886 | 0x2118 | 0x212E | 0x309B..=0x309C)
+}
+
+/// Whether the character has `Other_ID_Continue`.
+fn is_other_part(n: u32) -> bool
+    ensures { result ≡ is_other_part n }
+{
+    matches!(n, 0xB7 | 0x387 | 0x1369..=0x1371)
+        || matches!(n, 0x19DA | 0x200C..=0x200D | 0x30FB | 0xFF65)
+}
+
+fn is_within_any(ranges: &[(u32, u32)], n: u32) -> bool
+    ensures { result ≡ list_any (is_within n) ranges.now }
+{
+    ranges.iter().any(|range| is_within(n, *range))
+}
+
+fn is_within(n: u32, range: (u32, u32)) -> bool
+    ensures { result ≡ is_within n range }
+{
+    range.0 <= n && n <= range.1
+}
+
+/// Whether the character has `ID_Start`.
+#[tactic(auto, unfolding(crate::specs::Identifiers::is_id_start))]
+fn is_id_start(n: u32) -> bool
+    ensures { result ≡ is_id_start n }
+{
+    (is_letter(n) && n != 0x2E2F) || is_other_start(n) || is_within_any(&NEWER_STARTS, n)
+}
+
+/// Whether the character has `ID_Continue`.
+#[tactic(auto, unfolding(crate::specs::Identifiers::is_id_part))]
+fn is_id_part(n: u32) -> bool
+    ensures { result ≡ is_id_part n }
+{
+    is_id_start(n) || is_mark(n) || is_other_part(n) || is_within_any(&NEWER_PARTS, n)
+}
+
 /// Whether a name may begin with the character.
 fn is_start(n: u32) -> bool
     ensures { result ≡ is_start n }
 {
-    n == 36 || n == 95 || is_letter(n)
+    n == 36 || n == 95 || is_id_start(n)
 }
 
 /// Whether the character may be in a name.
 fn is_part(n: u32) -> bool
     ensures { result ≡ is_part n }
 {
-    is_start(n) || n == 0x200C || n == 0x200D || is_mark(n)
+    n == 36 || n == 0x200C || n == 0x200D || is_id_part(n)
 }
 
 /// The character at the front of a name, as itself or as an escape, and what follows.

@@ -19,7 +19,7 @@ struct Groups {
     depth: usize,
 }
 
-/// Whether the text is a regular expression: `Pattern` of ECMA-262, section 22.2.1, of a `RegExp`
+/// Whether the text is a regular expression: `Pattern` of ECMA-262, 15th edition, 22.2.1, of a `RegExp`
 /// with the flag `u`. Groups are nested at most 128 deep, and at most 128 have names. Names differ,
 /// also where escapes write them: `a` and `\u0061` are the same.
 ///
