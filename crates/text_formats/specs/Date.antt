@@ -1,5 +1,5 @@
 -- Dates and times (RFC 3339, section 5.6).
-use Rattle.std.specs.Prelude.{ℕ, ◌+◌, ◌-◌, ◌*◌, ◌%◌, Bool, false, ◌&&◌, ◌||◌, ◌==◌, nat_le, not, List, [], ◌∷◌}
+use Rattle.std.specs.Prelude.{ℕ, ◌+◌, ◌-◌, ◌*◌, ◌%◌, Bool, true, false, ◌&&◌, ◌||◌, ◌==◌, nat_le, not, List, [], ◌∷◌}
 use Rattle.std.specs.Prelude.{Option, Some, None, option_map, cond, codes, take, drop}
 use Rattle.std.specs.Char.{is_ascii_digit}
 use Rattle.text_formats.specs.Form.{has_form, two}
@@ -32,28 +32,39 @@ abbrev pub minutes : List ℕ → Option ℕ
 minutes text = cond (has_form (codes "00:00") text && (nat_le (two 0 text) 23 && nat_le (two 3 text) 59))
     (Some (60 * two 0 text + two 3 text)) None
 
--- `time-offset`, as the minutes that UTC is ahead, modulo a day
+-- `time-offset`, as the minutes that UTC is ahead, and a day
 abbrev pub ahead : List ℕ → Option ℕ
 ahead [] = None
 ahead (c ∷ cs) = cond (c == 43) (option_map (λ m. 1440 - m) (minutes cs))
-    (cond (c == 45) (minutes cs) (cond (((c == 90) || (c == 122)) && is_empty cs) (Some 0) None))
+    (cond (c == 45) (option_map (λ m. 1440 + m) (minutes cs)) (cond (((c == 90) || (c == 122)) && is_empty cs) (Some 1440) None))
 
--- the second 60 is a leap second, which is at the end of a day in UTC
-abbrev pub is_second : ℕ → ℕ → ℕ → Bool
-is_second second minute ahead = nat_le second 59 || ((second == 60) && ((minute + ahead) % 1440 == 1439))
+-- The second 60 is a leap second (section 5.7): 23:59:60 in UTC of the day before, or of this one, if that day may have one. The
+-- minute is counted from the beginning of the day before.
+abbrev pub is_second : Bool → Bool → ℕ → ℕ → Bool
+is_second before this second minute = nat_le second 59
+    || ((second == 60) && (((minute == 1439) && before) || ((minute == 2879) && this)))
 
--- `full-time` of a clock and an offset, and `date-time`
-abbrev pub is_clock : List ℕ → Option ℕ → Bool
-is_clock clock None = false
-is_clock clock (Some ahead) = has_form (codes "00:00:00") clock && ((nat_le (two 0 clock) 23 && nat_le (two 3 clock) 59)
-    && is_second (two 6 clock) (60 * two 0 clock + two 3 clock) ahead)
+-- `full-time` of a clock and an offset
+abbrev pub is_clock : Bool → Bool → List ℕ → Option ℕ → Bool
+is_clock before this clock None = false
+is_clock before this clock (Some ahead) = has_form (codes "00:00:00") clock && ((nat_le (two 0 clock) 23 && nat_le (two 3 clock) 59)
+    && is_second before this (two 6 clock) (60 * two 0 clock + two 3 clock + ahead))
+
+abbrev pub is_time_on : Bool → Bool → List ℕ → Bool
+is_time_on before this text = is_clock before this (take 8 text) (ahead (after_fraction (drop 8 text)))
 
 abbrev pub is_time : List ℕ → Bool
-is_time text = is_clock (take 8 text) (ahead (after_fraction (drop 8 text)))
+is_time text = is_time_on true true text
 
-abbrev pub is_time_after : List ℕ → Bool
-is_time_after [] = false
-is_time_after (c ∷ cs) = ((c == 84) || (c == 116)) && is_time cs
+abbrev pub is_time_after : Bool → Bool → List ℕ → Bool
+is_time_after before this [] = false
+is_time_after before this (c ∷ cs) = ((c == 84) || (c == 116)) && is_time_on before this cs
 
+-- the day is the last of its month
+abbrev pub is_last_day : List ℕ → Bool
+is_last_day date = two 8 date == days_in_month (100 * two 0 date + two 2 date) (two 5 date)
+
+-- `date-time`: a leap second is at the end of a month, so the day before is the last of one if this is the first
 abbrev pub is_date_time : List ℕ → Bool
-is_date_time text = is_date (take 10 text) && is_time_after (drop 10 text)
+is_date_time text = is_date (take 10 text)
+    && is_time_after (two 8 (take 10 text) == 1) (is_last_day (take 10 text)) (drop 10 text)

@@ -1,11 +1,17 @@
 -- Letters, and texts of them. A test gets a byte and the bytes after it.
-use Rattle.std.specs.Prelude.{ℕ, Bool, true, false, ◌&&◌, ◌||◌, ◌==◌, not, List, [], ◌∷◌, codes}
-use Rattle.std.specs.Char.{is_ascii_hexdigit, is_ascii_alphanumeric}
+use Rattle.std.specs.Prelude.{ℕ, Bool, true, false, ◌&&◌, ◌||◌, ◌==◌, not, List, [], ◌∷◌, Option, Some, None, cond, codes}
+use Rattle.std.specs.Char.{is_ascii_hexdigit, is_ascii_alphanumeric, to_ascii_lowercase}
 pub use Rattle.text_ecma_regexp.specs.Letters.{is_empty, begins, is_among, is_not_digit, is_brace_end}
 
 abbrev pub each : (ℕ → List ℕ → Bool) → List ℕ → Bool
 each test [] = true
 each test (c ∷ cs) = test c cs && each test cs
+
+-- the text after the word, whose letters may have either case, as those of ABNF's strings (RFC 5234, section 2.3)
+abbrev pub after_word : List ℕ → List ℕ → Option (List ℕ)
+after_word [] text = Some text
+after_word (d ∷ word) [] = None
+after_word (d ∷ word) (c ∷ cs) = cond (to_ascii_lowercase c == to_ascii_lowercase d) (after_word word cs) None
 
 abbrev pub is_at_sign : ℕ → Bool
 is_at_sign c = c == 64

@@ -4,10 +4,10 @@ ghost use Rattle.text_formats.specs.Duration.{is_duration, is_dates, is_time_par
 ghost use Rattle.text_formats.specs.Duration.{after_unit, after_chain, after_units};
 ghost use Rattle.text_formats.specs.Splitting.{now};
 
-use crate::letters::{End, cut};
+use crate::letters::{End, cut, is_letter};
 
 /// Whether the text is a duration (RFC 3339, appendix A): years, months and days, or weeks, or hours, minutes and
-/// seconds after a `T`, without a gap between the units.
+/// seconds after a `T`, without a gap between the units. Letters may be small.
 ///
 /// ```
 /// assert!(rt; is_duration("P4DT12H30M5S"));
@@ -17,7 +17,7 @@ pub fn is_duration(text: &str) -> bool
     ensures { result ≡ is_duration text.now }
 {
     match text.as_bytes().split_first() {
-        Some((b'P', rest)) => is_dates(rest) || is_rest(after_unit(b'W', rest)),
+        Some((b'P' | b'p', rest)) => is_dates(rest) || is_rest(after_unit(b'W', rest)),
         _ => false,
     }
 }
@@ -37,7 +37,7 @@ fn is_time_part(text: &[u8]) -> bool
 {
     match text.split_first() {
         None => true,
-        Some((b'T', rest)) => is_rest(after_units(b"HMS", rest)),
+        Some((b'T' | b't', rest)) => is_rest(after_units(b"HMS", rest)),
         Some(_) => false,
     }
 }
@@ -57,7 +57,7 @@ fn after_unit(unit: u8, text: &[u8]) -> Option<&[u8]>
 {
     let (digits, rest) = cut(text, End::Digits);
     match rest {
-        [c, more @ ..] if !digits.is_empty() && *c == unit => Some(more),
+        [c, more @ ..] if !digits.is_empty() && is_letter(unit, *c) => Some(more),
         _ => None,
     }
 }

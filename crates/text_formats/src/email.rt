@@ -2,14 +2,14 @@
 ghost use Rattle.std.specs.Prelude.{◌≡◌, option_map};
 ghost use Rattle.text_formats.specs.Email.{is_email, is_atom, is_dot_string, is_printable, is_quoted_letter};
 ghost use Rattle.text_formats.specs.Email.{after_quoted, is_literal, is_bracketed, is_domain, is_at_domain};
-ghost use Rattle.text_formats.specs.Email.{is_only_end};
+ghost use Rattle.text_formats.specs.Email.{is_only_end, is_after_local};
 
-use crate::host::is_host;
-use crate::ip::{is_address, is_quad};
-use crate::letters::{End, Letters, are, cut};
+use crate::host::is_name;
+use crate::ip::{Rules, is_address, is_quad};
+use crate::letters::{End, Letters, after_word, are, cut};
 
-/// Whether the text is an address of mail: `Mailbox` of RFC 5321, section 4.1.2, whose domain is a name of a host,
-/// or an address of IPv4 or IPv6 in brackets.
+/// Whether the text is an address of mail: `Mailbox` of RFC 5321, section 4.1.2, whose domain is labels as those of a
+/// host, or an address of IPv4 or IPv6 in brackets. The part before the `@` has at most 64 bytes (section 4.5.3.1.1).
 ///
 /// ```
 /// assert!(rt; is_email("joe.bloggs@example.com"));
@@ -29,12 +29,19 @@ fn is_mailbox(text: &[u8]) -> bool
     };
     if *first == b'"' {
         return match after_quoted(quoted) {
-            Some(rest) => is_at_domain(rest),
+            Some(rest) => is_after_local(text, rest),
             None => false,
         };
     }
     let (local, rest) = cut(text, End::User);
-    is_dot_string(local) && is_at_domain(rest)
+    is_dot_string(local) && is_after_local(text, rest)
+}
+
+/// Whether the rest of the text is a domain after `@`, and what is in front of it is no longer than allowed.
+fn is_after_local(text: &[u8], rest: &[u8]) -> bool
+    ensures { result ≡ is_after_local text.now rest.now }
+{
+    text.len().saturating_sub(rest.len()) <= 64 && is_at_domain(rest)
 }
 
 fn is_dot_string(text: &[u8]) -> bool
@@ -100,7 +107,7 @@ fn is_domain(text: &[u8]) -> bool
 {
     match text.split_first() {
         Some((b'[', literal)) => is_bracketed(literal),
-        Some(_) => is_host(text),
+        Some(_) => is_name(text),
         None => false,
     }
 }
@@ -122,8 +129,8 @@ fn is_only_end(text: &[u8]) -> bool
 fn is_literal(text: &[u8]) -> bool
     ensures { result ≡ is_literal text.now }
 {
-    match text {
-        [b'I', b'P', b'v', b'6', b':', address @ ..] => is_address(address),
-        _ => is_quad(text),
+    match after_word(b"IPv6:", text) {
+        Some(address) => is_address(Rules::Mail, address),
+        None => is_quad(Rules::Mail, text),
     }
 }

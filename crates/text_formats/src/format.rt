@@ -32,7 +32,7 @@ pub enum Format {
     Email,
     /// A name of a host (RFC 1123).
     Hostname,
-    /// An address of IPv4 (RFC 2673).
+    /// An address of IPv4 (RFC 3986).
     Ipv4,
     /// An address of IPv6 (RFC 4291).
     Ipv6,
@@ -46,9 +46,9 @@ pub enum Format {
     Uuid,
     /// A JSON Pointer (RFC 6901).
     JsonPointer,
-    /// A relative JSON Pointer.
+    /// A relative JSON Pointer (draft-bhutton-relative-json-pointer-00).
     RelativeJsonPointer,
-    /// A regular expression (ECMA-262).
+    /// A regular expression (ECMA-262, 15th edition).
     Regex,
 }
 

@@ -1,9 +1,11 @@
 //! Letters, and where texts of them end.
-ghost use Rattle.std.specs.Prelude.{◌≡◌, length};
+ghost use Rattle.std.specs.Char.{to_ascii_lowercase};
+ghost use Rattle.std.specs.Prelude.{◌≡◌, ◌==◌, length};
 ghost use Rattle.text_formats.specs.Letters.{each, is_unreserved, is_sub_delimiter, begins_with_pair};
 ghost use Rattle.text_formats.specs.Letters.{is_uri_letter, is_label_letter, is_atom_letter, is_pointer_letter};
-ghost use Rattle.text_formats.specs.Letters.{is_among};
+ghost use Rattle.text_formats.specs.Letters.{is_among, after_word};
 ghost use Rattle.text_formats.specs.Scan.{ends, passes};
+ghost use Rattle.text_formats.specs.Splitting.{now};
 ghost use Rattle.text_formats.specs.Template.{is_literal, is_name_letter};
 ghost use Rattle.text_uri.specs.Letters.{before, from};
 ghost use Rattle.text_uri.specs.Parts.{is_scheme_letter};
@@ -79,6 +81,28 @@ fn ends(end: End, byte: u8) -> bool
         End::Brace => byte == b'{',
         End::Expression => byte == b'}',
         End::Name => matches!(byte, b':' | b'*'),
+    }
+}
+
+/// Whether the byte is the letter in either case.
+pub(crate) fn is_letter(letter: u8, c: u8) -> bool
+    ensures { result ≡ (to_ascii_lowercase c == to_ascii_lowercase letter) }
+{
+    c.to_ascii_lowercase() == letter.to_ascii_lowercase()
+}
+
+/// What follows the word at the front of the text, whose letters may have either case.
+pub(crate) fn after_word<'t>(word: &[u8], text: &'t [u8]) -> Option<&'t [u8]>
+    ensures { now result ≡ after_word word.now text.now }
+{
+    let Some((letter, more)) = word.split_first() else {
+        return Some(text);
+    };
+    let (c, rest) = text.split_first()?;
+    if is_letter(*letter, *c) {
+        after_word(more, rest)
+    } else {
+        None
     }
 }
 

@@ -10,7 +10,7 @@ ghost use Rattle.text_formats.specs.Uri.{is_ip_literal, is_future, is_dot_and_le
 ghost use Rattle.text_uri.specs.Letters.{after};
 ghost use Rattle.text_uri.specs.Parts.{split, cut_scheme, cut_authority, cut_query, is_scheme};
 
-use crate::ip::is_address;
+use crate::ip::{Rules, is_address};
 use crate::letters::{End, Letters, are, cut};
 
 /// The parts of a reference.
@@ -187,7 +187,7 @@ fn is_bracket_and_port(text: &[u8]) -> bool
 fn is_ip_literal(text: &[u8]) -> bool
     ensures { result ≡ is_ip_literal text.now }
 {
-    is_address(text) || is_future(text)
+    is_address(Rules::Uri, text) || is_future(text)
 }
 
 /// Whether the text is an address of a later version.

@@ -5,7 +5,7 @@ use Rattle.text_formats.specs.Ip.{is_octet}
 use Rattle.text_formats.proofs.ip.are_octets.Goals as goal
 
 pub returns : goal.returns
-returns c = all_from_yields_List is_octet _ _ c.all.result c.all.ensures.ran
+returns c = all_from_yields_List (is_octet c.args.rules) _ _ c.all.result c.all.ensures.ran
     (YieldsList-from_slice_split _ (λ b. b == 46) c.args.text.now c.split.ensures.rest c.split.ensures.done
     c.split.ensures.closure (λ x b q k. search (rules, tests)))
     (λ x b q k. search (rules, tests))
