@@ -2,24 +2,26 @@
 use Rattle.std.proofs.Common.{◌≡◌, inl, inr, ℕ, ◌+◌, ◌-◌, ◌<◌, ◌≤◌, Bool, true, false, not, ◌&&◌, cond, List, [], ◌∷◌, ◌++◌, length}
 use Rattle.std.proofs.Common.{is_some, Option, Some, None, Err, refl, sym, ap, ◌∙◌, subst, arith, append-nil, append_assoc, length-append}
 use Rattle.std.proofs.Common.{true≢false}
-use Rattle.std.proofs.lemmas.Bool.{and_parts}
+use Rattle.std.proofs.lemmas.Bool.{and_parts, cond-true}
 use Rattle.std.specs.Prelude.{option_and_then}
 use Rattle.text_iregexp.specs.declared.cases.Case.{Case as CaseTree}
 use Rattle.text_iregexp.specs.declared.outermost.Outermost.{Outermost}
 use Rattle.text_iregexp.specs.declared.error.IRegexpError.{IRegexpError}
 use Rattle.text_iregexp.specs.declared.error.IRegexpErrorKind.{IRegexpErrorKind}
 use Rattle.text_iregexp.specs.declared.error.IRegexpErrorKind.TheVariants.{Invalid, TooDeep, TooLarge, OutOfMemory}
-use Rattle.text_iregexp.specs.Grammar.{opened}
-use Rattle.text_iregexp.specs.Levels.{advance, state_size}
+use Rattle.text_iregexp.specs.Grammar.{opened, closed, group}
+use Rattle.text_iregexp.specs.Levels.{Level, with_atom, regexp_of, advance, state_size}
 use Rattle.text_iregexp.specs.Limits.{depth_limit, size_limit, begins_group, ends_group}
 use Rattle.text_iregexp.specs.Patterns as is
 use Rattle.text_iregexp.specs.Patterns.{Mark, look, token, Spelled, are_distinct, Pattern, pattern_marks, IsText, IsSmall}
 use Rattle.text_iregexp.specs.Patterns.{has_looks, AreSmallCases}
 use Rattle.text_iregexp.specs.PatternFronts.{next_front, Takes, TakesName}
 use Rattle.text_iregexp.specs.PatternMachine.{PartsState, no_levels, is_before, is_bar, with_state, advance_mark}
-use Rattle.text_iregexp.specs.PatternCases.{CasesState, no_cases, is_closed, case_in, pattern_in, ended, is_last, advance_case, run_cases}
+use Rattle.text_iregexp.specs.PatternCases.{CasesState, no_cases, is_closed, case_in, pattern_in, with_here, closed_look, ended, is_last}
+use Rattle.text_iregexp.specs.PatternCases.{advance_case, run_cases}
 use Rattle.text_iregexp.specs.PatternCases.{CasesMean, StandsFor, TakesCase, FinishesCases}
-use Rattle.text_iregexp.specs.PatternReading.{begins_one, ends_one, begun_groups, ended_groups, OpensTooMany, IsNone, Says, Refused}
+use Rattle.text_iregexp.specs.PatternReading.{begins_one, ends_one, begun_groups, ended_groups, OpensTooMany, IsNone, GrowsTooLarge}
+use Rattle.text_iregexp.specs.PatternReading.{Says, Refused}
 use Rattle.std.proofs.Common.{drop, take}
 use Rattle.text_iregexp.specs.declared.pattern_error.SchemaPatternError.{SchemaPatternError}
 use Rattle.text_iregexp.specs.declared.pattern_error.SchemaPatternErrorKind.TheVariants as reason
@@ -212,17 +214,109 @@ no_end text rest b names r e not_closed p t =
     let same : whole.last ≡ r.state = some_same (sym whole.runs ∙ (ap (run_cases no_cases) marks ∙ r.ran)) in
     true≢false (sym whole.closed ∙ (ap is_closed same ∙ not_closed r.state r.agrees))
 
-all_large : (text rest after : List ℕ) (b : Outermost) (m : Mark) (names ns : List (List ℕ)) → Reading text rest b names
-    → next_front rest ≡ Some (m, (ns, after))
+record Front (text : List ℕ) (marks : List Mark) (names : List (List ℕ)) (rest : List ℕ) : Type 0 where
+  cs : List ℕ
+  split : text ≡ cs ++ rest
+  spelled : Spelled cs marks names
+
+front_of : {xs zs : List ℕ} {ms : List Mark} {ns : List (List ℕ)} → Lexes xs ms ns zs → Front xs ms ns zs
+front_of stop = record { cs = []; split = refl; spelled = is.none }
+front_of (go {xs} {ys} {zs} {m} {ms} {ns} {us} e k) =
+    let s = next_sound xs m ns ys e in
+    let f = front_of k in
+    record {
+      cs = s.cs ++ f.cs;
+      split = s.split ∙ (ap (λ ts. s.cs ++ ts) f.split ∙ sym (append_assoc s.cs f.cs zs));
+      spelled = s.grows f.cs zs ms us f.split f.spelled;
+    }
+
+-- ---- what was read can be ended
+
+abbrev at_levels : CasesState → Level → List Level → CasesState
+at_levels s l ls = with_here s (with_state s.here (l, ls))
+
+record Closes (s : CasesState) : Type 0 where
+  marks : List Mark
+  last : CasesState
+  ran : run_cases s marks ≡ Some last
+  closed : no_levels last.here.state.1 ≡ true
+
+-- the groups that are open end, the innermost first
+closes : (s : CasesState) (l : Level) (ls : List Level) → Closes (at_levels s l ls)
+closes s l [] = record { marks = []; last = at_levels s l []; ran = refl; closed = refl }
+closes s l (o ∷ ls) =
+    let k = closes s (with_atom o (group (regexp_of l))) ls in
+    record { marks = token closed ∷ k.marks; last = k.last; ran = k.ran; closed = k.closed }
+
+record Completes (s : CasesState) : Type 0 where
+  marks : List Mark
+  last : CasesState
+  ran : run_cases s marks ≡ Some last
+  closed : is_closed last ≡ true
+
+-- and so does the look-ahead
+look_ends : (s : CasesState) (n : Bool) → no_levels s.here.state.1 ≡ true → s.inside ≡ Some n
+    → run_cases s (token closed ∷ []) ≡ Some (closed_look s n)
+look_ends s n l e =
+    ap (option_and_then (λ u. run_cases u []))
+    (cond-true (no_levels s.here.state.1 && is_last s.inside (token closed)) _ _
+    (ap (λ b. b && is_last s.inside (token closed)) l ∙ ap (λ o. is_last o (token closed)) e)
+    ∙ ap (λ o. let x : Option CasesState = Some (ended s o) in x) e)
+
+completes : (s : CasesState) → Completes s
+completes s = by k.last.inside refl
+  where
+    k : Closes s
+    k = closes s s.here.state.0 s.here.state.1
+
+    by : (o : Option Bool) → k.last.inside ≡ o → Completes s
+    by None e = record {
+      marks = k.marks;
+      last = k.last;
+      ran = k.ran;
+      closed = ap (λ o. not (is_some o) && no_levels k.last.here.state.1) e ∙ k.closed;
+    }
+    by (Some n) e = record {
+      marks = k.marks ++ token closed ∷ [];
+      last = closed_look k.last n;
+      ran = run_cases_append k.marks (token closed ∷ []) s
+          ∙ (ap (option_and_then (λ u. run_cases u (token closed ∷ []))) k.ran ∙ look_ends k.last n k.closed e);
+      closed = refl;
+    }
+
+grows_large : (text rest after : List ℕ) (b : Outermost) (m : Mark) (old new : List (List ℕ)) (r : Reading text rest b old)
+    → Takes rest m after old new
     → ((s : CasesState) → StandsFor b s → (u : CasesState) × (advance_case s m ≡ Some u) × (size_limit < state_size u.here.state))
-    → (p : Pattern) → IsText text p → IsSmall p → ⊥
-all_large text rest after b m names ns r e takes p t small =
-    let f = from_place m r e p t in
+    → GrowsTooLarge text r.marks
+grows_large text rest after b m old new r t takes =
     let k = takes r.state r.agrees in
-    let runs = sym (ap (option_and_then (λ u. run_cases u f.0)) k.1) ∙ f.1 in
-    let back = case_back r.state m k.0 k.1 r.agrees.here.bare r.agrees.proper.alone in
-    let fine = run_fine f.0 k.0 (pattern_complete p).last runs back.bare back.alone ((pattern_complete p).fine small) in
-    absurd (omega (arith, k.2, fine.here.state))
+    let marks = r.marks ++ m ∷ [] in
+    let lexed : Lexes text marks new after = subst (λ us. Lexes text marks us after) (sym t.2) (lexes_push r.lexed t.1) in
+    let front = front_of lexed in
+    let ran : run_cases no_cases marks ≡ Some k.0 = runs_on r.marks r.state m r.ran ∙ k.1 in
+    let c = completes k.0 in
+    let on : (more : List Mark) → run_cases no_cases (marks ++ more) ≡ run_cases k.0 more =
+    λ more. run_cases_append marks more no_cases ∙ ap (option_and_then (λ u. run_cases u more)) ran in
+    record {
+      mark = m;
+      front = front.cs;
+      after = after;
+      names = new;
+      split = front.split;
+      spelled = front.spelled;
+      distinct = t.3 r.distinct;
+      begun = record {
+        more = c.marks;
+        pattern = pattern_in c.last;
+        whole = pattern_sound (marks ++ c.marks) c.last (on c.marks ∙ c.ran) c.closed;
+      };
+      large = λ more p e small.
+          let w = pattern_complete p in
+          let runs : run_cases k.0 more ≡ Some w.last = sym (on more) ∙ (ap (run_cases no_cases) (sym e) ∙ w.runs) in
+          let back = case_back r.state m k.0 k.1 r.agrees.here.bare r.agrees.proper.alone in
+          let fine = run_fine more k.0 w.last runs back.bare back.alone (w.fine small) in
+          absurd (omega (arith, k.2, fine.here.state));
+    }
 
 -- ---- how many groups are open
 
@@ -332,7 +426,7 @@ pub says_no_take : (text rest after : List ℕ) (b b' : Outermost) (m : Mark) (k
     (r : Reading text rest b old) → Takes rest m after old new → TakesCase b m (Err k) b' → Says text r.marks rest k
 says_no_take text rest after b b' m Invalid old new r t f = no_advance text rest after b m old t.0 r t.1 f
 says_no_take text rest after b b' m TooDeep old new r t f = too_deep text rest after b m old t.0 r t.1 f.0 f.1
-says_no_take text rest after b b' m TooLarge old new r t f = inr (all_large text rest after b m old t.0 r t.1 f)
+says_no_take text rest after b b' m TooLarge old new r t f = inr (grows_large text rest after b m old new r t f)
 says_no_take text rest after b b' m OutOfMemory old new r t f = tt
 
 pub says_no_end : (text rest : List ℕ) (b : Outermost) (k : IRegexpErrorKind) (names : List (List ℕ)) (r : Reading text rest b names)
@@ -341,22 +435,6 @@ says_no_end text rest b Invalid names r e f = no_end text rest b names r e f
 says_no_end text rest b TooDeep names r e f = absurd f
 says_no_end text rest b TooLarge names r e f = absurd f
 says_no_end text rest b OutOfMemory names r e f = tt
-
-record Front (text : List ℕ) (marks : List Mark) (names : List (List ℕ)) (rest : List ℕ) : Type 0 where
-  cs : List ℕ
-  split : text ≡ cs ++ rest
-  spelled : Spelled cs marks names
-
-front_of : {xs zs : List ℕ} {ms : List Mark} {ns : List (List ℕ)} → Lexes xs ms ns zs → Front xs ms ns zs
-front_of stop = record { cs = []; split = refl; spelled = is.none }
-front_of (go {xs} {ys} {zs} {m} {ms} {ns} {us} e k) =
-    let s = next_sound xs m ns ys e in
-    let f = front_of k in
-    record {
-      cs = s.cs ++ f.cs;
-      split = s.split ∙ (ap (λ ts. s.cs ++ ts) f.split ∙ sym (append_assoc s.cs f.cs zs));
-      spelled = s.grows f.cs zs ms us f.split f.spelled;
-    }
 
 pub refused : (text rest : List ℕ) (b : Outermost) (e : IRegexpError) (names : List (List ℕ)) (r : Reading text rest b names)
     → e.place ≡ length text - length rest → Says text r.marks rest e.kind → Refused text e

@@ -19,7 +19,7 @@ use Rattle.text_iregexp.specs.Grammar.{is_one_of}
 use Rattle.text_iregexp.specs.Limits.{depth_limit, begins_group, ends_group, LargeCount}
 use Rattle.text_iregexp.specs.PatternFronts.{code_front}
 use Rattle.text_iregexp.specs.Patterns.{equals_sign, exclamation_mark, less_than, letter_u, is_surrogate, Mark, token, look}
-use Rattle.text_iregexp.specs.Patterns.{begins_name, is_name_part, Spelled, Pattern, IsText, IsSmall, IsFound}
+use Rattle.text_iregexp.specs.Patterns.{begins_name, is_name_part, Spelled, are_distinct, Pattern, pattern_marks, IsText, IsSmall, IsFound}
 use Rattle.text_iregexp.specs.PatternCases.{CasesMean}
 use Rattle.text_iregexp.specs.PatternTexts.{case_text}
 
@@ -53,16 +53,34 @@ pub record OpensTooMany (marks : List Mark) (rest : List ℕ) : Type 0 where
 abbrev pub IsNone : List ℕ → Type 0
 IsNone cs = (p : Pattern) → IsText cs p → ⊥
 
--- the rest has a count that is too large, or each pattern that the text is has a branch that is too
--- large
-abbrev pub IsLarge : List ℕ → List ℕ → Type 0
-IsLarge cs rest = LargeCount rest ⊎ ((p : Pattern) → IsText cs p → IsSmall p → ⊥)
+-- A pattern begins with these marks.
+pub record Begins (marks : List Mark) : Type 0 where
+  pub more : List Mark
+  pub pattern : Pattern
+  pub whole : pattern_marks pattern ≡ marks ++ more
+
+-- The text begins with these marks and one more. A pattern begins with all of these, and each such
+-- pattern has a branch that is too large.
+pub record GrowsTooLarge (cs : List ℕ) (marks : List Mark) : Type 0 where
+  pub mark : Mark
+  pub front : List ℕ
+  pub after : List ℕ
+  pub names : List (List ℕ)
+  pub split : cs ≡ front ++ after
+  pub spelled : Spelled front (marks ++ mark ∷ []) names
+  pub distinct : are_distinct names ≡ true
+  pub begun : Begins (marks ++ mark ∷ [])
+  pub large : (more : List Mark) (p : Pattern) → pattern_marks p ≡ (marks ++ mark ∷ []) ++ more → IsSmall p → ⊥
+
+-- the rest has a count that is too large, or only patterns that are too large begin as the text does
+abbrev pub IsLarge : List ℕ → List Mark → List ℕ → Type 0
+IsLarge cs marks rest = LargeCount rest ⊎ GrowsTooLarge cs marks
 
 -- what a kind of error means for a text that consists of these marks and the rest
 abbrev pub Says : List ℕ → List Mark → List ℕ → IRegexpErrorKind → Type 0
 Says cs marks rest kind.Invalid = IsNone cs
 Says cs marks rest kind.TooDeep = OpensTooMany marks rest
-Says cs marks rest kind.TooLarge = IsLarge cs rest
+Says cs marks rest kind.TooLarge = IsLarge cs marks rest
 Says cs marks rest kind.OutOfMemory = Unit {0}
 
 -- The text before the place consists of marks, and the kind of the error is right for the text
@@ -135,7 +153,7 @@ abbrev pub SaysOf : List ℕ → List Mark → List ℕ → SchemaPatternErrorKi
 SaysOf cs marks rest reason.Invalid = IsNone cs
 SaysOf cs marks rest reason.Outside = IsNone cs × (is_outside rest ≡ true)
 SaysOf cs marks rest reason.TooDeep = OpensTooMany marks rest
-SaysOf cs marks rest reason.TooLarge = IsLarge cs rest
+SaysOf cs marks rest reason.TooLarge = IsLarge cs marks rest
 SaysOf cs marks rest reason.OutOfMemory = Unit {0}
 
 -- The text before the place consists of marks, and the kind of the error is right for the text

@@ -23,7 +23,8 @@ pub enum SchemaPatternErrorKind {
     /// More than 200 groups are nested.
     TooDeep,
     /// With each repetition written out, a branch has more than 10,100 characters, classes,
-    /// assertions, groups and bars. Or a count is greater than 10,100.
+    /// assertions, groups and bars. Or a count is greater than 10,100. The text behind the place is
+    /// not read, so it may be no pattern.
     TooLarge,
     /// An allocation failed.
     OutOfMemory,
