@@ -1,17 +1,14 @@
 -- For proofs of callers: lines that are read one after the other, and what is written and told of them.
 use Rattle.std.proofs.Common.{◌≡◌, ◌<◌, ◌==◌, ℕ, Bool, true, false, cond, List, [], ◌∷◌, ◌++◌, length, Option, None, Some, IfSome}
-use Rattle.std.proofs.Common.{zero, suc, not, take, Result, Ok, Err, ◌+◌, refl, sym, ap, ◌∙◌, subst}
+use Rattle.std.proofs.Common.{suc, Result, Ok, Err, ◌+◌, refl, sym, ap, ◌∙◌, subst}
 use Rattle.std.proofs.Common.{append_assoc, append-nil, length-append, arith}
 use Rattle.std.proofs.KnownBytes.{Appends-nil, Appends-trans}
-use Rattle.std.specs.Io.BufRead.{take_through, drop_through, DropsThrough}
-use Rattle.std.specs.Io.KnownBytes.{Appends, Consumes, IsAtEnd, Keeps}
-use Rattle.std.specs.List.{prefix_len}
+use Rattle.std.specs.Io.BufRead.{take_through, drop_through}
+use Rattle.std.specs.Io.KnownBytes.{Appends, Keeps}
 use Rattle.std.specs.Prelude.{if◌then◌else◌}
-use Rattle.std.specs.declared.io.Error.{Error}
 use Rattle.tinyjson.proofs.Callers.{Appends_keeps, stop, stops_then, written_same}
 use Rattle.tinyjson.specs.Written.{Written, WrittenPart}
-use Rattle.tinyjson_bytes.specs.Scan.{is_in_line}
-use Rattle.tinyjson_lines.specs.Lines.{lines, onto_first, LinesRead, AllRead, ReadsLine, AllGive, said, AnswersAll, StopsAmong}
+use Rattle.tinyjson_lines.specs.Lines.{lines, onto_first, LinesRead, AllRead, AllGive, said, AnswersAll, StopsAmong}
 use Rattle.tinyjson_lines.specs.Within.{GivesNext, IsGiven, ReadsWithin, given_as}
 use Rattle.tinyjson_lines.specs.declared.within.LineRead.{LineRead}
 use Rattle.tinyjson_lines.specs.declared.within.LineRead.TheVariants.{Whole, TooLong, End}
@@ -25,64 +22,6 @@ first_by false x (y ∷ ys) = ap (onto_first x) (first_by (y == 10) y ys)
 pub first_line : (xs : List ℕ) → 0 < length (take_through 10 xs) → lines xs ≡ take_through 10 xs ∷ lines (drop_through 10 xs)
 first_line [] h = absurd (omega (arith, h))
 first_line (x ∷ xs) h = first_by (x == 10) x xs
-
--- a line of the bytes that were left, put into a buffer that was cleared
-pub line_read : (left after : Option (List ℕ)) (cleared line : List ℕ) → cleared ≡ []
-    → IfSome left (λ xs. line ≡ cleared ++ take_through 10 xs) → DropsThrough left after 10 → 0 < length line
-    → LinesRead left after (line ∷ [])
-line_read None after cleared line e is rest some = tt
-line_read (Some xs) after cleared line e is rest some =
-    let taken : line ≡ take_through 10 xs = is ∙ ap (λ l. l ++ take_through 10 xs) e in
-    subst (λ o. LinesRead (Some xs) o (line ∷ [])) (sym rest)
-    (first_line xs (subst (λ l. 0 < length l) taken some) ∙ ap (λ l. l ∷ lines (drop_through 10 xs)) (sym taken))
-
--- at the end there is none
-pub none_read : (left after : Option (List ℕ)) → IsAtEnd left → DropsThrough left after 10 → AllRead left after []
-none_read None after end rest = tt
-none_read (Some xs) after end rest = (ap lines end, rest ∙ ap (λ l. Some (drop_through 10 l)) end)
-
--- ---- the line that stands in a reader's buffer
-
-line_by : (b : Bool) (x n : ℕ) (xs ys : List ℕ) → n ≡ cond (not b) (1 + prefix_len is_in_line xs) 0
-    → (0 < n → lines (take n xs ++ ys) ≡ take n xs ∷ lines ys)
-    → cond b ((x ∷ []) ∷ lines (take n xs ++ ys)) (onto_first x (lines (take n xs ++ ys))) ≡ (x ∷ take n xs) ∷ lines ys
-line_by true x zero xs ys e more = refl
-line_by true x (suc n) xs ys e more = absurd (omega (arith, e))
-line_by false x zero xs ys e more = absurd (omega (arith, e))
-line_by false x (suc n) xs ys e more = ap (onto_first x) (more (omega arith))
-
-one_less : (b : Bool) (n m : ℕ) → suc n ≡ cond (not b) (1 + m) 0 → n ≡ m
-one_less true n m e = absurd (omega (arith, e))
-one_less false n m e = omega (arith, e)
-
--- n bytes stand before the first line feed of a list, which others follow
-first_of : (n : ℕ) (xs ys : List ℕ) → n ≡ prefix_len is_in_line xs → n < length xs
-    → lines (take (suc n) xs ++ ys) ≡ take (suc n) xs ∷ lines ys
-first_of n [] ys e h = absurd (omega (arith, h))
-first_of zero (x ∷ xs) ys e h = line_by (x == 10) x zero xs ys e (λ some. absurd (omega (arith, some)))
-first_of (suc n) (x ∷ xs) ys e h =
-    line_by (x == 10) x (suc n) xs ys e (λ some. first_of n xs ys (one_less (x == 10) n _ e) (omega (arith, h)))
-
--- The first line, with its line feed, is taken from what a reader shows.
-pub line_shown : (left after : Option (List ℕ)) (shown cleared line : List ℕ) (n : ℕ) → cleared ≡ [] → line ≡ cleared ++ take (n + 1) shown
-    → n ≡ prefix_len is_in_line shown → n < length shown → Consumes left after (take (n + 1) shown) → LinesRead left after (line ∷ [])
-line_shown None after shown cleared line n e is end h taken = tt
-line_shown (Some xs) None shown cleared line n e is end h taken = absurd taken
-line_shown (Some xs) (Some ys) shown cleared line n e is end h taken =
-    let m : n + 1 ≡ suc n = omega arith in
-    let whole : line ≡ take (suc n) shown = is ∙ ap (λ l. l ++ take (n + 1) shown) e ∙ ap (λ k. take k shown) m in
-    ap lines (taken ∙ ap (λ k. take k shown ++ ys) m) ∙ first_of n shown ys end h ∙ ap (λ l. l ∷ lines ys) (sym whole)
-
--- what was left is still left
-pub reads_kept : (left mid after : Option (List ℕ)) (line : List ℕ) (r : Result Bool Error) → Keeps left mid
-    → ReadsLine mid after line r → ReadsLine left after line r
-reads_kept None mid after line (Ok true) k h = tt
-reads_kept None mid after line (Ok false) k h = tt
-reads_kept left mid after line (Err e) k h = tt
-reads_kept (Some xs) None after line (Ok true) k h = absurd k
-reads_kept (Some xs) None after line (Ok false) k h = absurd k
-reads_kept (Some xs) (Some ys) after line (Ok true) k h = subst (λ zs. LinesRead (Some zs) after (line ∷ [])) k h
-reads_kept (Some xs) (Some ys) after line (Ok false) k h = subst (λ zs. AllRead (Some zs) after []) k h
 
 -- the next line, as it is given where it is read up to a limit
 pub given_next : (max : Option ℕ) (left after : Option (List ℕ)) (read : LineRead) (line slice : List ℕ) (given : Result (List ℕ) ℕ)

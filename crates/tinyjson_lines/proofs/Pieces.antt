@@ -1,9 +1,10 @@
 -- A line that is read in pieces.
 use Rattle.std.proofs.Common.{◌≡◌, ◌<◌, ◌≤◌, ◌≢◌, ◌==◌, ℕ, suc, ◌+◌, ◌-◌, Bool, true, false, cond, not, List, [], ◌∷◌, ◌++◌, All}
-use Rattle.std.proofs.Common.{length, take, drop, get_or, Option, None, Some, IfSome, Ok, refl, sym, ap, ◌∙◌, subst, arith}
+use Rattle.std.proofs.Common.{length, take, drop, get_or, Option, None, Some, IfSome, refl, sym, ap, ◌∙◌, subst, arith}
+use Rattle.std.proofs.Common.{Result, Ok, Err, inl, inr}
 use Rattle.std.proofs.Common.{append_assoc, append-nil, length-append, ne_eqb, eq-eqb, nat_lt, take-append-drop}
 use Rattle.std.proofs.BufReadLemmas.{drop_through-append}
-use Rattle.std.proofs.KnownBytes.{Consumes-nil, Consumes-trans, starts_with_rest}
+use Rattle.std.proofs.KnownBytes.{Consumes-kept, Consumes-nil, Consumes-trans, starts_with_rest}
 use Rattle.std.proofs.Math.Seq.{take-append_seam}
 use Rattle.std.proofs.lemmas.Bool.{eqb-true, false≢true, lt-ltb}
 use Rattle.std.proofs.lemmas.List.{get_or_push, length-take-le, take_all, take_more}
@@ -12,14 +13,19 @@ use Rattle.std.proofs.lemmas.List.Sums.{prefix_len_stops}
 use Rattle.std.specs.Io.BufRead.{take_through, drop_through, DropsThrough, ends_with_byte}
 use Rattle.std.specs.Io.{StartsWith}
 use Rattle.std.specs.Io.KnownBytes.{Consumes, Keeps}
+use Rattle.std.specs.IoError.{error_kind}
 use Rattle.std.specs.List.{prefix_len}
+use Rattle.std.specs.Result.{IsErrAnd}
+use Rattle.std.specs.declared.io.Error.{Error}
+use Rattle.std.specs.declared.io.ErrorKind.{ErrorKind}
+use Rattle.std.specs.declared.io.ErrorKind.TheVariants.{Interrupted, InvalidData, OutOfMemory}
 use Rattle.tinyjson_bytes.specs.Scan.{is_in_line}
 use Rattle.tinyjson_lines.proofs.Callers.{first_line}
-use Rattle.tinyjson_lines.specs.Lines.{content, lines, onto_first, LinesRead, AllRead}
+use Rattle.tinyjson_lines.specs.Lines.{content, lines, onto_first, usize_max, LinesRead, AllRead, ReadsLine, Stops, BeginsLonger}
 use Rattle.tinyjson_lines.specs.Within.{IsLonger, PassesOver, ReadsWithin}
 use Rattle.tinyjson_lines.specs.declared.within.LineRead.{LineRead}
-use Rattle.tinyjson_lines.specs.declared.within.LineRead.TheVariants.{Whole}
-use Rattle.tinyjson_lines.specs.private.Pieces.{IsPart, end_read}
+use Rattle.tinyjson_lines.specs.declared.within.LineRead.TheVariants.{Whole, TooLong}
+use Rattle.tinyjson_lines.specs.private.Pieces.{IsPart, TakesPiece, end_read}
 
 abbrev pub IsInLine : ℕ → Type 0
 IsInLine x = x ≢ 10
@@ -248,6 +254,95 @@ module _ (max n : ℕ) (part shown : List ℕ) (e : n ≡ prefix_len is_in_line 
       let long = long_first max front rest (unended_front p.unended) long_front in
       (long.0, subst (λ o. LinesRead (Some u) o (long.0 ∷ [])) (sym dropped) (ap lines given ∙ long.1), long.2)
 
+  pub begins_longer : (unread left : Option (List ℕ)) → IfSome left (λ xs. StartsWith xs shown) → IsPart max unread left part
+      → BeginsLonger max unread
+  begins_longer None left starts p = tt
+  begins_longer (Some u) None starts p = absurd p.taken
+  begins_longer (Some u) (Some l) starts p =
+      let q : List ℕ = take n shown in
+      let rest : List ℕ = drop n shown ++ drop (length shown) l in
+      let left_is : l ≡ q ++ rest =
+      starts_with_rest l shown starts ∙ ap (λ t. t ++ drop (length shown) l) (sym (take-append-drop n shown))
+      ∙ append_assoc q (drop n shown) (drop (length shown) l) in
+      let given : u ≡ front ++ rest = p.taken ∙ ap (λ t. part ++ t) left_is ∙ sym (append_assoc part q rest) in
+      let long = long_first max front rest (unended_front p.unended) long_front in
+      (long.0, lines (drop_through 10 rest), ap lines given ∙ long.1, long.2)
+
   pub too_long : (unread left mid after : Option (List ℕ)) → IfSome left (λ xs. StartsWith xs shown) → Keeps left mid
       → DropsThrough mid after 10 → IsPart max unread left part → (Some max ≡ Some max) × PassesOver max unread after
   too_long unread left mid after starts kept drops p = (refl, passed_over unread left mid after starts kept drops p)
+
+-- ---- errors
+
+other_kind : (k : ErrorKind) (e : Error) → error_kind e ≡ k → ¬ (k ≡ Interrupted) → error_kind e ≢ Interrupted
+other_kind k e is other i = other (sym is ∙ i)
+
+pub invalid_kind : (e : Error) → error_kind e ≡ InvalidData → error_kind e ≢ Interrupted
+invalid_kind e is = other_kind InvalidData e is (λ i. absurd cc)
+
+pub memory_kind : (e : Error) → error_kind e ≡ OutOfMemory → error_kind e ≢ Interrupted
+memory_kind e is = other_kind OutOfMemory e is (λ i. absurd cc)
+
+-- a part of the line was read
+pub stops_part : (max : ℕ) (unread left : Option (List ℕ)) (part : List ℕ) (e : Error) → error_kind e ≡ InvalidData
+    → IsPart max unread left part → Stops max unread left part e
+stops_part max unread left part e is p = record {
+  kind = invalid_kind e is;
+  within = inl (record { taken = p.taken; unended = p.unended });
+}
+
+-- the error is handed on
+pub stops_read : (max : ℕ) (unread left : Option (List ℕ)) (line : List ℕ) (e : Error) (r : Result LineRead Error)
+    → IsErrAnd r (λ d. d ≡ e) → Stops max unread left line e → ReadsWithin (Some max) unread left line r
+stops_read max unread left line e (Ok x) is h = absurd is
+stops_read max unread left line e (Err d) is h = subst (Stops max unread left line) (sym is) h
+
+pub stops_line : (unread left : Option (List ℕ)) (line : List ℕ) (e : Error) (r : Result Bool Error)
+    → IsErrAnd r (λ d. d ≡ e) → Stops usize_max unread left line e → ReadsLine unread left line r
+stops_line unread left line e (Ok x) is h = absurd is
+stops_line unread left line e (Err d) is h = subst (Stops usize_max unread left line) (sym is) h
+
+-- the piece was not taken, and what was read of the line stays
+pub stops_piece : (max : ℕ) (unread left after : Option (List ℕ)) (part line : List ℕ) (e : Error) → error_kind e ≢ Interrupted
+    → Keeps left after → line ≡ part → IsPart max unread left part → Stops max unread after line e
+stops_piece max unread left after part line e k kept same p = record {
+  kind = k;
+  within = inl (record {
+    taken = subst (Consumes unread after) (sym same) (Consumes-kept unread left after part p.taken kept);
+    unended = subst (All IsInLine) (sym same) p.unended;
+  });
+}
+
+-- the error of a piece is handed on
+pub stops_taken : (max : ℕ) (unread left : Option (List ℕ)) (line : List ℕ) (e : Error) (r : Result (Option LineRead) Error)
+    → IsErrAnd r (λ d. d ≡ e) → Stops max unread left line e → TakesPiece max unread left line r
+stops_taken max unread left line e (Ok x) is h = absurd is
+stops_taken max unread left line e (Err d) is h = subst (Stops max unread left line) (sym is) h
+
+-- there was no memory for the piece
+pub memory_stops : (max : ℕ) (unread left after : Option (List ℕ)) (part line : List ℕ) (r : Result (Option LineRead) Error)
+    → IsErrAnd r (λ d. error_kind d ≡ OutOfMemory) → Keeps left after → line ≡ part → IsPart max unread left part
+    → TakesPiece max unread after line r
+memory_stops max unread left after part line (Ok x) is kept same p = absurd is
+memory_stops max unread left after part line (Err d) is kept same p =
+    stops_piece max unread left after part line d (memory_kind d is) kept same p
+
+-- the line is longer
+longer : (max : ℕ) (unread left : Option (List ℕ)) → PassesOver max unread left → BeginsLonger max unread
+longer max None left h = tt
+longer max (Some xs) None h = absurd h.1
+longer max (Some xs) (Some ys) h = (h.0, lines ys, h.1, h.2)
+
+pub stops_longer : (unread left : Option (List ℕ)) (line : List ℕ) (m : ℕ) (e : Error) → error_kind e ≡ InvalidData
+    → ReadsWithin (Some usize_max) unread left line (Ok (TooLong m)) → Stops usize_max unread left line e
+stops_longer unread left line m e is h = record {
+  kind = invalid_kind e is;
+  within = inr (longer usize_max unread left (subst (λ n. PassesOver n unread left) (sym (some_is h.0)) h.1));
+}
+  where
+    value : Option ℕ → ℕ
+    value None = 0
+    value (Some n) = n
+
+    some_is : Some usize_max ≡ Some m → usize_max ≡ m
+    some_is s = ap value s

@@ -1,9 +1,13 @@
 -- The lines of an input, and runs over them.
-use Rattle.std.specs.Prelude.{◌≡◌, ℕ, suc, ◌==◌, Bool, true, false, List, [], ◌∷◌, ◌++◌, cond, Option, None, Some, IfSome}
+use Rattle.std.specs.Prelude.{◌≡◌, ◌≢◌, ◌<◌, ◌⊎◌, length, ℕ, suc, ◌==◌, Bool, true, false, List, [], ◌∷◌, ◌++◌, cond}
+use Rattle.std.specs.Prelude.{Option, None, Some, IfSome}
 use Rattle.std.specs.Prelude.{Result, Ok, Err, ⊤}
 use Rattle.std.specs.Io.BufRead.{strip_last}
-use Rattle.std.specs.Io.KnownBytes.{Appends, Keeps}
+use Rattle.std.specs.Io.KnownBytes.{Appends, Consumes, Keeps}
+use Rattle.std.specs.IoError.{error_kind}
+use Rattle.std.specs.List.{All}
 use Rattle.std.specs.declared.io.Error.{Error}
+use Rattle.std.specs.declared.io.ErrorKind.TheVariants.{Interrupted}
 use Rattle.tinyjson.specs.Characters.{line_feed}
 use Rattle.tinyjson.specs.Written.{WrittenPart}
 
@@ -31,17 +35,32 @@ LinesRead (Some xs) (Some ys) read = lines xs ≡ read ++ lines ys
 abbrev pub AllRead : Option (List ℕ) → Option (List ℕ) → List (List ℕ) → Type 0
 AllRead unread left read = IfSome unread (λ xs. (lines xs ≡ read) × (left ≡ Some []))
 
+-- ---- errors of the reader
+
+-- the greatest length
+abbrev pub usize_max : ℕ
+usize_max = 18446744073709551615
+
+-- The bytes that were consumed are in the buffer, and no line feed is among them.
+pub record StopsInLine (unread left : Option (List ℕ)) (line : List ℕ) : Type 0 where
+  pub taken : Consumes unread left line
+  pub unended : All (λ x. x ≢ line_feed) line
+
+-- The next line has more bytes before its line feed than the limit.
+abbrev pub BeginsLonger : ℕ → Option (List ℕ) → Type 0
+BeginsLonger max unread =
+    IfSome unread (λ xs. (line : List ℕ) × (more : List (List ℕ)) × (lines xs ≡ line ∷ more) × (max < length (content line)))
+
+-- The error is no interruption. It came before the end of the next line, or while a longer one was passed over.
+pub record Stops (max : ℕ) (unread left : Option (List ℕ)) (line : List ℕ) (e : Error) : Type 0 where
+  pub kind : error_kind e ≢ Interrupted
+  pub within : StopsInLine unread left line ⊎ BeginsLonger max unread
+
 -- One line is read, or the input is at its end.
 abbrev pub ReadsLine : Option (List ℕ) → Option (List ℕ) → List ℕ → Result Bool Error → Type 0
 ReadsLine unread left line (Ok true) = LinesRead unread left (line ∷ [])
 ReadsLine unread left line (Ok false) = AllRead unread left []
-ReadsLine unread left line (Err e) = ⊤
-
--- The next line is read, or nothing is. For a private contract.
-abbrev pub TakesShown : Option (List ℕ) → Option (List ℕ) → List ℕ → Result Bool Error → Type 0
-TakesShown unread left line (Ok true) = LinesRead unread left (line ∷ [])
-TakesShown unread left line (Ok false) = Keeps unread left × (line ≡ [])
-TakesShown unread left line (Err e) = ⊤
+ReadsLine unread left line (Err e) = Stops usize_max unread left line e
 
 -- ---- the results of lines
 

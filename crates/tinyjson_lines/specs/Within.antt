@@ -2,7 +2,7 @@
 use Rattle.std.specs.Prelude.{◌≡◌, ◌<◌, ◌≤◌, ℕ, List, [], ◌∷◌, ◌++◌, cond, length, map, nat_lt, Option, None, Some, IfSome}
 use Rattle.std.specs.Prelude.{Result, Ok, Err, ⊤}
 use Rattle.std.specs.declared.io.Error.{Error}
-use Rattle.tinyjson_lines.specs.Lines.{content, lines, LinesRead, AllRead}
+use Rattle.tinyjson_lines.specs.Lines.{content, lines, usize_max, LinesRead, AllRead, Stops}
 use Rattle.tinyjson_lines.specs.declared.within.LineRead.{LineRead}
 use Rattle.tinyjson_lines.specs.declared.within.LineRead.TheVariants.{Whole, TooLong, End}
 
@@ -14,6 +14,11 @@ IsWithin max line = IfSome max (λ m. length (content line) ≤ m)
 abbrev pub IsLonger : ℕ → List ℕ → Type 0
 IsLonger max line = max < length (content line)
 
+-- the most bytes that a line may have before its line feed
+abbrev pub limit_of : Option ℕ → ℕ
+limit_of None = usize_max
+limit_of (Some max) = max
+
 -- One line is read that is longer than the limit.
 abbrev pub PassesOver : ℕ → Option (List ℕ) → Option (List ℕ) → Type 0
 PassesOver max unread left = (line : List ℕ) × LinesRead unread left (line ∷ []) × IsLonger max line
@@ -23,7 +28,7 @@ abbrev pub ReadsWithin : Option ℕ → Option (List ℕ) → Option (List ℕ) 
 ReadsWithin max unread left line (Ok Whole) = LinesRead unread left (line ∷ []) × IsWithin max line
 ReadsWithin max unread left line (Ok (TooLong m)) = (max ≡ Some m) × PassesOver m unread left
 ReadsWithin max unread left line (Ok End) = AllRead unread left []
-ReadsWithin max unread left line (Err e) = ⊤
+ReadsWithin max unread left line (Err e) = Stops (limit_of max) unread left line e
 
 -- a line as it is given after it was read: itself, or the limit that it exceeds
 abbrev pub given_as : LineRead → List ℕ → Result (List ℕ) ℕ

@@ -8,9 +8,9 @@ ghost use Rattle.tinyjson_lines.specs.private.Pieces.{IsPart};
 
 use crate::lines::content;
 use crate::refusal::Cause;
-use crate::within::{LineRead, take_piece};
+use crate::within::{LineRead, take_piece, too_long};
 use std::alloc::Global;
-use std::io::{self, BufRead, ErrorKind};
+use std::io::{self, BufRead};
 use std::str;
 use tinyjson::check_with_depth_limit;
 
@@ -88,10 +88,6 @@ pub fn read_line_checked<R: BufRead>(
         next_check = line.len().saturating_mul(4);
     }
     Err(too_long())
-}
-
-fn too_long() -> io::Error {
-    io::Error::new(ErrorKind::InvalidData, "a line is too long")
 }
 
 /// Why each line is rejected that begins with this part, if that is known.

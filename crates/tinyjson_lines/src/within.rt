@@ -1,6 +1,8 @@
 //! Lines that are read up to a limit.
+ghost use Rattle.std.specs.IoError.{error_kind};
 ghost use Rattle.std.specs.Prelude.{◌≡◌, ◌+◌, ◌≤◌, ℕ, List, Option, Some, IfSome, length};
 ghost use Rattle.std.specs.Result.{result_map_both};
+ghost use Rattle.std.specs.declared.io.ErrorKind.{ErrorKind};
 ghost use Rattle.tinyjson_lines.specs.Within.{ReadsWithin, given_as};
 ghost use Rattle.tinyjson_lines.specs.private.Pieces.{Extends, IsPart, TakesPiece, end_read};
 
@@ -39,7 +41,8 @@ impl LineRead {
 /// Reads one line with its line feed, in place of what `line` held, unless it has more than `max` bytes before its line
 /// feed. A longer line is passed over, and no more than `max` bytes of it are kept in memory.
 ///
-/// After an error a part of the line may have been read.
+/// Interruptions of the reader are passed over. Another error ends the reading within the line: `line` has the bytes
+/// that were consumed, and no line feed; or the line is longer, and a part of it was passed over.
 ///
 /// ```
 /// let mut input = b"[1,2,3]\n4\n".as_slice();
@@ -68,7 +71,11 @@ pub fn read_line_within<R: BufRead>(
 }
 
 /// Reads a line of at most `max` bytes.
-fn gather_line<R: BufRead>(input: &mut R, line: &mut Vec<u8>, max: usize) -> io::Result<LineRead>
+pub(crate) fn gather_line<R: BufRead>(
+    input: &mut R,
+    line: &mut Vec<u8>,
+    max: usize,
+) -> io::Result<LineRead>
     ensures reads { ReadsWithin (Some max) (R.remaining input.old) (R.remaining input.new)
         line.new.items result }
     ensures held { length line.new.items ≤ max + 1 }
@@ -79,7 +86,13 @@ fn gather_line<R: BufRead>(input: &mut R, line: &mut Vec<u8>, max: usize) -> io:
             return Ok(read);
         }
     }
-    Err(io::Error::new(ErrorKind::InvalidData, "too many reads"))
+    Err(too_long())
+}
+
+pub(crate) fn too_long() -> io::Error
+    ensures { error_kind result ≡ ErrorKind.InvalidData }
+{
+    io::Error::new(ErrorKind::InvalidData, "a line is too long")
 }
 
 /// Takes what the reader shows of a line, of which a part is read. `None` where more may follow.

@@ -4,12 +4,9 @@ use Rattle.std.specs.Str.{IsUtf8, chars}
 use Rattle.std.specs.declared.io.Error.{Error}
 use Rattle.tinyjson_lines.specs.Checked.{IsRefused}
 use Rattle.tinyjson_lines.specs.Lines.{content, LinesRead}
+pub use Rattle.tinyjson_lines.specs.Lines.{usize_max}
 use Rattle.tinyjson_lines.specs.declared.refusal.Cause.{Cause}
 use Rattle.tinyjson_lines.specs.declared.refusal.Cause.TheVariants.{NotUtf8, NotJson, TooLong}
-
--- the greatest length
-abbrev pub usize_max : ℕ
-usize_max = 18446744073709551615
 
 -- no text in UTF-8 begins so
 abbrev pub IsNoUtf8 : List ℕ → Type 0

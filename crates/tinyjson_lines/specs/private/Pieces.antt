@@ -3,6 +3,7 @@ use Rattle.std.specs.Prelude.{◌≡◌, ◌++◌, ℕ, List, [], ◌∷◌, len
 use Rattle.std.specs.Io.KnownBytes.{Consumes}
 use Rattle.std.specs.List.{All}
 use Rattle.std.specs.declared.io.Error.{Error}
+use Rattle.tinyjson_lines.specs.Lines.{Stops}
 use Rattle.tinyjson_lines.specs.Within.{ReadsWithin}
 use Rattle.tinyjson_lines.specs.declared.within.LineRead.{LineRead}
 use Rattle.tinyjson_lines.specs.declared.within.LineRead.TheVariants.{Whole, End}
@@ -17,7 +18,7 @@ pub record IsPart (max : ℕ) (unread left : Option (List ℕ)) (part : List ℕ
 abbrev pub TakesPiece : ℕ → Option (List ℕ) → Option (List ℕ) → List ℕ → Result (Option LineRead) Error → Type 0
 TakesPiece max unread left line (Ok None) = IsPart max unread left line
 TakesPiece max unread left line (Ok (Some r)) = ReadsWithin (Some max) unread left line (Ok r)
-TakesPiece max unread left line (Err e) = ⊤
+TakesPiece max unread left line (Err e) = Stops max unread left line e
 
 -- What was read of the line stays. At the end of the input nothing was.
 abbrev pub Extends : List ℕ → List ℕ → Result (Option LineRead) Error → Type 0

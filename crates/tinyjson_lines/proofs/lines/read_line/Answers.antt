@@ -1,25 +1,17 @@
-use Rattle.std.proofs.Common.{◌≡◌, ◌<◌, length, ap, arith}
-use Rattle.std.specs.Prelude.{Ok, true, false, []}
-use Rattle.tinyjson_lines.proofs.Callers.{line_read, none_read, reads_kept}
+use Rattle.std.proofs.Common.{Some, Ok, subst}
+use Rattle.tinyjson_lines.proofs.Pieces.{stops_line, stops_longer}
+use Rattle.tinyjson_lines.specs.Lines.{usize_max}
+use Rattle.tinyjson_lines.specs.Within.{ReadsWithin}
 use Rattle.tinyjson_lines.proofs.lines.read_line.Goals as goal
 
-pub returns-then-branch-eq0 : goal.returns-then-branch-eq0
-returns-then-branch-eq0 g c =
-    let left = g.R.Read.remaining c.shown_line.new.input in
-    let after = g.R.Read.remaining c.read_until.new.self in
-    let kept = rw c.if-branch.false at c.in_ok-shown_line.ensures in
-    let r = c.in_ok-read_until.ensures in
-    reads_kept (g.R.Read.remaining c.args.input.now) left after [] (Ok false) kept.0
-    (none_read left after (r.end c.if-branch-eq0.true) r.rest)
+pub returns-in_err-gather_line : goal.returns-in_err-gather_line
+returns-in_err-gather_line g c =
+    stops_line _ _ _ c.in_err-gather_line.field-0.0 c.from_residual.result c.from_residual.ensures.1 c.in_err-gather_line.ensures.reads
 
-pub returns : goal.returns
-returns g c =
-    let left = g.R.Read.remaining c.shown_line.new.input in
-    let after = g.R.Read.remaining c.read_until.new.self in
-    let kept = rw c.if-branch.false at c.in_ok-shown_line.ensures in
-    let r = c.in_ok-read_until.ensures in
-    let n = c.if-branch-eq0.false in
-    let empty : length c.shown_line.new.line.items ≡ 0 = ap length kept.1 in
-    let some : 0 < length c.read_until.new.buf.items = omega (arith, r.ok, n, empty) in
-    reads_kept (g.R.Read.remaining c.args.input.now) left after c.read_until.new.buf.items (Ok true) kept.0
-    (line_read left after c.shown_line.new.line.items c.read_until.new.buf.items kept.1 r.bytes r.rest some)
+pub returns-in-TooLong : goal.returns-in-TooLong
+returns-in-TooLong g c =
+    let unread = g.R.Read.remaining c.args.input.now in
+    let left = g.R.Read.remaining c.gather_line.new.input in
+    stops_longer unread left c.gather_line.new.line.items c.in-TooLong.field-0 c.too_long.result c.too_long.ensures
+    (subst (λ r. ReadsWithin (Some usize_max) unread left c.gather_line.new.line.items (Ok r)) c.in-TooLong.is
+    c.in_ok-gather_line.ensures.reads)

@@ -1,38 +1,49 @@
-use Rattle.std.proofs.Common.{◌≡◌, ℕ, ◌+◌, ◌<◌, List, Option, Result, Ok, Err, length, subst, sym, ◌∙◌, arith}
+use Rattle.std.proofs.Common.{◌≡◌, ℕ, ◌+◌, ◌<◌, List, Option, Result, Ok, Err, inr, length, subst, sym, ◌∙◌, arith}
 use Rattle.std.specs.Io.BufRead.{FillKeeps}
 use Rattle.std.proofs.BufReadLemmas.{Consumes_shown}
 use Rattle.std.proofs.lemmas.Bool.{eqb-true, false≢true}
 use Rattle.std.specs.Result.{IsErr}
 use Rattle.std.specs.declared.io.Error.{Error}
-use Rattle.tinyjson_lines.proofs.Pieces.{more_part, none_shown, part_ends, too_long, whole_line}
+use Rattle.tinyjson_lines.proofs.Pieces.{begins_longer, memory_stops, more_part, none_shown, part_ends, stops_taken, too_long, whole_line}
 use Rattle.tinyjson_lines.specs.declared.within.LineRead.{LineRead}
-use Rattle.tinyjson_lines.specs.private.Pieces.{Extends, TakesPiece}
+use Rattle.tinyjson_lines.specs.private.Pieces.{Extends}
 use Rattle.tinyjson_lines.proofs.within.take_piece.Goals as goal
-
--- after an error nothing is said
-not_taken : (max : ℕ) (unread left : Option (List ℕ)) (line : List ℕ) (r : Result (Option LineRead) Error) → IsErr r
-    → TakesPiece max unread left line r
-not_taken max unread left line (Ok x) e = absurd (false≢true e)
-not_taken max unread left line (Err x) e = tt
 
 not_extended : (old new : List ℕ) (r : Result (Option LineRead) Error) → IsErr r → Extends old new r
 not_extended old new (Ok x) e = absurd (false≢true e)
 not_extended old new (Err x) e = tt
 
 pub returns-in_err-skip_until-clause-reads : goal.returns-in_err-skip_until-clause-reads
-returns-in_err-skip_until-clause-reads g c = λ unread p. not_taken _ _ _ _ c.from_residual.result c.from_residual.ensures.0
+returns-in_err-skip_until-clause-reads g c = λ unread p.
+    let shown = c.in-Ok.available.now in
+    let end = c.line_end-end in
+    stops_taken c.args.max unread _ _ c.in_err-skip_until.field-0.0 c.from_residual.result c.from_residual.ensures.1 (record {
+      kind = c.in_err-skip_until.ensures.retried;
+      within = inr (begins_longer c.args.max end.result c.args.line.now.items shown end.ensures.end end.ensures.within
+          (omega (arith, c.if-end-saturating_sub.true, c.saturating_sub.ensures, c.len.ensures)) unread _ c.in-Ok.ensures.front p);
+    })
 
 pub returns-in_err-skip_until-clause-extends : goal.returns-in_err-skip_until-clause-extends
 returns-in_err-skip_until-clause-extends g c = not_extended _ _ c.from_residual.result c.from_residual.ensures.0
 
 pub returns-in_err-extend_from_slice-clause-reads : goal.returns-in_err-extend_from_slice-clause-reads
-returns-in_err-extend_from_slice-clause-reads g c = λ unread p. not_taken _ _ _ _ c.from_residual-in_err-extend_from_slice.result c.from_residual-in_err-extend_from_slice.ensures.0
+returns-in_err-extend_from_slice-clause-reads g c = λ unread p.
+    let rested = c.fill_buf.follows.lender-at-none in
+    let filled = subst (FillKeeps _ (g.R.Read.remaining rested) (g.R.BufRead.consumable_len rested)) c.in-Ok.is
+    c.fill_buf.follows.holds-at-none in
+    memory_stops c.args.max unread _ _ c.args.line.now.items _ c.from_residual-in_err-extend_from_slice.result
+    c.from_residual-in_err-extend_from_slice.ensures.1 filled.0 c.in_err-extend_from_slice.ensures.items p
 
 pub returns-in_err-extend_from_slice-clause-extends : goal.returns-in_err-extend_from_slice-clause-extends
 returns-in_err-extend_from_slice-clause-extends g c = not_extended _ _ c.from_residual-in_err-extend_from_slice.result c.from_residual-in_err-extend_from_slice.ensures.0
 
 pub returns-in_err-extend_from_slice-2-clause-reads : goal.returns-in_err-extend_from_slice-2-clause-reads
-returns-in_err-extend_from_slice-2-clause-reads g c = λ unread p. not_taken _ _ _ _ c.from_residual-in_err-extend_from_slice-2.result c.from_residual-in_err-extend_from_slice-2.ensures.0
+returns-in_err-extend_from_slice-2-clause-reads g c = λ unread p.
+    let rested = c.fill_buf.follows.lender-at-none in
+    let filled = subst (FillKeeps _ (g.R.Read.remaining rested) (g.R.BufRead.consumable_len rested)) c.in-Ok.is
+    c.fill_buf.follows.holds-at-none in
+    memory_stops c.args.max unread _ _ c.args.line.now.items _ c.from_residual-in_err-extend_from_slice-2.result
+    c.from_residual-in_err-extend_from_slice-2.ensures.1 filled.0 c.in_err-extend_from_slice-2.ensures.items p
 
 pub returns-in_err-extend_from_slice-2-clause-extends : goal.returns-in_err-extend_from_slice-2-clause-extends
 returns-in_err-extend_from_slice-2-clause-extends g c = not_extended _ _ c.from_residual-in_err-extend_from_slice-2.result c.from_residual-in_err-extend_from_slice-2.ensures.0
