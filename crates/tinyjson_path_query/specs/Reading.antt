@@ -1,5 +1,5 @@
 -- The result of parsing a query; all but `Reads` is for private contracts.
-use Rattle.std.specs.Prelude.{◌≡◌, ◌≢◌, ℕ, ◌≤◌, List, ◌++◌, length, drop, Option, Some, None, option_map, Result, Ok, Err}
+use Rattle.std.specs.Prelude.{◌≡◌, ◌≢◌, ℕ, ◌≤◌, List, ◌++◌, length, take, drop, Option, Some, None, option_map, Result, Ok, Err}
 use Rattle.std.specs.Prelude.{String}
 use Rattle.std.specs.Borrow.{Bor}
 use Rattle.std.specs.declared.alloc.Global.{Global}
@@ -22,11 +22,11 @@ pub record IsReading (cs : List ℕ) (q : Query) : Type 0 where
   pub same : IsQuery segments q
 
 -- The text is no query, or memory ran out. The place is within the text, and the kind is right for the text
--- from there on.
+-- before it and from there on.
 pub record IsRefused (cs : List ℕ) (e : ParseError) : Type 0 where
   pub none : e.kind ≢ OutOfMemory → (ss : List QuerySegment) → QueryText nesting_limit cs ss → ⊥
   pub within : e.place ≤ length cs
-  pub says : Says (drop e.place cs) e.kind
+  pub says : Says (take e.place cs) (drop e.place cs) e.kind
 
 -- the result of parsing a text
 abbrev pub Reads : List ℕ → Result Query ParseError → Type 0

@@ -1,10 +1,16 @@
--- What a kind of error means for the text at its place.
-use Rattle.std.specs.Prelude.{◌≡◌, ℕ, ◌-◌, Bool, true, false, not, ◌&&◌, ◌||◌, ◌==◌, nat_le, List, [], ◌∷◌, codes}
-use Rattle.tinyjson.specs.Characters.{minus_sign, digit_zero, begin_array, value_separator, quotation_mark, decimal_point}
+-- What a kind of error means for the text before its place and for the text there.
+use Rattle.std.specs.Prelude.{◌≡◌, ℕ, suc, ◌-◌, ◌≤◌, Bool, true, false, not, ◌&&◌, ◌||◌, ◌==◌, nat_le, cond, List, [], ◌∷◌}
+use Rattle.std.specs.Prelude.{Option, Some, None}
+use Rattle.tinyjson.specs.Characters.{minus_sign, digit_zero, begin_array, end_array, value_separator, quotation_mark}
+use Rattle.tinyjson.specs.Characters.{decimal_point, reverse_solidus}
+use Rattle.tinyjson.specs.Number.{Spells}
+use Rattle.tinyjson.specs.Numeral.{Numeral, value, in_range}
 use Rattle.tinyjson_path_query.specs.declared.error.ParseErrorKind.{ParseErrorKind}
 use Rattle.tinyjson_path_query.specs.declared.error.ParseErrorKind.TheVariants as kind
 use Rattle.tinyjson_path_query.specs.declared.query.PatternFunction.TheVariants.{Match, Search}
-use Rattle.tinyjson_path_query.specs.Grammar.{is_digit, is_digit1, digits_on, greatest_exact, low_line, apostrophe, begins_with}
+use Rattle.tinyjson_path_query.specs.Forms.{nesting_limit}
+use Rattle.tinyjson_path_query.specs.Grammar.{number_chars, is_digit, is_digit1, digits_on, greatest_exact, low_line}
+use Rattle.tinyjson_path_query.specs.Grammar.{apostrophe, begins_with}
 use Rattle.tinyjson_path_query.specs.Grammar.{left_parenthesis, right_parenthesis, exclamation_mark, ampersand, vertical_line}
 use Rattle.tinyjson_path_query.specs.Grammar.{less_than_sign, equals_sign, greater_than_sign, true_word, false_word, null_word}
 use Rattle.tinyjson_path_query.specs.Grammar.{length_call, count_call, value_call, pattern_call}
@@ -81,15 +87,45 @@ begins_operation (c ∷ cs) =
 abbrev pub begins_misfit : List ℕ → Bool
 begins_misfit xs = begins_value xs || (begins_condition xs || begins_operation xs)
 
+-- ---- numbers
+
+-- the characters of a number at the front spell one whose power of ten is out of range
+abbrev pub IsOutOfRange : List ℕ → Type 0
+IsOutOfRange xs = (n : Numeral) × Spells n (number_chars xs).0 × (in_range (value n) ≡ false)
+
+-- ---- nesting
+
+-- outside of strings, one more character opens or closes a bracket or a parenthesis, or neither
+abbrev pub open_with : ℕ → ℕ → ℕ
+open_with n c =
+    cond ((c == begin_array) || (c == left_parenthesis)) (suc n)
+    (cond ((c == end_array) || (c == right_parenthesis)) (n - 1) n)
+
+-- the string that the character begins, if it is a quote
+abbrev pub string_with : ℕ → Option ℕ
+string_with c = cond ((c == quotation_mark) || (c == apostrophe)) (Some c) None
+
+-- how many are open after the text, where n are open before it; or it begins in a string with this quote, maybe after
+-- a backslash
+abbrev pub open_after : ℕ → (quote : Option ℕ) → (escaped : Bool) → List ℕ → ℕ
+open_after n quote escaped [] = n
+open_after n None escaped (c ∷ cs) = open_after (open_with n c) (string_with c) false cs
+open_after n (Some q) escaped (c ∷ cs) =
+    open_after n (cond ((c == q) && not escaped) None (Some q)) ((c == reverse_solidus) && not escaped) cs
+
+-- how many brackets and parentheses are open after the text, outside of strings
+abbrev pub open_brackets : List ℕ → ℕ
+open_brackets front = open_after 0 None false front
+
 -- ---- kinds
 
--- what the kind means for the text at the place of the error
-abbrev pub Says : List ℕ → ParseErrorKind → Type 0
-Says xs kind.Syntax = is_unknown_call xs ≡ false
-Says xs kind.UnknownFunction = is_unknown_call xs ≡ true
-Says xs kind.ArgumentCount = begins_with value_separator xs || begins_with right_parenthesis xs ≡ true
-Says xs kind.TypeMismatch = begins_misfit xs ≡ true
-Says xs kind.IndexOutOfRange = is_large xs ≡ true
-Says xs kind.NumberOutOfRange = Unit {0}
-Says xs kind.TooDeep = Unit {0}
-Says xs kind.OutOfMemory = Unit {0}
+-- what the kind means for the text before the place of the error, and for the text there
+abbrev pub Says : List ℕ → List ℕ → ParseErrorKind → Type 0
+Says front xs kind.Syntax = is_unknown_call xs ≡ false
+Says front xs kind.UnknownFunction = is_unknown_call xs ≡ true
+Says front xs kind.ArgumentCount = begins_with value_separator xs || begins_with right_parenthesis xs ≡ true
+Says front xs kind.TypeMismatch = begins_misfit xs ≡ true
+Says front xs kind.IndexOutOfRange = is_large xs ≡ true
+Says front xs kind.NumberOutOfRange = IsOutOfRange xs
+Says front xs kind.TooDeep = nesting_limit ≤ open_brackets front
+Says front xs kind.OutOfMemory = Unit {0}

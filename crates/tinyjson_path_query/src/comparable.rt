@@ -146,8 +146,9 @@ fn number(alloc: Global, text: &[char]) -> Result<(Literal, &[char]), Refusal>
     let rest = push_number_chars(&mut digits, text)?;
     match JsonNumber::from_text(alloc, digits.as_str()) {
         Ok(number) => Ok((Literal::Number(number), rest)),
+        // The kind of the error tells these two apart, by the text.
         Err(JsonNumberError::NotANumber) => Err(Refusal::at(Cause::Value, text)),
-        Err(JsonNumberError::OutOfRange) => Err(Refusal::at(Cause::NumberOutOfRange, text)),
+        Err(JsonNumberError::OutOfRange) => Err(Refusal::at(Cause::Value, text)),
         Err(JsonNumberError::OutOfMemory) => Err(Refusal::at(Cause::OutOfMemory, text)),
     }
 }

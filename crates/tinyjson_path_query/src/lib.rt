@@ -8,6 +8,7 @@
 mod comparable;
 mod error;
 mod lexical;
+mod nesting;
 mod parse;
 mod query;
 mod refusal;

@@ -30,7 +30,7 @@ use crate::string::quoted;
 use std::alloc::{AllocError, Global};
 
 /// How many logical expressions and function arguments may be nested.
-const NESTING_LIMIT: usize = 64;
+pub(crate) const NESTING_LIMIT: usize = 64;
 
 impl Query {
     /// Parses the text of a query (RFC 9535), with at most 64 nested logical expressions and function
@@ -52,7 +52,7 @@ impl Query {
         let text = all.as_slice();
         match query(alloc, NESTING_LIMIT, text) {
             Ok(query) => Ok(query),
-            Err(refusal) => Err(refusal.error(text)),
+            Err(refusal) => Err(refusal.error(alloc, text)),
         }
     }
 }

@@ -1,15 +1,20 @@
 //! Why parsing stops, and which error that is.
-ghost use Rattle.std.specs.Prelude.{◌≡◌, ◌≤◌, drop, length};
-ghost use Rattle.tinyjson_path_query.specs.Kinds.{kind_at, broken_rule, rule};
+ghost use Rattle.std.specs.Prelude.{◌≡◌, ◌≤◌, drop, length, take, true, IfOk};
+ghost use Rattle.tinyjson_path_query.specs.Kinds.{read_kind, broken_rule, rule, IsLimit};
 ghost use Rattle.tinyjson_path_query.specs.Refusing.{begins_operation, begins_condition, begins_value, begins_literal};
 ghost use Rattle.tinyjson_path_query.specs.Refusing.{is_call, is_known_call, is_unknown_call, ends_name};
 ghost use Rattle.tinyjson_path_query.specs.Refusing.{is_function_name_char, is_letter, begins, is_large};
+ghost use Rattle.tinyjson_path_query.specs.Refusing.{IsOutOfRange, Says};
 ghost use Rattle.tinyjson_path_query.specs.Grammar.{begins_with};
+ghost use Rattle.tinyjson_path_query.specs.declared.error.ParseErrorKind.{ParseErrorKind};
 ghost use Rattle.tinyjson_path_query.specs.declared.refusal.Cause.{Cause};
 
 use crate::error::{ParseError, ParseErrorKind};
-use crate::lexical::{begins_integer, is_digit, is_quote, magnitude};
-use std::alloc::{AllocError, AllocFailed};
+use crate::lexical::{begins_integer, is_digit, is_quote, magnitude, push_number_chars};
+use crate::nesting::open_brackets;
+use crate::parse::NESTING_LIMIT;
+use std::alloc::{AllocError, AllocFailed, Global};
+use tinyjson::{JsonNumber, JsonNumberError};
 
 /// Why parsing stops at a place: what is missing there, or a limit.
 #[derive(Clone, Copy, PartialEq, Eq)]
@@ -32,8 +37,6 @@ pub(crate) enum Cause {
     LastArgument,
     /// The end of a logical expression.
     ConditionEnd,
-    /// The power of ten of the number there is out of range.
-    NumberOutOfRange,
     /// No more expressions may be nested.
     TooDeep,
     /// An allocation failed.
@@ -60,13 +63,16 @@ impl Refusal {
     }
 
     /// The error of the text in which parsing stops.
-    pub(crate) fn error(self, text: &[char]) -> ParseError
-        ensures kind { result.kind ≡ kind_at self.cause (drop result.place text.now) }
+    pub(crate) fn error(self, alloc: Global, text: &[char]) -> ParseError
+        ensures says { Says (take result.place text.now) (drop result.place text.now) result.kind }
+        ensures rule { ¬ IsLimit result.kind →
+            result.kind ≡ read_kind self.cause (drop result.place text.now) }
+        ensures memory { self.cause ≡ Cause.OutOfMemory → result.kind ≡ ParseErrorKind.OutOfMemory }
         ensures place { result.place ≤ length text.now }
     {
         let place = text.len().saturating_sub(self.left);
         ParseError {
-            kind: kind_at(self.cause, &text[place..]),
+            kind: kind_at(alloc, self.cause, &text[..place], &text[place..]),
             place,
         }
     }
@@ -94,21 +100,49 @@ impl<T: Drop> From<AllocFailed<T>> for Refusal {
     }
 }
 
-/// The kind of an error, which depends on the text at its place.
-fn kind_at(cause: Cause, text: &[char]) -> ParseErrorKind
-    ensures { result ≡ kind_at cause text.now }
+/// The kind of an error, which depends on the text before its place and on the text there.
+fn kind_at(alloc: Global, cause: Cause, before: &[char], text: &[char]) -> ParseErrorKind
+    ensures says { Says before.now text.now result }
+    ensures rule { ¬ IsLimit result → result ≡ read_kind cause text.now }
+    ensures memory { cause ≡ Cause.OutOfMemory → result ≡ ParseErrorKind.OutOfMemory }
 {
     match cause {
-        Cause::NumberOutOfRange => ParseErrorKind::NumberOutOfRange,
-        Cause::TooDeep => ParseErrorKind::TooDeep,
         Cause::OutOfMemory => ParseErrorKind::OutOfMemory,
-        _ => {
-            if is_unknown_call(text) {
-                return ParseErrorKind::UnknownFunction;
+        Cause::TooDeep => {
+            if open_brackets(before) < NESTING_LIMIT {
+                return read_kind(cause, text);
             }
-            broken_rule(cause, text)
+            ParseErrorKind::TooDeep
         }
+        Cause::Value => match is_out_of_range(alloc, text) {
+            Ok(false) => read_kind(cause, text),
+            Ok(true) => ParseErrorKind::NumberOutOfRange,
+            Err(_) => ParseErrorKind::OutOfMemory,
+        },
+        _ => read_kind(cause, text),
     }
+}
+
+/// Whether the text begins with a number whose power of ten is out of range.
+fn is_out_of_range(alloc: Global, text: &[char]) -> Result<bool, AllocError>
+    ensures { IfOk result (λ b. b ≡ true → IsOutOfRange text.now) }
+{
+    let mut digits = String::new(alloc);
+    push_number_chars(&mut digits, text)?;
+    match JsonNumber::from_text(alloc, digits.as_str()) {
+        Err(JsonNumberError::OutOfRange) => Ok(true),
+        _ => Ok(false),
+    }
+}
+
+/// The kind of an error of the grammar, which depends on the text at its place.
+fn read_kind(cause: Cause, text: &[char]) -> ParseErrorKind
+    ensures { result ≡ read_kind cause text.now }
+{
+    if is_unknown_call(text) {
+        return ParseErrorKind::UnknownFunction;
+    }
+    broken_rule(cause, text)
 }
 
 /// The rule that the text breaks, by what it has in place of what is missing.

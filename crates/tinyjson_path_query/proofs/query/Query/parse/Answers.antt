@@ -14,4 +14,4 @@ returns-in-Ok-query c =
 pub returns : goal.returns
 returns c =
     refused c.as_slice-text.result.now (chars c.args.text.now) c.in-Err.refusal _
-    (c.as_slice-text.ensures.value ∙ c.in-Ok.ensures) c.in-Err.ensures c.error.ensures.kind c.error.ensures.place
+    (c.as_slice-text.ensures.value ∙ c.in-Ok.ensures) c.in-Err.ensures c.error.ensures.says c.error.ensures.memory c.error.ensures.place
