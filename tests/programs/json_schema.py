@@ -1923,10 +1923,10 @@ def check_meta(checks):
     for at in META_FILES:
         files, words, given, expected = at
         checks.row(f"json_schema: --meta {words} {list(files)} {given[:60]}", expected, by_meta, checks.folder, files, words, given if isinstance(given, bytes) else given.encode(), at=at)
-    page = pathlib.Path(TOP, "crates/tinyjson_schema_meta/README.md").read_text().splitlines()
+    page = pathlib.Path(TOP, "crates/tinyjson_schema_drafts/README.md").read_text().split("## Meta-schemas")[1].splitlines()
     lines = [line[4:] for line in page if line.startswith("    ") and "let " not in line]
     commands, shown = ([line for line in lines if line.startswith("$ ") == is_command] for is_command in (True, False))
-    checks.row("json_schema: the page of tinyjson_schema_meta, --meta", "".join(f"{line}\n" for line in shown), PAGE.shell, "\n".join(line[2:] for line in commands))
+    checks.row("json_schema: the page of tinyjson_schema_drafts, --meta", "".join(f"{line}\n" for line in shown), PAGE.shell, "\n".join(line[2:] for line in commands))
     check_meta_texts(checks)
 
 
@@ -1944,7 +1944,7 @@ def sum_of(schema):
 
 def check_meta_texts(checks):
     """Each text is the published one, has the URI that it is found at, and is valid by its own meta-schema."""
-    for path in sorted(pathlib.Path(TOP, "crates/tinyjson_schema_meta/src").glob("draft_*.rt")):
+    for path in sorted(pathlib.Path(TOP, "crates/tinyjson_schema_drafts/src/meta").glob("draft_*.rt")):
         source = path.read_text()
         texts = dict(re.findall(r'^const (\w+): &str = r##"(.*?)"##;$', source, re.M | re.S))
         for uri, name in re.findall(r'uri: "(.*)",\n *text: (\w+),', source):

@@ -15,13 +15,13 @@ use Rattle.tinyjson_cli.specs.declared.status.Status.TheVariants as status
 use Rattle.tinyjson_schema.specs.Reading.{ReadsSchema, root_in}
 use Rattle.tinyjson_schema.specs.Valid.{Root}
 use Rattle.tinyjson_schema.specs.declared.schema.Schema.{Schema}
-use Rattle.tinyjson_schema_documents.specs.Documents.{base_of, found_at, has_definition, string_of}
+use Rattle.tinyjson_schema_drafts.specs.Documents.{base_of, found_at, has_definition, string_of}
 use Rattle.tinyjson_schema_drafts.specs.declared.draft.Draft.{Draft}
 use Rattle.tinyjson_schema_drafts.specs.declared.draft.Draft.TheVariants.{Draft202012}
 use Rattle.tinyjson_schema_keywords.specs.Applied.{schema_at}
 use Rattle.tinyjson_schema_keywords.specs.Names.{name}
 use Rattle.tinyjson_schema_keywords.specs.declared.keyword.Keyword.TheVariants as kw
-use Rattle.tinyjson_schema_references.specs.References.{HasMetaSchemas, Seen, embed, meta_schema_of, referring}
+use Rattle.tinyjson_schema_drafts.specs.References.{HasMetaSchemas, Seen, embed, meta_schema_of, referring}
 use Rattle.text_uri.specs.Resolving.{resolved, without_fragment}
 use Rattle.json_schema.specs.Every.{TextGivesAs}
 use Rattle.json_schema.specs.Failures.{Is}

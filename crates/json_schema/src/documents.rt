@@ -1,9 +1,9 @@
 //! The further documents that the references of a schema lead into.
 ghost use Rattle.std.specs.Prelude.{◌≡◌, option_map, IfOk};
 ghost use Rattle.std.specs.String.{string_bytes};
-ghost use Rattle.tinyjson_schema_references.specs.References.{seen};
+ghost use Rattle.tinyjson_schema_drafts.specs.References.{seen};
 ghost use Rattle.tinyjson.specs.View.{view};
-ghost use Rattle.tinyjson_schema_documents.specs.Documents.{base_of};
+ghost use Rattle.tinyjson_schema_drafts.specs.Documents.{base_of};
 ghost use Rattle.json_schema.specs.Meta.{document_uri, found_in, EmbedsNew, EmbedsSome, with_ways, with_way};
 ghost use Rattle.json_schema.specs.Meta.{way_to, other_uri, if_other, document_id};
 
@@ -20,10 +20,8 @@ use text_uri::{resolve, without_fragment};
 use tinyjson::JsonValue;
 use tinyjson_cli::{Failure, Text, read_named};
 use tinyjson_pointer::put_member;
-use tinyjson_schema_documents::{found_at, has_definition};
-use tinyjson_schema_drafts::Draft;
+use tinyjson_schema_drafts::{Compound, Draft, embed, found_at, has_definition};
 use tinyjson_schema_keywords::{Keyword, operand, schema_at};
-use tinyjson_schema_references::{Compound, embed};
 
 /// The schema of this file with the documents that the texts of `-r` name. A document that names no draft is read in the
 /// schema's. The schema was found at `/` and its file's name, so that they can refer to it.

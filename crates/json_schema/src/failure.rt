@@ -9,7 +9,7 @@ use std::alloc::Global;
 use std::fmt;
 use tinyjson::{JsonParseError, JsonParseErrorKind};
 use tinyjson_cli::{Failure, Shown};
-use tinyjson_schema_references::EmbedError;
+use tinyjson_schema_drafts::EmbedError;
 use tinyjson_schema_words::{Refusal, refused_words};
 
 /// Why a schema is not applied.

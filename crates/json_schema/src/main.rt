@@ -35,8 +35,7 @@ use tinyjson_cli::{
     report, writing_error,
 };
 use tinyjson_schema::{Schema, SchemaError, unknown_formats, unknown_words};
-use tinyjson_schema_drafts::{Draft, read_as, unknown_dialect};
-use tinyjson_schema_references::{Compound, draft_of, is_older};
+use tinyjson_schema_drafts::{Compound, Draft, draft_of, is_older, read_as, unknown_dialect};
 use tinyjson_schema_report::Located;
 use tinyjson_schema_words::Refusal;
 use unknown::{tell_dialect, tell_formats, tell_words};

@@ -3,7 +3,7 @@ ghost use Rattle.std.specs.Prelude.{◌≡◌, [], false, IfOk};
 ghost use Rattle.std.specs.Str.{chars};
 ghost use Rattle.tinyjson.specs.Tree.{object, no_members};
 ghost use Rattle.tinyjson.specs.View.{view};
-ghost use Rattle.tinyjson_schema_references.specs.References.{seen, meta_schema_of, HasMetaSchemas};
+ghost use Rattle.tinyjson_schema_drafts.specs.References.{seen, meta_schema_of, HasMetaSchemas};
 ghost use Rattle.json_schema.specs.Every.{TextGivesAs};
 ghost use Rattle.json_schema.specs.Meta.{judged_by, GivesBy, SchemaGives, TellsUnknown, WholeGives};
 
@@ -17,8 +17,9 @@ use tinyjson::JsonValue;
 use tinyjson_buffers::Buffers;
 use tinyjson_cli::{Failure, Shown, Text};
 use tinyjson_schema::{Schema, SchemaError};
-use tinyjson_schema_drafts::Draft;
-use tinyjson_schema_references::{Compound, meta_schema_of, referring, uri_of, with_meta_schemas};
+use tinyjson_schema_drafts::{
+    Compound, Draft, meta_schema_of, referring, uri_of, with_meta_schemas,
+};
 use tinyjson_schema_words::Refusal;
 
 /// The schema as a document of one resource, with the meta-schemas that its references lead into.

@@ -4,3 +4,6 @@ pub mod Reading
 pub mod Recursion
 pub mod Rules
 pub mod Translated
+pub mod Documents
+pub mod Meta
+pub mod References

@@ -1,6 +1,6 @@
 use Rattle.std.proofs.Common.{◌∙◌, codes, ap}
 use Rattle.tinyjson.specs.View.{view}
-use Rattle.tinyjson_schema_documents.specs.Documents.{found_at}
+use Rattle.tinyjson_schema_drafts.specs.Documents.{found_at}
 use Rattle.json_schema.specs.Names.{joined}
 use Rattle.json_schema.proofs.documents.found_in.Goals as goal
 

@@ -1,7 +1,7 @@
 use Rattle.std.proofs.Common.{◌∙◌, Some, sym, ap}
 use Rattle.tinyjson.proofs.Callers.{view_String}
 use Rattle.tinyjson.specs.View.{view}
-use Rattle.tinyjson_schema_documents.specs.Documents.{base_by}
+use Rattle.tinyjson_schema_drafts.specs.Documents.{base_by}
 use Rattle.tinyjson_schema_keywords.proofs.Callers.{text_bytes}
 use Rattle.json_schema.proofs.documents.id_of.Goals as goal
 

@@ -3,7 +3,7 @@ use Rattle.tinyjson.proofs.Callers.{view_Object, view_String}
 use Rattle.tinyjson.specs.Tree.{object, no_members, put}
 use Rattle.tinyjson.specs.View.{members_view, view}
 use Rattle.tinyjson.specs.declared.value.JsonValue.TheVariants as made
-use Rattle.tinyjson_schema_documents.specs.Documents.{string_of}
+use Rattle.tinyjson_schema_drafts.specs.Documents.{string_of}
 use Rattle.tinyjson_schema_keywords.proofs.Callers.{name_chars}
 use Rattle.tinyjson_schema_keywords.specs.Names.{name}
 use Rattle.tinyjson_schema_keywords.specs.declared.keyword.Keyword.TheVariants as kw

@@ -1,5 +1,5 @@
 use Rattle.std.proofs.Common.{◌∷◌}
-use Rattle.tinyjson_schema_references.specs.References.{seen}
+use Rattle.tinyjson_schema_drafts.specs.References.{seen}
 use Rattle.json_schema.proofs.documents.with_documents.Goals as goal
 
 pub loop-document-preserved : goal.loop-document-preserved

@@ -1,4 +1,4 @@
-use Rattle.tinyjson_schema_references.specs.References.{seen}
+use Rattle.tinyjson_schema_drafts.specs.References.{seen}
 use Rattle.json_schema.specs.Meta.{EmbedsSome, found_in}
 use Rattle.json_schema.proofs.documents.with_documents.Given as goal
 

@@ -1,7 +1,7 @@
 use Rattle.std.proofs.Common.{◌≡◌, ◌∙◌, ap, sym, string_bytes}
 use Rattle.tinyjson.specs.View.{view}
-use Rattle.tinyjson_schema_documents.specs.Documents.{has_definition}
-use Rattle.tinyjson_schema_references.specs.References.{embed, seen}
+use Rattle.tinyjson_schema_drafts.specs.Documents.{has_definition}
+use Rattle.tinyjson_schema_drafts.specs.References.{embed, seen}
 use Rattle.json_schema.specs.Meta.{with_ways}
 use Rattle.json_schema.proofs.documents.with_file.Goals as goal
 

@@ -2,7 +2,7 @@ use Rattle.std.proofs.Common.{◌≡◌, ◌∙◌, ◌++◌, ap, codes, subst, 
 use Rattle.std.specs.Prelude.{IfOk}
 use lib.Utf8.{encode}
 use Rattle.tinyjson_schema_drafts.specs.declared.draft.Draft.TheVariants.{Draft202012}
-use Rattle.tinyjson_schema_references.specs.References.{embed, seen}
+use Rattle.tinyjson_schema_drafts.specs.References.{embed, seen}
 use Rattle.json_schema.specs.Meta.{way_to}
 use Rattle.json_schema.proofs.documents.with_way.Goals as goal
 

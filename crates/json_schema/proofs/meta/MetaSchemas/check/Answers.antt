@@ -2,7 +2,7 @@ use Rattle.std.proofs.Common.{inl, inr, refl, chars}
 use Rattle.std.proofs.lemmas.Bool.{false≢true}
 use Rattle.std.proofs.lemmas.Result.{IfOk-weaker}
 use Rattle.tinyjson.specs.View.{view}
-use Rattle.tinyjson_schema_references.specs.References.{meta_schema_of}
+use Rattle.tinyjson_schema_drafts.specs.References.{meta_schema_of}
 use Rattle.json_schema.specs.Meta.{GivesBy, SchemaGives}
 use Rattle.json_schema.proofs.meta.MetaSchemas.check.Goals as goal
 

@@ -1,6 +1,6 @@
 use Rattle.std.proofs.Common.{ap, chars, subst}
 use Rattle.std.proofs.lemmas.Result.{IfOk-weaker}
-use Rattle.tinyjson_schema_references.specs.References.{HasMetaSchemas, seen}
+use Rattle.tinyjson_schema_drafts.specs.References.{HasMetaSchemas, seen}
 use Rattle.json_schema.specs.Meta.{GivesBy, WholeGives}
 use Rattle.json_schema.proofs.meta.MetaSchemas.check_by.Goals as goal
 

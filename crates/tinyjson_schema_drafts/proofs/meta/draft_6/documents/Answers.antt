@@ -1,0 +1,5 @@
+use Rattle.std.proofs.Common.{refl}
+use Rattle.tinyjson_schema_drafts.proofs.meta.draft_6.documents.Goals as goal
+
+pub returns : goal.returns
+returns c = refl

@@ -1,5 +1,0 @@
-use Rattle.std.proofs.Common.{refl}
-use Rattle.tinyjson_schema_meta.proofs.draft_7.documents.Goals as goal
-
-pub returns : goal.returns
-returns c = refl

@@ -1,4 +1,0 @@
-pub mod Embedding
-pub mod Gathering
-pub mod Strings
-pub mod Wanting
