@@ -16,8 +16,8 @@ use Rattle.tinyjson_cli.specs.declared.status.Status.{Status}
 use Rattle.tinyjson_cli.specs.declared.status.Status.TheVariants.{Misused, Refused}
 use Rattle.tinyjson_schema_drafts.specs.declared.compound.EmbedError.{EmbedError}
 use Rattle.tinyjson_schema_drafts.specs.declared.compound.EmbedError.TheVariants as embed
-use Rattle.tinyjson_schema_words.specs.Refused.{TellsRefused}
-use Rattle.tinyjson_schema_words.specs.declared.refused.Refusal.{Refusal}
+use Rattle.tinyjson_schema_report.specs.Refused.{TellsRefused}
+use Rattle.tinyjson_schema_report.specs.declared.refused.Refusal.{Refusal}
 use Rattle.json_schema.specs.Told.{too_deep, too_much}
 use Rattle.json_schema.specs.declared.failure.SchemaFailure.{SchemaFailure}
 use Rattle.json_schema.specs.declared.failure.SchemaFailure.TheVariants as is

@@ -10,7 +10,7 @@ use std::fmt;
 use tinyjson::{JsonParseError, JsonParseErrorKind};
 use tinyjson_cli::{Failure, Shown};
 use tinyjson_schema_drafts::EmbedError;
-use tinyjson_schema_words::{Refusal, refused_words};
+use tinyjson_schema_report::{Refusal, refused_words};
 
 /// Why a schema is not applied.
 #[derive(Drop)]

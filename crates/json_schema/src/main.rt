@@ -36,8 +36,7 @@ use tinyjson_cli::{
 };
 use tinyjson_schema::{Schema, SchemaError, unknown_formats, unknown_words};
 use tinyjson_schema_drafts::{Compound, Draft, draft_of, is_older, read_as, unknown_dialect};
-use tinyjson_schema_report::Located;
-use tinyjson_schema_words::Refusal;
+use tinyjson_schema_report::{Located, Refusal};
 use unknown::{tell_dialect, tell_formats, tell_words};
 use verdict::{DEPTH_LIMIT, Judge};
 

@@ -20,7 +20,7 @@ use tinyjson_schema::{Schema, SchemaError};
 use tinyjson_schema_drafts::{
     Compound, Draft, meta_schema_of, referring, uri_of, with_meta_schemas,
 };
-use tinyjson_schema_words::Refusal;
+use tinyjson_schema_report::Refusal;
 
 /// The schema as a document of one resource, with the meta-schemas that its references lead into.
 pub fn whole_of(alloc: Global, compound: Compound) -> Result<Compound, Failure>

@@ -1,3 +1,12 @@
+mod Cutting
+mod Faulting
+mod Joining
+mod TokenSteps
+mod Nearing
+mod Needing
+mod Refusing
+mod Telling
+mod Viewing
 pub mod Reports
 -- A part that is there has a place.
 pub mod Placing

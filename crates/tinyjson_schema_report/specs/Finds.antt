@@ -6,7 +6,7 @@ use Rattle.tinyjson_pointer.specs.Tokens.{tokens_of}
 use Rattle.tinyjson_schema.specs.Valid.{Root, plain, ValidatesIn}
 use Rattle.tinyjson_schema.specs.declared.walk.CheckError.{CheckError}
 use Rattle.tinyjson_schema_report.specs.declared.found.Finding.{Finding}
-use Rattle.tinyjson_schema_words.specs.Nearest.{IsWords}
+use Rattle.tinyjson_schema_report.specs.Nearest.{IsWords}
 
 -- the words are those of the violation of the schema s by the tree t
 abbrev pub HasWords : Tree → Tree → Finding → Type 0

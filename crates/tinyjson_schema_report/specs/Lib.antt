@@ -1,3 +1,12 @@
+pub mod Brief
+pub mod Counts
+pub mod Ends
+pub mod Faults
+pub mod Kinds
+pub mod Missing
+pub mod Nearest
+pub mod Refused
+pub mod Words
 -- All that a value violates of a schema.
 pub mod Every
 -- What a value violates of a schema.

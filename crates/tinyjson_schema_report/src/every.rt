@@ -8,14 +8,14 @@ ghost use Rattle.tinyjson_schema.specs.Reading.{tree_of, root_in};
 ghost use Rattle.tinyjson_schema.specs.Valid.{IsBeyond};
 ghost use Rattle.tinyjson_schema_report.specs.Every.{FindsEvery};
 ghost use Rattle.tinyjson_schema_report.specs.Finds.{HasWords};
-ghost use Rattle.tinyjson_schema_words.specs.Nearest.{IsWords};
+ghost use Rattle.tinyjson_schema_report.specs.Nearest.{IsWords};
 
 use crate::found::Finding;
+use crate::violated::{Places, words};
 use std::alloc::{AllocError, Global};
 use std::collections::VecDeque;
 use tinyjson_schema::{CheckError, Checks, Schema, Violation};
 use tinyjson_schema_keywords::Walk;
-use tinyjson_schema_words::{Places, words};
 use tinyjson_view::{AsView, ValueView};
 
 /// The first things that the value violates of the schema, up to `most`, in order, each with its words. The errors are

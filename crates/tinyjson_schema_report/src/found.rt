@@ -5,10 +5,10 @@ ghost use Rattle.tinyjson_schema.specs.Reading.{tree_of, root_in};
 ghost use Rattle.tinyjson_schema.specs.Valid.{ValidatesIn};
 ghost use Rattle.tinyjson_schema_report.specs.Finds.{Finds, FindsIn};
 
+use crate::violated::{Places, words};
 use std::alloc::Global;
 use tinyjson_schema::{CheckError, Checks, Limits, Schema, Violation};
 use tinyjson_schema_keywords::Walk;
-use tinyjson_schema_words::{Places, words};
 use tinyjson_view::{AsView, ValueView};
 
 /// What a value violates of a schema.

@@ -1,4 +1,4 @@
-//! What a value violates of a JSON Schema, and the report of it.
+//! What a value violates of a JSON Schema, where in its text, and the report of it; and why a schema can't be applied.
 //!
 //! ```
 //! if let Some(finding) = find(&schema, &value, limits_of(text.len()), alloc)? {
@@ -7,12 +7,24 @@
 //! ```
 #![tactic(auto)]
 
+mod brief;
+mod count;
+mod ending;
 mod every;
+mod fault;
 mod found;
+mod keyword;
+mod kind;
 mod located;
+mod missing;
+mod nearest;
+mod refused;
 mod report;
+mod violated;
 
 pub use every::find_every;
 pub use found::{Finding, find, find_by, limits_of};
 pub use located::{Located, locate, locate_every, located_unit};
+pub use refused::{Refusal, refused_words};
 pub use report::output_unit;
+pub use violated::{Places, words};

@@ -3,7 +3,7 @@ use Rattle.tinyjson.specs.View.{view}
 use Rattle.tinyjson_view.specs.Views.{tree_of}
 use Rattle.tinyjson_pointer.specs.Tokens.{tokens_of}
 use Rattle.tinyjson_schema_keywords.specs.declared.document.Whole.{Whole}
-use Rattle.tinyjson_schema_words.specs.Nearest.{IsWords}
+use Rattle.tinyjson_schema_report.specs.Nearest.{IsWords}
 use Rattle.tinyjson_schema_report.proofs.found.with_words.Goals as goal
 
 pub returns-in-Ok : goal.returns-in-Ok

@@ -1,0 +1,8 @@
+use Rattle.std.proofs.Common.{◌≡◌, ◌++◌, IsUtf8, chars, string_bytes}
+use Rattle.std.specs.Str.Iter.{chars_rest}
+use Rattle.tinyjson_schema_report.specs.Faults.{after}
+use Rattle.tinyjson_schema_report.proofs.fault.after.Given as goal
+
+abbrev pub invariant-loop-c : goal.invariant-loop-c
+invariant-loop-c l = IsUtf8 (chars_rest l.c-iterator)
+    × (string_bytes l.rest ++ after l.left (chars (chars_rest l.c-iterator)) ≡ after l.count (chars l.text))

@@ -1,9 +1,0 @@
-mod Cutting
-mod Faulting
-mod Joining
-mod Leading
-mod Nearing
-mod Needing
-mod Refusing
-mod Telling
-mod Viewing
