@@ -1,11 +1,9 @@
 -- The verdict on a schema by its meta-schema (JSON Schema 2020-12, Core, 8.1.1), and the URIs of documents.
-use Rattle.std.specs.Prelude.{◌≡◌, ℕ, Bool, false, ◌⊎◌, List, [], ◌∷◌, ◌++◌, Option, Some, None, codes, cond, bytes_eq, length, ◌||◌, ◌==◌}
-use Rattle.std.specs.Prelude.{option_and_then, unwrap_or, Ok}
-use Rattle.std.specs.Option.{option_map_or}
+use Rattle.std.specs.Prelude.{◌≡◌, ℕ, Bool, false, ◌⊎◌, List, [], ◌∷◌, ◌++◌, Option, codes, cond}
+use Rattle.std.specs.Prelude.{unwrap_or, Ok}
 use Rattle.std.specs.Str.{chars}
 use Rattle.tinyjson.specs.Grammar.{IsText}
-use Rattle.tinyjson.specs.Index.{tree_at_key}
-use Rattle.tinyjson.specs.Tree.{Tree, object, no_members, put}
+use Rattle.tinyjson.specs.Tree.{Tree}
 use Rattle.tinyjson.specs.View.{view}
 use Rattle.tinyjson.specs.declared.parser.error.JsonParseError.{JsonParseError}
 use Rattle.tinyjson_cli.specs.Shown.{shown}
@@ -15,14 +13,10 @@ use Rattle.tinyjson_cli.specs.declared.status.Status.TheVariants as status
 use Rattle.tinyjson_schema.specs.Reading.{ReadsSchema, root_in}
 use Rattle.tinyjson_schema.specs.Valid.{Root}
 use Rattle.tinyjson_schema.specs.declared.schema.Schema.{Schema}
-use Rattle.tinyjson_schema_drafts.specs.Documents.{base_of, found_at, has_definition, string_of}
+use Rattle.tinyjson_schema_drafts.specs.Documents.{found_at, has_definition}
 use Rattle.tinyjson_schema_drafts.specs.declared.draft.Draft.{Draft}
-use Rattle.tinyjson_schema_drafts.specs.declared.draft.Draft.TheVariants.{Draft202012}
-use Rattle.tinyjson_schema_keywords.specs.Applied.{schema_at}
-use Rattle.tinyjson_schema_keywords.specs.Names.{name}
-use Rattle.tinyjson_schema_keywords.specs.declared.keyword.Keyword.TheVariants as kw
 use Rattle.tinyjson_schema_drafts.specs.References.{HasMetaSchemas, Seen, embed, meta_schema_of, referring}
-use Rattle.text_uri.specs.Resolving.{resolved, without_fragment}
+use Rattle.tinyjson_schema_drafts.specs.Retrieval.{with_retrieval_uri}
 use Rattle.json_schema.specs.Every.{TextGivesAs}
 use Rattle.json_schema.specs.Failures.{Is}
 use Rattle.json_schema.specs.Names.{joined, plain, reference}
@@ -67,30 +61,9 @@ document_uri schema u file = unwrap_or u (reference (plain schema) (plain file))
 
 -- ---- further documents
 
--- the `$id` of the document that was found at the URI u
-abbrev pub document_at : List ℕ → Tree → Option Tree
-document_at u s = option_and_then (λ defs. tree_at_key defs (chars u)) (schema_at s kw.Defs)
-
-abbrev pub document_id : List ℕ → Tree → List ℕ
-document_id u s = option_map_or base_of (document_at u s) []
-
--- a document's URI, without its fragment, if there is one, and it is not the URI where it was found
-abbrev pub if_other : List ℕ → List ℕ → Option (List ℕ)
-if_other found own = cond ((length own == 0) || bytes_eq own found) None (Some own)
-
-abbrev pub other_uri : List ℕ → Tree → Option (List ℕ)
-other_uri u s = if_other (without_fragment (resolved (base_of s) u)) (without_fragment (document_id u s))
-
--- with a resource, behind the URI u, that refers to the one at this URI
-abbrev pub way_to : List ℕ → Tree
-way_to own = object (put (name kw.Ref) (string_of own) (put (name kw.Id) (string_of []) no_members))
-
-abbrev pub with_way : List ℕ → Seen → List ℕ → Seen
-with_way u c own = embed Draft202012 (u ++ codes "#") (way_to own) c
-
--- with a document at u, which references also lead into by u where it was found there and gives itself another URI
+-- with a document at u, which references also lead into by u where it was found there
 abbrev pub with_ways : Bool → List ℕ → Seen → Seen
-with_ways located u c = option_map_or (with_way u c) (cond located (other_uri u c.0) None) c
+with_ways located u c = cond located (with_retrieval_uri u c) c
 
 -- r is c with a document that was found at the URI u, and no document of c has that URI
 abbrev pub EmbedsNew : Draft → Bool × List ℕ → Seen → Seen → Type 0

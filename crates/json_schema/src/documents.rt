@@ -2,10 +2,7 @@
 ghost use Rattle.std.specs.Prelude.{◌≡◌, option_map, IfOk};
 ghost use Rattle.std.specs.String.{string_bytes};
 ghost use Rattle.tinyjson_schema_drafts.specs.References.{seen};
-ghost use Rattle.tinyjson.specs.View.{view};
-ghost use Rattle.tinyjson_schema_drafts.specs.Documents.{base_of};
-ghost use Rattle.json_schema.specs.Meta.{document_uri, found_in, EmbedsNew, EmbedsSome, with_ways, with_way};
-ghost use Rattle.json_schema.specs.Meta.{way_to, other_uri, if_other, document_id};
+ghost use Rattle.json_schema.specs.Meta.{document_uri, found_in, EmbedsNew, EmbedsSome, with_ways};
 
 use crate::failure::{SchemaFailure, document_failure, schema_failure};
 use crate::folder::{is_folder, json_files};
@@ -13,15 +10,13 @@ use crate::names::{joined, located, plain, reference};
 use crate::tell_unknown;
 use crate::verdict::DEPTH_LIMIT;
 use std::alloc::{AllocError, Global};
-use std::collections::HashMap;
 use std::fs;
 use std::os::unix::fs::MetadataExt;
-use text_uri::{resolve, without_fragment};
 use tinyjson::JsonValue;
 use tinyjson_cli::{Failure, Text, read_named};
-use tinyjson_pointer::put_member;
-use tinyjson_schema_drafts::{Compound, Draft, embed, found_at, has_definition};
-use tinyjson_schema_keywords::{Keyword, operand, schema_at};
+use tinyjson_schema_drafts::{
+    Compound, Draft, embed, found_at, has_definition, with_retrieval_uri,
+};
 
 /// The schema of this file with the documents that the texts of `-r` name. A document that names no draft is read in the
 /// schema's. The schema was found at `/` and its file's name, so that they can refer to it.
@@ -191,94 +186,10 @@ fn with_ways(
 ) -> Result<Compound, AllocError>
     ensures { IfOk result (λ c. seen c ≡ with_ways is_located uri.now (seen compound)) }
 {
-    if !is_located {
-        return Ok(compound);
+    if is_located {
+        return with_retrieval_uri(compound, uri, alloc);
     }
-    match other_uri(alloc, &compound.tree, uri)? {
-        Some(own) => with_way(alloc, compound, uri, own),
-        None => Ok(compound),
-    }
-}
-
-/// The URI of the document that was found at this one, if it gives itself another by `$id` (Core, 8.2.1).
-fn other_uri(alloc: Global, schema: &JsonValue, uri: &str) -> Result<Option<String>, AllocError>
-    ensures { IfOk result
-        (λ other. option_map string_bytes other ≡ other_uri uri.now (view schema.now)) }
-{
-    let found = resolve(alloc, id_of(schema), uri)?;
-    let own = without_fragment(document_id(schema, uri));
-    match if_other(without_fragment(found.as_str()), own) {
-        Some(own) => Ok(Some(String::from_str(alloc, own)?)),
-        None => Ok(None),
-    }
-}
-
-/// The document's own URI, if it has one that is not the URI where it was found.
-fn if_other<'u>(found: &str, own: &'u str) -> Option<&'u str>
-    ensures { option_map (λ o. o.now) result ≡ if_other found.now own.now }
-{
-    if own.is_empty() || own == found {
-        None
-    } else {
-        Some(own)
-    }
-}
-
-/// The `$id` of the document that was found at this URI.
-fn document_id<'s>(schema: &'s JsonValue, uri: &str) -> &'s str
-    ensures { result.now ≡ document_id uri.now (view schema.now) }
-{
-    let Some(documents) = schema_at(schema, Keyword::Defs) else {
-        return "";
-    };
-    match operand(documents, uri) {
-        Some(document) => id_of(document),
-        None => "",
-    }
-}
-
-fn id_of(schema: &JsonValue) -> &str
-    ensures { result.now ≡ base_of (view schema.now) }
-{
-    let Some(id) = schema_at(schema, Keyword::Id) else {
-        return "";
-    };
-    match id {
-        JsonValue::String(text) => text.as_str(),
-        _ => "",
-    }
-}
-
-/// The schema with a resource, behind this URI, that refers to the other one.
-fn with_way(
-    alloc: Global,
-    compound: Compound,
-    uri: &str,
-    other: String,
-) -> Result<Compound, AllocError>
-    ensures { IfOk result
-        (λ c. seen c ≡ with_way uri.now (seen compound) (string_bytes other)) }
-{
-    let mut key = String::from_str(alloc, uri)?;
-    key.push('#')?;
-    let way = way_to(alloc, other)?;
-    embed(compound, key.as_str(), way, Draft::Draft202012, alloc)
-}
-
-/// A resource that refers to the one at this URI.
-fn way_to(alloc: Global, other: String) -> Result<JsonValue, AllocError>
-    ensures { IfOk result (λ v. view v ≡ way_to (string_bytes other)) }
-{
-    let mut way = HashMap::new(alloc);
-    let empty = JsonValue::String(String::new(alloc));
-    put_member(&mut way, Keyword::Id.name(), empty, alloc)?;
-    put_member(
-        &mut way,
-        Keyword::Ref.name(),
-        JsonValue::String(other),
-        alloc,
-    )?;
-    Ok(JsonValue::Object(way))
+    Ok(compound)
 }
 
 /// Parses a document's file. Not inlined, so that a later check has all of the stack.

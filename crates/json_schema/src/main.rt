@@ -35,7 +35,7 @@ use tinyjson_cli::{
     report, writing_error,
 };
 use tinyjson_schema::{Schema, SchemaError, unknown_formats, unknown_words};
-use tinyjson_schema_drafts::{Compound, Draft, draft_of, is_older, read_as, unknown_dialect};
+use tinyjson_schema_drafts::{Compound, Draft, compound_of, draft_of, unknown_dialect};
 use tinyjson_schema_report::{Located, Refusal};
 use unknown::{tell_dialect, tell_formats, tell_words};
 use verdict::{DEPTH_LIMIT, Judge};
@@ -337,10 +337,7 @@ fn check_values(
     let tree = schema_tree(rt, schema)?;
     tell_unknown(rt, &tree)?;
     let draft = draft_of(&tree, default);
-    let compound = Compound {
-        tree: read_as(tree, default, rt.alloc())?,
-        is_older: is_older(draft),
-    };
+    let compound = compound_of(tree, default, rt.alloc())?;
     let compound = match request.documents {
         [] => compound,
         documents => with_documents(rt, compound, schema, draft, documents)?,

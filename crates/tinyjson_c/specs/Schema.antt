@@ -1,5 +1,5 @@
 -- Whether a text is valid by a schema (JSON Schema), and the report if it is not.
-use Rattle.std.specs.Prelude.{◌≡◌, ◌⊎◌, ℕ, Bool, true, false, List, ◌++◌, Option, None, Some, Result, Ok, Err, min}
+use Rattle.std.specs.Prelude.{◌≡◌, ◌⊎◌, ℕ, true, false, List, Option, None, Some, Result, Ok, Err, min}
 use Rattle.std.specs.Prelude.{encode_utf8_all, string_bytes}
 use Rattle.std.specs.Str.{chars}
 use Rattle.tinyjson.specs.Text.{compact}
@@ -24,8 +24,7 @@ use Rattle.tinyjson_schema.specs.Refused.{IsAboveAt, IsRefusedAt}
 use Rattle.tinyjson_schema.specs.Schemas.{is_schema}
 use Rattle.tinyjson_schema.specs.Valid.{IsValid}
 use Rattle.tinyjson_schema.specs.declared.schema.Schema.{Schema}
-use Rattle.tinyjson_schema_bundle.specs.Scopes.{Reached, AreCopies, bundled}
-use Rattle.tinyjson_schema_drafts.specs.Reading.{read_as}
+use Rattle.tinyjson_schema_drafts.specs.References.{IsResourceOf}
 use Rattle.tinyjson_schema_drafts.specs.declared.draft.Draft.TheVariants.{Draft202012}
 use Rattle.tinyjson_schema_keywords.specs.declared.keyword.Form.TheVariants as form
 use Rattle.tinyjson_schema_report.specs.Finds.{Finds}
@@ -43,8 +42,7 @@ step_limit = 200
 -- the bytes are the text of this schema, in the words of 2020-12 and with all of its resources in one
 abbrev pub IsSchemaTree : Option ℕ → List ℕ → Tree → Type 0
 IsSchemaTree limit bytes s =
-    (d : Tree) × IsTextOf limit bytes d × (copies : List Reached) × (s ≡ bundled copies (read_as Draft202012 d))
-    × AreCopies (read_as Draft202012 d) copies
+    (d : Tree) × IsTextOf limit bytes d × IsResourceOf Draft202012 d s
 
 -- the same, and the schema can be applied
 abbrev pub IsSchemaOf : Option ℕ → List ℕ → Tree → Type 0

@@ -23,8 +23,7 @@ use tinyjson::JsonValue;
 use tinyjson_document::{Document, Node};
 use tinyjson_pointer::Pointer;
 use tinyjson_schema::{CheckError, Schema, SchemaError};
-use tinyjson_schema_bundle::bundled;
-use tinyjson_schema_drafts::{Draft, read_as};
+use tinyjson_schema_drafts::{Draft, resource_of};
 use tinyjson_schema_report::{Located, find, limits_of, locate, located_unit};
 
 /// How many containers may be nested in a schema and in a text that is checked, whatever the limit of the call:
@@ -142,13 +141,7 @@ pub(crate) fn read_schema(alloc: Global, bytes: &[u8], depth: usize) -> Result<J
         Ok(tree) => tree,
         Err(stop) => return Err(stop),
     };
-    let tree = match read_as(tree, Draft::Draft202012, alloc) {
-        Ok(tree) => tree,
-        Err(AllocError) => return Err(Stop::OutOfMemory),
-    };
-    let whole = bundled(&tree, alloc);
-    tree.dismantle();
-    match whole {
+    match resource_of(tree, Draft::Draft202012, alloc) {
         Ok(whole) => Ok(whole),
         Err(AllocError) => Err(Stop::OutOfMemory),
     }

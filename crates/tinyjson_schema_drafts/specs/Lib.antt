@@ -7,3 +7,4 @@ pub mod Translated
 pub mod Documents
 pub mod Meta
 pub mod References
+pub mod Retrieval

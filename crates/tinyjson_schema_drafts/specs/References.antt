@@ -68,6 +68,10 @@ Seen = Tree × Bool
 abbrev pub seen : Compound → Seen
 seen c = (view c.tree, c.is_older)
 
+-- the schema t alone, which is of the draft that it names, or else of d
+abbrev pub compound_of : Draft → Tree → Seen
+compound_of d t = (read_as d t, is_older (draft_of d t))
+
 -- with the document t that was found at the URI u, and is of the draft that it names, or else of d
 abbrev pub embed : Draft → List ℕ → Tree → Seen → Seen
 embed d u t c = (with_document c.0 u (read_as d t), c.1 || is_older (draft_of d t))
@@ -142,6 +146,10 @@ wanted s b = wanted_among (Draft4 ∷ Draft6 ∷ Draft7 ∷ Draft201909 ∷ Draf
 abbrev pub HasMetaSchemas : Seen → Seen → Type 0
 HasMetaSchemas c r = (copies : List Reached) × (all : List Reached) × (e : Seen)
     × EmbedsAll (wanted c.0 (bundled copies c.0)) c e × (r ≡ (bundled all e.0, e.1)) × AreCopies c.0 copies × AreCopies e.0 all
+
+-- r is the schema t as one resource in the words of 2020-12
+abbrev pub IsResourceOf : Draft → Tree → Tree → Type 0
+IsResourceOf d t r = (copies : List Reached) × (r ≡ bundled copies (read_as d t)) × AreCopies (read_as d t) copies
 
 -- a text is no JSON, or memory ran out
 abbrev pub IsCause : EmbedError → Type 0

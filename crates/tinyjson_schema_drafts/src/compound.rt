@@ -4,9 +4,10 @@ ghost use Rattle.std.specs.Option.{option_map_or};
 ghost use Rattle.tinyjson.specs.View.{view};
 ghost use Rattle.tinyjson_schema_drafts.specs.Documents.{string_of};
 ghost use Rattle.tinyjson_schema_drafts.specs.Meta.{published};
-ghost use Rattle.tinyjson_schema_drafts.specs.References.{draft_of, is_older, embed, seen};
+ghost use Rattle.tinyjson_schema_drafts.specs.References.{compound_of, draft_of, is_older, embed, seen};
 ghost use Rattle.tinyjson_schema_drafts.specs.References.{referring, with_reference};
-ghost use Rattle.tinyjson_schema_drafts.specs.References.{EmbedsOne, EmbedsAll, HasMetaSchemas, IsCause};
+ghost use Rattle.tinyjson_schema_drafts.specs.References.{EmbedsOne, EmbedsAll, HasMetaSchemas};
+ghost use Rattle.tinyjson_schema_drafts.specs.References.{IsCause, IsResourceOf};
 
 use crate::dialect::{draft_of, is_older};
 use crate::document::with_document;
@@ -17,7 +18,7 @@ use crate::wanted::wanted;
 use std::alloc::{AllocError, Global};
 use tinyjson::{JsonParseError, JsonValue};
 use tinyjson_pointer::put_member;
-use tinyjson_schema_bundle::bundle_of;
+use tinyjson_schema_bundle::{bundle_of, bundled};
 use tinyjson_schema_keywords::Keyword;
 
 /// A compound document (Core, 9.3): a schema in the words of 2020-12, with its documents in `$defs`.
@@ -45,6 +46,41 @@ impl From<AllocError> for EmbedError {
     fn from(_: AllocError) -> EmbedError {
         EmbedError::OutOfMemory
     }
+}
+
+/// The schema in the words of 2020-12, with no further document: by the draft that it names, or else by the default. The
+/// only error is out of memory.
+///
+/// ```
+/// // Of {"$schema":"http://json-schema.org/draft-07/schema#","items":[true]}:
+/// let compound = compound_of(schema, Draft::Draft202012, alloc)?; // {"prefixItems":[true]}, and it is older
+/// ```
+pub fn compound_of(schema: JsonValue, default: Draft, alloc: Global) -> Result<Compound, AllocError>
+    ensures { IfOk result (λ c. seen c ≡ compound_of default (view schema)) }
+{
+    let is_older = is_older(draft_of(&schema, default));
+    let tree = read_as(schema, default, alloc)?;
+    Ok(Compound { tree, is_older })
+}
+
+/// The schema as a document of one resource in the words of 2020-12, without meta-schemas: as [`read_as`] returns it, and
+/// then as `bundled` of `tinyjson_schema_bundle` does. The only error is out of memory.
+///
+/// ```
+/// // Of {"$ref":"x","$defs":{"y":{"$id":"x"}}}:
+/// let tree = resource_of(schema, Draft::Draft202012, alloc)?; // {"$defs":{"y":{}},"$ref":"#/$defs/y"}
+/// ```
+pub fn resource_of(
+    schema: JsonValue,
+    default: Draft,
+    alloc: Global,
+) -> Result<JsonValue, AllocError>
+    ensures { IfOk result (λ v. IsResourceOf default (view schema) (view v)) }
+{
+    let tree = read_as(schema, default, alloc)?;
+    let whole = bundled(&tree, alloc);
+    tree.dismantle();
+    whole
 }
 
 /// The schema with a further document that was found at the URI (Core, 9.1.1 and 9.3.1), which is read in the draft that

@@ -18,14 +18,18 @@ mod meta;
 mod read;
 mod recursive;
 mod reference;
+mod retrieval;
 mod rule;
 mod translate;
 mod wanted;
 
-pub use compound::{Compound, EmbedError, embed, referring, with_meta_schemas};
+pub use compound::{
+    Compound, EmbedError, compound_of, embed, referring, resource_of, with_meta_schemas,
+};
 pub use dialect::{draft_of, is_older, meta_schema_of, uri_of};
 pub use document::{base_of, found_at, has_definition, with_document};
 pub use draft::{Dialect, Draft};
 pub use meta::{MetaSchema, has_document, meta_schemas};
 pub use read::{dialect_of, read_as, unknown_dialect};
+pub use retrieval::with_retrieval_uri;
 pub use translate::translated;

@@ -3,8 +3,8 @@ use Rattle.std.specs.Prelude.{IfOk}
 use lib.Utf8.{encode}
 use Rattle.tinyjson_schema_drafts.specs.declared.draft.Draft.TheVariants.{Draft202012}
 use Rattle.tinyjson_schema_drafts.specs.References.{embed, seen}
-use Rattle.json_schema.specs.Meta.{way_to}
-use Rattle.json_schema.proofs.documents.with_way.Goals as goal
+use Rattle.tinyjson_schema_drafts.specs.Retrieval.{way_to}
+use Rattle.tinyjson_schema_drafts.proofs.retrieval.with_way.Goals as goal
 
 pub returns : goal.returns
 unfolding encode

@@ -7,7 +7,7 @@ use Rattle.tinyjson_schema_drafts.specs.Documents.{string_of}
 use Rattle.tinyjson_schema_keywords.proofs.Callers.{name_chars}
 use Rattle.tinyjson_schema_keywords.specs.Names.{name}
 use Rattle.tinyjson_schema_keywords.specs.declared.keyword.Keyword.TheVariants as kw
-use Rattle.json_schema.proofs.documents.way_to.Goals as goal
+use Rattle.tinyjson_schema_drafts.proofs.retrieval.way_to.Goals as goal
 
 pub returns : goal.returns
 returns c =
