@@ -3,6 +3,5 @@ pub mod Examples
 pub mod Handling
 pub mod Outcomes
 pub mod Running
-mod Sharing
 pub mod Verdicts
 pub mod Violations

@@ -19,7 +19,8 @@ use Rattle.tinyjson_schema_drafts.specs.References.{HasMetaSchemas, Seen, embed,
 use Rattle.tinyjson_schema_drafts.specs.Retrieval.{with_retrieval_uri}
 use Rattle.json_schema.specs.Every.{TextGivesAs}
 use Rattle.json_schema.specs.Failures.{Is}
-use Rattle.json_schema.specs.Names.{joined, plain, reference}
+use Rattle.text_uri.specs.Relative.{relative_reference}
+use Rattle.json_schema.specs.Names.{joined, plain}
 use Rattle.json_schema.specs.Verdicts.{IsNoText, depth_limit}
 use Rattle.json_schema.specs.declared.every.Every.{Every}
 use Rattle.json_schema.specs.declared.every.Every.TheVariants.{Refused}
@@ -57,7 +58,7 @@ found_in file c = (found_at (joined (codes "/") (plain file)) c.0, c.1)
 
 -- the URI of a document: the one that is given, or else the reference from the schema's file
 abbrev pub document_uri : List ℕ → Option (List ℕ) → List ℕ → List ℕ
-document_uri schema u file = unwrap_or u (reference (plain schema) (plain file))
+document_uri schema u file = unwrap_or u (relative_reference (plain schema) (plain file))
 
 -- ---- further documents
 

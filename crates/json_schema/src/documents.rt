@@ -6,12 +6,13 @@ ghost use Rattle.json_schema.specs.Meta.{document_uri, found_in, EmbedsNew, Embe
 
 use crate::failure::{SchemaFailure, document_failure, schema_failure};
 use crate::folder::{is_folder, json_files};
-use crate::names::{joined, located, plain, reference};
+use crate::names::{joined, located, plain};
 use crate::tell_unknown;
 use crate::verdict::DEPTH_LIMIT;
 use std::alloc::{AllocError, Global};
 use std::fs;
 use std::os::unix::fs::MetadataExt;
+use text_uri::relative_reference;
 use tinyjson::JsonValue;
 use tinyjson_cli::{Failure, Text, read_named};
 use tinyjson_schema_drafts::{
@@ -93,7 +94,7 @@ fn document_uri(
 {
     match uri {
         Some(uri) => String::from_str(alloc, uri),
-        None => reference(alloc, plain(schema), plain(file)),
+        None => relative_reference(alloc, plain(schema), plain(file)),
     }
 }
 

@@ -4,3 +4,4 @@ pub mod Dots
 pub mod Resolving
 pub mod Laws
 pub mod Splitting
+pub mod Relative

@@ -1,4 +1,4 @@
-//! URI references (RFC 3986), split and resolved without decoding or validating them.
+//! URI references (RFC 3986), split, resolved and made without decoding or validating them.
 //!
 //! ```
 //! let target = resolve(alloc, "http://example.com/a/b", "../c#d")?;
@@ -10,7 +10,9 @@ mod cutting;
 mod dots;
 mod laws;
 mod parts;
+mod relative;
 mod resolving;
 
 pub use laws::{fragment_of_parts, text_of_parts};
+pub use relative::relative_reference;
 pub use resolving::{fragment, resolve, without_fragment};

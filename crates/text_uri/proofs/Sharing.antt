@@ -7,7 +7,7 @@ use Rattle.std.proofs.lemmas.List.{drop_more}
 use Rattle.std.proofs.lemmas.Str.{IsCharBoundary-after_ascii, IsCharBoundary-start}
 use Rattle.std.specs.Str.{IsUtf8}
 use Rattle.text_uri.specs.Letters.{is_slash, has_slash, through_last_slash}
-use Rattle.json_schema.specs.Names.{both_begin, shared}
+use Rattle.text_uri.specs.Relative.{both_begin, shared}
 
 both_none : (xs : List ℕ) → both_begin xs [] ≡ []
 both_none [] = refl
