@@ -292,7 +292,11 @@ fn is_formatted(name: &String, value: &str) -> bool
 }
 
 /// The number of items of an array; `None` for another value.
-fn item_count(value: &ValueView<'_>) -> Option<usize>
+///
+/// ```
+/// let count = item_count(&value.as_view()); // Some(2) for [1, 2]
+/// ```
+pub fn item_count(value: &ValueView<'_>) -> Option<usize>
     ensures { result ≡ items_count_of (tree_of value.now) }
 {
     match value.kind() {
@@ -302,7 +306,11 @@ fn item_count(value: &ValueView<'_>) -> Option<usize>
 }
 
 /// The number of members of an object; `None` for another value.
-fn member_count(value: &ValueView<'_>) -> Option<usize>
+///
+/// ```
+/// let count = member_count(&value.as_view()); // Some(1) for {"a": 2}
+/// ```
+pub fn member_count(value: &ValueView<'_>) -> Option<usize>
     ensures { result ≡ members_count_of (tree_of value.now) }
 {
     match value.kind() {

@@ -12,7 +12,9 @@ mod kinds;
 mod multiple;
 mod unique;
 
-pub use assertion::{accepts, is_among, is_count_at_least, is_count_at_most};
+pub use assertion::{
+    accepts, is_among, is_count_at_least, is_count_at_most, item_count, member_count,
+};
 pub use formats::unknown_formats;
 pub use forms::{
     are_types, is_array, is_base, is_boolean, is_boolean_or_object, is_count, is_dialect,

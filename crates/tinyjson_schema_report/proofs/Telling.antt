@@ -1,23 +1,20 @@
 -- The words of strings, counts and names.
-use Rattle.std.proofs.Common.{◌≡◌, ◌≢◌, ℕ, suc, List, [], ◌∷◌, ◌++◌, Option, Some, None, String, Global, string_bytes}
+use Rattle.std.proofs.Common.{◌≡◌, ℕ, List, [], ◌∷◌, ◌++◌, Option, Some, None, String, Global, string_bytes}
 use Rattle.std.proofs.Common.{codes}
 use Rattle.std.proofs.Common.{refl, sym, ap, ap₂, ◌∙◌}
 use Rattle.std.specs.Prelude.{option_and_then}
 use Rattle.std.specs.Option.{option_map_or}
 use Rattle.tinyjson.proofs.Callers.{view_String}
-use Rattle.tinyjson.specs.JsonKind.TheVariants as kind
-use Rattle.tinyjson.specs.Kind.{kind_of}
-use Rattle.tinyjson.specs.Tree.{Tree, string, array, object, Members, no_members, member}
+use Rattle.tinyjson.specs.Tree.{Tree, string}
 use Rattle.tinyjson.specs.View.{view}
-use Rattle.tinyjson_document.specs.Parts as part
-use Rattle.tinyjson_document.specs.Parts.{size, string_in}
+use Rattle.tinyjson_document.specs.Parts.{string_in}
 use Rattle.tinyjson.specs.declared.value.JsonValue.{JsonValue}
 use Rattle.tinyjson.specs.declared.value.JsonValue.TheVariants as is
 use Rattle.tinyjson_pointer.specs.Walk.{part_at, step}
 use Rattle.tinyjson_schema_keywords.proofs.Callers.{text_bytes}
 use Rattle.tinyjson_schema_keywords.specs.Applied.{items_in}
 use Rattle.tinyjson_schema_report.specs.Brief.{brief}
-use Rattle.tinyjson_schema_report.specs.Counts.{member_count, length_of, items_count_of, members_count_of}
+use Rattle.tinyjson_schema_report.specs.Counts.{length_of}
 use Rattle.tinyjson_schema_report.specs.Kinds.{type_name, with_article}
 use Rattle.tinyjson_schema_report.specs.Missing.{missing, required_words}
 
@@ -28,26 +25,6 @@ pub string_type : (v : JsonValue) (s : String Global) (bs : List ℕ) → v ≡ 
 string_type v s bs e b = ap with_article (text_bytes s bs b) ∙ ap type_name (sym (ap view e ∙ view_String s))
 
 -- ---- counts
-
-same_count : (ms : Members) → part.member_count ms ≡ member_count ms
-same_count no_members = refl
-same_count (member k t ms) = ap suc (same_count ms)
-
-pub items_counted : (t : Tree) → kind.Array ≡ kind_of t → Some (size t) ≡ items_count_of t
-items_counted (array ts) k = refl
-items_counted _ k = absurd cc
-
-pub no_items_counted : (t : Tree) → kind.Array ≢ kind_of t → None ≡ items_count_of t
-no_items_counted (array ts) n = absurd (n refl)
-no_items_counted _ n = refl
-
-pub members_counted : (t : Tree) → kind.Object ≡ kind_of t → Some (size t) ≡ members_count_of t
-members_counted (object ms) k = ap Some (same_count ms)
-members_counted _ k = absurd cc
-
-pub no_members_counted : (t : Tree) → kind.Object ≢ kind_of t → None ≡ members_count_of t
-no_members_counted (object ms) n = absurd (n refl)
-no_members_counted _ n = refl
 
 pub no_length : (t : Tree) → None ≡ string_in t → None ≡ length_of t
 no_length (string cs) h = absurd cc

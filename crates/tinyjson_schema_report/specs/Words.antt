@@ -6,7 +6,8 @@ use Rattle.tinyjson_schema_keywords.specs.Applied.{items_in}
 use Rattle.tinyjson_schema_keywords.specs.declared.keyword.Keyword.{Keyword}
 use Rattle.tinyjson_schema_keywords.specs.declared.keyword.Keyword.TheVariants as kw
 use Rattle.tinyjson_schema_report.specs.Brief.{brief, brief_list}
-use Rattle.tinyjson_schema_report.specs.Counts.{count_words, contained_words, length_of, items_count_of, members_count_of}
+use Rattle.tinyjson_schema_assertions.specs.Assertions.{items_count_of, members_count_of}
+use Rattle.tinyjson_schema_report.specs.Counts.{count_words, contained_words, length_of}
 use Rattle.tinyjson_schema_report.specs.Ends.{At, ends_from}
 use Rattle.tinyjson_schema_report.specs.Kinds.{type_name, type_words}
 use Rattle.tinyjson_schema_report.specs.Missing.{required_words, dependent_words}

@@ -5,13 +5,12 @@ ghost use Rattle.std.specs.Option.{option_map_or};
 ghost use Rattle.std.specs.String.{string_bytes};
 ghost use Rattle.tinyjson.specs.View.{view};
 ghost use Rattle.tinyjson_view.specs.Views.{tree_of};
-ghost use Rattle.tinyjson_schema_report.specs.Counts.{length_of, items_count_of, members_count_of};
-ghost use Rattle.tinyjson_schema_report.specs.Counts.{counted, count_words, contained_words};
-ghost use Rattle.tinyjson_schema_report.specs.Counts.{plural};
+ghost use Rattle.tinyjson_schema_report.specs.Counts.{length_of, counted, count_words};
+ghost use Rattle.tinyjson_schema_report.specs.Counts.{contained_words, plural};
 
 use crate::brief::brief;
 use std::alloc::{AllocError, Global};
-use tinyjson::{JsonKind, JsonValue};
+use tinyjson::JsonValue;
 use tinyjson_document::JsonView;
 use tinyjson_view::ValueView;
 
@@ -88,24 +87,4 @@ fn character_count(text: &str) -> usize
     ensures { result ≡ length (chars text.now) }
 {
     text.chars().count()
-}
-
-/// The number of items of an array; `None` for another value.
-pub fn item_count(value: &ValueView<'_>) -> Option<usize>
-    ensures { result ≡ items_count_of (tree_of value.now) }
-{
-    match value.kind() {
-        JsonKind::Array => Some(value.len()),
-        _ => None,
-    }
-}
-
-/// The number of members of an object; `None` for another value.
-pub fn member_count(value: &ValueView<'_>) -> Option<usize>
-    ensures { result ≡ members_count_of (tree_of value.now) }
-{
-    match value.kind() {
-        JsonKind::Object => Some(value.len()),
-        _ => None,
-    }
 }

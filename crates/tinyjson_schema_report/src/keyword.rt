@@ -7,11 +7,12 @@ ghost use Rattle.tinyjson_schema_report.specs.Words.{keyword_words, compared, on
 ghost use Rattle.tinyjson_schema_report.specs.Words.{at_most, at_least, format_words};
 
 use crate::brief::{brief, brief_list, brief_of};
-use crate::count::{Count, contained_words, count_words, item_count, length, member_count};
+use crate::count::{Count, contained_words, count_words, length};
 use crate::kind::{type_name, type_words};
 use crate::missing::{dependent_words, required_words};
 use std::alloc::{AllocError, Global};
 use tinyjson::JsonValue;
+use tinyjson_schema_assertions::{item_count, member_count};
 use tinyjson_schema_keywords::{Keyword, items_in};
 use tinyjson_view::ValueView;
 
