@@ -10,13 +10,14 @@ use Rattle.tinyjson.specs.Written.{Written, WrittenPart}
 use Rattle.tinyjson_lines.specs.Within.{IsWithin}
 use Rattle.tinyjson_schema.specs.Valid.{Root}
 use Rattle.json_schema.specs.Run.{Handles, Refuses, outcome_of, shown_of, told_of}
-use Rattle.json_schema.specs.Verdicts.{judged, LineGives, GivesWithin}
+use Rattle.tinyjson_schema_report.specs.Verdicts.{judged}
+use Rattle.json_schema.specs.Verdicts.{LineGives, GivesWithin}
 use Rattle.json_schema.specs.declared.lines.Check.{Check}
 use Rattle.json_schema.specs.declared.lines.Outcome.{Outcome}
-use Rattle.json_schema.specs.declared.verdict.Cause.{Cause}
-use Rattle.json_schema.specs.declared.verdict.Cause.TheVariants.{NotUtf8, NotJson, TooDeep, TooMuch, TooLong}
-use Rattle.json_schema.specs.declared.verdict.Verdict.{Verdict}
-use Rattle.json_schema.specs.declared.verdict.Verdict.TheVariants.{Valid, Invalid, Refused}
+use Rattle.tinyjson_schema_report.specs.declared.verdict.Cause.{Cause}
+use Rattle.tinyjson_schema_report.specs.declared.verdict.Cause.TheVariants.{NotUtf8, NotJson, TooDeep, TooMuch, TooLong}
+use Rattle.tinyjson_schema_report.specs.declared.verdict.Verdict.{Verdict}
+use Rattle.tinyjson_schema_report.specs.declared.verdict.Verdict.TheVariants.{Valid, Invalid, Refused}
 
 -- a line within the limit has the verdict on its text
 pub within_checked : (max : Option ℕ) (s : Root) (line : List ℕ) (v : Verdict) → IsWithin max line → LineGives s line v

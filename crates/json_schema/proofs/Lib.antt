@@ -4,4 +4,3 @@ pub mod Handling
 pub mod Outcomes
 pub mod Running
 pub mod Verdicts
-pub mod Violations

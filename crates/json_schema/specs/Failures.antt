@@ -21,8 +21,8 @@ use Rattle.tinyjson_schema_report.specs.declared.refused.Refusal.{Refusal}
 use Rattle.json_schema.specs.Told.{too_deep, too_much}
 use Rattle.json_schema.specs.declared.failure.SchemaFailure.{SchemaFailure}
 use Rattle.json_schema.specs.declared.failure.SchemaFailure.TheVariants as is
-use Rattle.json_schema.specs.declared.verdict.Cause.{Cause}
-use Rattle.json_schema.specs.declared.verdict.Cause.TheVariants as cause
+use Rattle.tinyjson_schema_report.specs.declared.verdict.Cause.{Cause}
+use Rattle.tinyjson_schema_report.specs.declared.verdict.Cause.TheVariants as cause
 
 -- where a document in the file with this name is no JSON
 abbrev pub document_message : List ℕ → JsonParseError → List ℕ

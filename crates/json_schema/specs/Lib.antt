@@ -1,4 +1,3 @@
-pub mod Every
 pub mod Failures
 pub mod Names
 pub mod Options

@@ -17,15 +17,15 @@ use Rattle.tinyjson_schema_drafts.specs.Documents.{found_at, has_definition}
 use Rattle.tinyjson_schema_drafts.specs.declared.draft.Draft.{Draft}
 use Rattle.tinyjson_schema_drafts.specs.References.{HasMetaSchemas, Seen, embed, meta_schema_of, referring}
 use Rattle.tinyjson_schema_drafts.specs.Retrieval.{with_retrieval_uri}
-use Rattle.json_schema.specs.Every.{TextGivesAs}
+use Rattle.tinyjson_schema_report.specs.Verdicts.{TextGivesAs}
 use Rattle.json_schema.specs.Failures.{Is}
 use Rattle.text_uri.specs.Relative.{relative_reference}
 use Rattle.json_schema.specs.Names.{joined, plain}
-use Rattle.json_schema.specs.Verdicts.{IsNoText, depth_limit}
-use Rattle.json_schema.specs.declared.every.Every.{Every}
-use Rattle.json_schema.specs.declared.every.Every.TheVariants.{Refused}
+use Rattle.tinyjson_schema_report.specs.Verdicts.{IsNoText, depth_limit}
+use Rattle.tinyjson_schema_report.specs.declared.verdict.every.Every.{Every}
+use Rattle.tinyjson_schema_report.specs.declared.verdict.every.Every.TheVariants.{Refused}
 use Rattle.json_schema.specs.declared.meta.MetaSchemas.{MetaSchemas}
-use Rattle.json_schema.specs.declared.verdict.Cause.TheVariants as cause
+use Rattle.tinyjson_schema_report.specs.declared.verdict.Cause.TheVariants as cause
 
 -- ---- schemas by their meta-schemas
 

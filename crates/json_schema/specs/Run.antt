@@ -11,17 +11,18 @@ use Rattle.tinyjson_lines.specs.Lines.{AnswersAll, StopsAmong, content}
 use Rattle.tinyjson_schema_report.specs.Located.{located_tree}
 use Rattle.json_schema.specs.Report.{text_line}
 use Rattle.json_schema.specs.Told.{told_line}
-use Rattle.json_schema.specs.Verdicts.{judged, GivesWithin}
+use Rattle.tinyjson_schema_report.specs.Verdicts.{judged}
+use Rattle.json_schema.specs.Verdicts.{GivesWithin}
 use Rattle.json_schema.specs.declared.lines.Check.{Check}
 use Rattle.json_schema.specs.declared.lines.Outcome.{Outcome}
 use Rattle.json_schema.specs.declared.lines.Outcome.TheVariants.{AllValid, SomeInvalid, SomeRefused}
 use Rattle.json_schema.specs.declared.lines.Shows.{Shows}
 use Rattle.json_schema.specs.declared.lines.Shows.TheVariants.{Reports, Texts, ValidLines, OtherLines}
-use Rattle.json_schema.specs.declared.verdict.Cause.{Cause}
-use Rattle.json_schema.specs.declared.verdict.Cause.TheVariants.{TooLong}
+use Rattle.tinyjson_schema_report.specs.declared.verdict.Cause.{Cause}
+use Rattle.tinyjson_schema_report.specs.declared.verdict.Cause.TheVariants.{TooLong}
 use Rattle.tinyjson_schema_report.specs.declared.located.Located.{Located}
-use Rattle.json_schema.specs.declared.verdict.Verdict.{Verdict}
-use Rattle.json_schema.specs.declared.verdict.Verdict.TheVariants.{Valid, Invalid, Refused}
+use Rattle.tinyjson_schema_report.specs.declared.verdict.Verdict.{Verdict}
+use Rattle.tinyjson_schema_report.specs.declared.verdict.Verdict.TheVariants.{Valid, Invalid, Refused}
 
 abbrev pub status : Outcome → Status
 status AllValid = ended.Done

@@ -6,8 +6,8 @@ use Rattle.tinyjson.specs.Characters.{line_feed}
 use Rattle.tinyjson_cli.specs.Refusals.{refusal_line}
 use Rattle.tinyjson_cli.specs.Shown.{shown}
 use Rattle.tinyjson_lines.specs.declared.refusal.Cause.TheVariants as line
-use Rattle.json_schema.specs.declared.verdict.Cause.{Cause}
-use Rattle.json_schema.specs.declared.verdict.Cause.TheVariants.{NotUtf8, NotJson, TooDeep, TooMuch, TooLong}
+use Rattle.tinyjson_schema_report.specs.declared.verdict.Cause.{Cause}
+use Rattle.tinyjson_schema_report.specs.declared.verdict.Cause.TheVariants.{NotUtf8, NotJson, TooDeep, TooMuch, TooLong}
 
 abbrev pub program : List ℕ
 program = codes "json_schema"

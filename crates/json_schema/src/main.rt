@@ -6,7 +6,6 @@ ghost use Rattle.tinyjson_cli.specs.Arguments.{given_of, text_of};
 ghost use Rattle.json_schema.specs.Options.{asked_files, asked_most, asked_shows, are_lines, asks};
 
 mod documents;
-mod every;
 mod failure;
 mod folder;
 mod lines;
@@ -18,7 +17,6 @@ mod unknown;
 mod verdict;
 
 use documents::with_documents;
-use every::{Every, check_as};
 use failure::{SchemaFailure, refused_failure, schema_failure, schema_text_failure, text_failure};
 use lines::{Check, Shows, check_lines};
 use meta::{MetaSchemas, whole_of};
@@ -36,7 +34,7 @@ use tinyjson_cli::{
 };
 use tinyjson_schema::{Schema, SchemaError, unknown_formats, unknown_words};
 use tinyjson_schema_drafts::{Compound, Draft, compound_of, draft_of, unknown_dialect};
-use tinyjson_schema_report::{Located, Refusal};
+use tinyjson_schema_report::{Every, Located, Refusal, check_as};
 use unknown::{tell_dialect, tell_formats, tell_words};
 use verdict::{DEPTH_LIMIT, Judge};
 

@@ -4,11 +4,10 @@ ghost use Rattle.std.specs.Str.{chars};
 ghost use Rattle.tinyjson.specs.Tree.{object, no_members};
 ghost use Rattle.tinyjson.specs.View.{view};
 ghost use Rattle.tinyjson_schema_drafts.specs.References.{seen, meta_schema_of, HasMetaSchemas};
-ghost use Rattle.json_schema.specs.Every.{TextGivesAs};
+ghost use Rattle.tinyjson_schema_report.specs.Verdicts.{TextGivesAs};
 ghost use Rattle.json_schema.specs.Meta.{judged_by, GivesBy, SchemaGives, TellsUnknown, WholeGives};
 
 use crate::documents::with_documents;
-use crate::every::{Every, check_as};
 use crate::failure::{embed_failure, refused_failure};
 use crate::verdict::{Cause, DEPTH_LIMIT, Judge};
 use std::alloc::Global;
@@ -20,7 +19,7 @@ use tinyjson_schema::{Schema, SchemaError};
 use tinyjson_schema_drafts::{
     Compound, Draft, meta_schema_of, referring, uri_of, with_meta_schemas,
 };
-use tinyjson_schema_report::Refusal;
+use tinyjson_schema_report::{Every, Refusal, check_as};
 
 /// The schema as a document of one resource, with the meta-schemas that its references lead into.
 pub fn whole_of(alloc: Global, compound: Compound) -> Result<Compound, Failure>

@@ -17,3 +17,6 @@ pub mod Callers
 pub mod Naming
 -- Where violations stand in the value.
 pub mod Leading
+-- Texts and their values.
+mod Verdicts
+mod Violations

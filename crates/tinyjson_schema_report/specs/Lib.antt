@@ -15,3 +15,5 @@ pub mod Finds
 pub mod Report
 -- The same with a line and a column.
 pub mod Located
+-- The verdict on a text.
+pub mod Verdicts

@@ -20,6 +20,7 @@ mod missing;
 mod nearest;
 mod refused;
 mod report;
+mod verdict;
 mod violated;
 
 pub use every::find_every;
@@ -27,4 +28,5 @@ pub use found::{Finding, find, find_by, limits_of};
 pub use located::{Located, locate, locate_every, located_unit};
 pub use refused::{Refusal, refused_words};
 pub use report::output_unit;
+pub use verdict::{Cause, DEPTH_LIMIT, Every, Judge, Verdict, check_as, check_text};
 pub use violated::{Places, words};

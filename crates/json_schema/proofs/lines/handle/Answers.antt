@@ -3,7 +3,7 @@ use Rattle.std.specs.Result.{result_map_both}
 use Rattle.tinyjson.proofs.Callers.{begins}
 use Rattle.tinyjson_lines.specs.Within.{IsGiven, IsWithin}
 use Rattle.json_schema.specs.Run.{Handles}
-use Rattle.json_schema.specs.declared.verdict.Cause.TheVariants.{TooLong}
+use Rattle.tinyjson_schema_report.specs.declared.verdict.Cause.TheVariants.{TooLong}
 use Rattle.json_schema.proofs.Handling.{line_refused}
 use Rattle.json_schema.proofs.lines.handle.Goals as goal
 

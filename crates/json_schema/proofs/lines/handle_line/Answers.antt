@@ -2,7 +2,8 @@ use Rattle.std.proofs.Common.{[], ap, subst, sym}
 use Rattle.std.proofs.KnownBytes.{Keeps-refl}
 use Rattle.tinyjson.specs.Written.{Written}
 use Rattle.json_schema.specs.Run.{outcome_of, shown_of, told_of}
-use Rattle.json_schema.specs.Verdicts.{judged, GivesWithin}
+use Rattle.tinyjson_schema_report.specs.Verdicts.{judged}
+use Rattle.json_schema.specs.Verdicts.{GivesWithin}
 use Rattle.json_schema.proofs.Handling.{within_checked, unhandled, line_shown, show_failed, line_refused}
 use Rattle.json_schema.proofs.lines.handle_line.Goals as goal
 

@@ -1,7 +1,7 @@
 use Rattle.std.proofs.Common.{◌∙◌, subst}
 use Rattle.std.specs.Prelude.{IfOk}
 use Rattle.std.specs.Str.{IsUtf8, chars}
-use Rattle.json_schema.specs.Verdicts.{judged, TextGives}
+use Rattle.tinyjson_schema_report.specs.Verdicts.{judged, TextGives}
 use Rattle.json_schema.proofs.Verdicts.{gives_of_line}
 use Rattle.json_schema.proofs.verdict.check_line.Goals as goal
 

@@ -1,7 +1,7 @@
 use Rattle.std.proofs.Common.{chars}
 use Rattle.std.proofs.lemmas.Result.{IfOk-weaker}
 use Rattle.tinyjson_schema_drafts.specs.References.{seen}
-use Rattle.json_schema.specs.Every.{TextGivesAs}
+use Rattle.tinyjson_schema_report.specs.Verdicts.{TextGivesAs}
 use Rattle.json_schema.specs.Meta.{WholeGives, judged_by}
 use Rattle.json_schema.proofs.meta.MetaSchemas.check_whole.Goals as goal
 

@@ -3,10 +3,10 @@ use Rattle.std.proofs.lemmas.Bool.{false≢true}
 use Rattle.std.specs.Str.{chars}
 use Rattle.tinyjson.specs.Grammar.{IsText}
 use Rattle.tinyjson_document.specs.Document.{tree}
-use Rattle.json_schema.specs.Verdicts.{judged, depth_limit}
-use Rattle.json_schema.proofs.Violations.{every_of_value}
-use Rattle.json_schema.proofs.Verdicts.{text_read, no_text}
-use Rattle.json_schema.proofs.every.check_every.Goals as goal
+use Rattle.tinyjson_schema_report.specs.Verdicts.{judged, depth_limit}
+use Rattle.tinyjson_schema_report.proofs.Violations.{every_of_value}
+use Rattle.tinyjson_schema_report.proofs.Verdicts.{text_read, no_text}
+use Rattle.tinyjson_schema_report.proofs.verdict.every.check_every.Goals as goal
 
 pub check_value-requires : goal.check_value-requires
 check_value-requires c = subst (IsText depth_limit (chars c.args.text.now)) (sym c.root.ensures)

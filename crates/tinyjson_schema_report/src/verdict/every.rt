@@ -3,14 +3,16 @@ ghost use Rattle.std.specs.Prelude.{IfOk};
 ghost use Rattle.std.specs.Str.{chars};
 ghost use Rattle.tinyjson.specs.Grammar.{IsText};
 ghost use Rattle.tinyjson_document.specs.Document.{tree};
-ghost use Rattle.json_schema.specs.Every.{ValueGivesEvery, TextGivesEvery, TextGivesAs, IsAs};
-ghost use Rattle.json_schema.specs.Verdicts.{judged, depth_limit};
+ghost use Rattle.tinyjson_schema_report.specs.Verdicts.{judged, depth_limit};
+ghost use Rattle.tinyjson_schema_report.specs.Verdicts.{ValueGivesEvery, TextGivesEvery, TextGivesAs, IsAs};
 
-use crate::verdict::{Cause, DEPTH_LIMIT, Judge, Verdict, check_text};
+use super::{Cause, DEPTH_LIMIT, Judge, Verdict, check_text};
+use crate::every::find_every;
+use crate::found::limits_of;
+use crate::located::{Located, locate_every};
 use std::alloc::{AllocError, Global};
 use tinyjson_document::{Document, Node};
 use tinyjson_schema::{CheckError, Checks};
-use tinyjson_schema_report::{Located, find_every, limits_of, locate_every};
 
 /// All that the value of a text violates.
 #[derive(Drop)]
@@ -23,6 +25,10 @@ pub enum Every {
 
 /// Checks a text: the first violations, up to `most`, in order; or else the first one as `check_text` finds it. The
 /// only error is out of memory.
+///
+/// ```
+/// let every = check_as(alloc, judge, "[1, \"a\"]", Some(100))?;
+/// ```
 pub fn check_as(
     alloc: Global,
     judge: Judge<'_, '_>,

@@ -1,10 +1,10 @@
 use Rattle.std.proofs.Common.{subst, sym}
 use Rattle.std.specs.Prelude.{IfOk}
 use Rattle.std.specs.Str.{chars}
-use Rattle.json_schema.specs.Every.{TextGivesAs}
-use Rattle.json_schema.specs.Verdicts.{judged}
-use Rattle.json_schema.proofs.Violations.{every_of_verdict}
-use Rattle.json_schema.proofs.every.check_as.Goals as goal
+use Rattle.tinyjson_schema_report.specs.Verdicts.{TextGivesAs}
+use Rattle.tinyjson_schema_report.specs.Verdicts.{judged}
+use Rattle.tinyjson_schema_report.proofs.Violations.{every_of_verdict}
+use Rattle.tinyjson_schema_report.proofs.verdict.every.check_as.Goals as goal
 
 pub returns-in-Some : goal.returns-in-Some
 returns-in-Some c =

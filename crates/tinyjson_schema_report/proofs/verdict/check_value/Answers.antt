@@ -2,8 +2,8 @@ use Rattle.std.proofs.Common.{Ok, Some, subst, sym}
 use Rattle.tinyjson_document.specs.Document.{tree}
 use Rattle.tinyjson_schema.specs.Reading.{root_in}
 use Rattle.tinyjson_schema_report.specs.Finds.{FindsIn}
-use Rattle.json_schema.specs.Verdicts.{depth_limit, step_limit}
-use Rattle.json_schema.proofs.verdict.check_value.Goals as goal
+use Rattle.tinyjson_schema_report.specs.Verdicts.{depth_limit, step_limit}
+use Rattle.tinyjson_schema_report.proofs.verdict.check_value.Goals as goal
 
 pub locate-requires : goal.locate-requires
 locate-requires c =

@@ -4,12 +4,12 @@ use Rattle.std.specs.Prelude.{IfOk}
 use Rattle.tinyjson.specs.Grammar.{IsText}
 use Rattle.tinyjson.specs.Tree.{Tree}
 use Rattle.tinyjson_schema.specs.Valid.{Root}
-use Rattle.json_schema.specs.Every.{ValueGivesEvery, TextGivesEvery, TextGivesAs, IsAs}
-use Rattle.json_schema.specs.Verdicts.{TextGives, depth_limit}
-use Rattle.json_schema.specs.declared.every.Every.{Every}
-use Rattle.json_schema.specs.declared.every.Every.TheVariants.{Found, Refused}
-use Rattle.json_schema.specs.declared.verdict.Cause.TheVariants as cause
-use Rattle.json_schema.specs.declared.verdict.Verdict.{Verdict}
+use Rattle.tinyjson_schema_report.specs.Verdicts.{ValueGivesEvery, TextGivesEvery, TextGivesAs, IsAs}
+use Rattle.tinyjson_schema_report.specs.Verdicts.{TextGives, depth_limit}
+use Rattle.tinyjson_schema_report.specs.declared.verdict.every.Every.{Every}
+use Rattle.tinyjson_schema_report.specs.declared.verdict.every.Every.TheVariants.{Found, Refused}
+use Rattle.tinyjson_schema_report.specs.declared.verdict.Cause.TheVariants as cause
+use Rattle.tinyjson_schema_report.specs.declared.verdict.Verdict.{Verdict}
 
 every_gives : (most : ℕ) (s : Root) (xs : List ℕ) (t : Tree) (e : Every) → IsText depth_limit xs t → ValueGivesEvery most xs s t e
     → TextGivesEvery most s xs e

@@ -2,8 +2,8 @@ use Rattle.std.proofs.Common.{subst, sym}
 use Rattle.tinyjson_document.specs.Document.{tree}
 use Rattle.tinyjson_schema.specs.Reading.{root_in}
 use Rattle.tinyjson_schema_report.specs.Every.{FindsEvery}
-use Rattle.json_schema.specs.Verdicts.{depth_limit, step_limit}
-use Rattle.json_schema.proofs.every.check_value.Goals as goal
+use Rattle.tinyjson_schema_report.specs.Verdicts.{depth_limit, step_limit}
+use Rattle.tinyjson_schema_report.proofs.verdict.every.check_value.Goals as goal
 
 pub locate_every-requires : goal.locate_every-requires
 locate_every-requires c = (depth_limit, tree c.args.value, c.requires, c.in-Ok.ensures.found.3)

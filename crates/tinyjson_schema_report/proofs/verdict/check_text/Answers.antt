@@ -3,9 +3,9 @@ use Rattle.std.proofs.lemmas.Bool.{false≢true}
 use Rattle.std.specs.Str.{chars}
 use Rattle.tinyjson.specs.Grammar.{IsText}
 use Rattle.tinyjson_document.specs.Document.{tree}
-use Rattle.json_schema.specs.Verdicts.{judged, depth_limit}
-use Rattle.json_schema.proofs.Verdicts.{text_read, no_text, gives_of_value}
-use Rattle.json_schema.proofs.verdict.check_text.Goals as goal
+use Rattle.tinyjson_schema_report.specs.Verdicts.{judged, depth_limit}
+use Rattle.tinyjson_schema_report.proofs.Verdicts.{text_read, no_text, gives_of_value}
+use Rattle.tinyjson_schema_report.proofs.verdict.check_text.Goals as goal
 
 pub check_value-verdict-requires : goal.check_value-verdict-requires
 check_value-verdict-requires c = subst (IsText depth_limit (chars c.args.text.now)) (sym c.root.ensures)
