@@ -6,6 +6,7 @@ use Rattle.tinyjson.specs.Grammar.{IsText}
 use Rattle.tinyjson.specs.Tree.{Tree}
 use Rattle.tinyjson.specs.View.{view}
 use Rattle.tinyjson.specs.declared.parser.error.JsonParseError.{JsonParseError}
+use Rattle.tinyjson_cli.specs.Folders.{join_path}
 use Rattle.tinyjson_cli.specs.Shown.{shown}
 use Rattle.tinyjson_cli.specs.declared.failure.Failure.{Failure}
 use Rattle.tinyjson_cli.specs.declared.failure.Failure.TheVariants as failure
@@ -20,7 +21,7 @@ use Rattle.tinyjson_schema_drafts.specs.Retrieval.{with_retrieval_uri}
 use Rattle.tinyjson_schema_report.specs.Verdicts.{TextGivesAs}
 use Rattle.json_schema.specs.Failures.{Is}
 use Rattle.text_uri.specs.Relative.{relative_reference}
-use Rattle.json_schema.specs.Names.{joined, plain}
+use Rattle.json_schema.specs.Names.{plain}
 use Rattle.tinyjson_schema_report.specs.Verdicts.{IsNoText, depth_limit}
 use Rattle.tinyjson_schema_report.specs.declared.verdict.every.Every.{Every}
 use Rattle.tinyjson_schema_report.specs.declared.verdict.every.Every.TheVariants.{Refused}
@@ -54,7 +55,7 @@ TellsUnknown u f = Is status.Refused (codes "\"" ++ (shown (chars u) ++ codes "\
 
 -- the schema that was found in this file
 abbrev pub found_in : List ℕ → Seen → Seen
-found_in file c = (found_at (joined (codes "/") (plain file)) c.0, c.1)
+found_in file c = (found_at (join_path (codes "/") (plain file)) c.0, c.1)
 
 -- the URI of a document: the one that is given, or else the reference from the schema's file
 abbrev pub document_uri : List ℕ → Option (List ℕ) → List ℕ → List ℕ

@@ -1,9 +1,8 @@
 -- The names of files.
-use Rattle.std.specs.Prelude.{ℕ, Bool, ◌||◌, ◌==◌, nat_eq, nat_lt, List}
-use Rattle.std.specs.Prelude.{◌++◌, Option, Some, None, unwrap_or, cond, codes, length}
-use Rattle.std.specs.List.{ends_with, position_or_len, before_first, after_first}
+use Rattle.std.specs.Prelude.{ℕ, Bool, ◌==◌, nat_lt, List}
+use Rattle.std.specs.Prelude.{Option, Some, None, unwrap_or, cond, codes, length}
+use Rattle.std.specs.List.{position_or_len, before_first, after_first}
 use Rattle.text_uri.specs.Letters.{after}
-use Rattle.text_uri.specs.Resolving.{is_empty}
 
 -- `URI=NAME`, or a name alone
 abbrev pub is_equals : ℕ → Bool
@@ -18,10 +17,3 @@ located text = cond (has_equals text) (Some (before_first is_equals text), after
 -- without `./` at its front
 abbrev pub plain : List ℕ → List ℕ
 plain name = unwrap_or (after (codes "./") name) name
-
--- the name of a file below a folder: both, with one `/` between them where both have letters
-abbrev pub is_joint : List ℕ → List ℕ → Bool
-is_joint folder name = is_empty folder || (is_empty name || ends_with nat_eq folder (codes "/"))
-
-abbrev pub joined : List ℕ → List ℕ → List ℕ
-joined folder name = cond (is_joint folder name) (folder ++ name) (folder ++ (codes "/" ++ name))

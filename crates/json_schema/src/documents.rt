@@ -5,8 +5,7 @@ ghost use Rattle.tinyjson_schema_drafts.specs.References.{seen};
 ghost use Rattle.json_schema.specs.Meta.{document_uri, found_in, EmbedsNew, EmbedsSome, with_ways};
 
 use crate::failure::{SchemaFailure, document_failure, schema_failure};
-use crate::folder::{is_folder, json_files};
-use crate::names::{joined, located, plain};
+use crate::names::{located, plain};
 use crate::tell_unknown;
 use crate::verdict::DEPTH_LIMIT;
 use std::alloc::{AllocError, Global};
@@ -14,7 +13,7 @@ use std::fs;
 use std::os::unix::fs::MetadataExt;
 use text_uri::relative_reference;
 use tinyjson::JsonValue;
-use tinyjson_cli::{Failure, Text, read_named};
+use tinyjson_cli::{Failure, Text, is_folder, join_path, json_files, read_named};
 use tinyjson_schema_drafts::{
     Compound, Draft, embed, found_at, has_definition, with_retrieval_uri,
 };
@@ -43,7 +42,7 @@ pub fn with_documents(
 fn found_in(alloc: Global, compound: Compound, file: &str) -> Result<Compound, AllocError>
     ensures { IfOk result (λ c. seen c ≡ found_in file.now (seen compound)) }
 {
-    let uri = joined(alloc, "/", plain(file))?;
+    let uri = join_path(alloc, "/", plain(file))?;
     let tree = found_at(compound.tree, uri.as_str(), alloc)?;
     Ok(Compound {
         tree,
@@ -127,13 +126,13 @@ fn add_files(
 ) -> Result<(), Failure> {
     let alloc = rt.alloc();
     for name in &json_files(rt, folder)? {
-        let file = joined(alloc, folder, name.as_str())?;
+        let file = join_path(alloc, folder, name.as_str())?;
         if is_same(rt, schema, file.as_str()) {
             continue;
         }
         let document = match uri {
             Some(uri) => Document {
-                uri: joined(alloc, uri, name.as_str())?,
+                uri: join_path(alloc, uri, name.as_str())?,
                 file,
                 is_located: true,
             },

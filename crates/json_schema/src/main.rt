@@ -7,7 +7,6 @@ ghost use Rattle.json_schema.specs.Options.{asked_files, asked_most, asked_shows
 
 mod documents;
 mod failure;
-mod folder;
 mod lines;
 mod meta;
 mod names;

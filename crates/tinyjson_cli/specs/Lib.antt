@@ -8,3 +8,4 @@ pub mod Refusals
 pub mod Layout
 pub mod Texts
 pub mod Unanswered
+pub mod Folders

@@ -4,6 +4,7 @@
 mod answer;
 mod arguments;
 mod failure;
+mod folder;
 mod input;
 mod layout;
 mod lines;
@@ -20,6 +21,7 @@ mod unanswered;
 pub use answer::{Answer, answer_files};
 pub use arguments::{Arguments, Known, Misuse, Number, Taken, Text, read_arguments};
 pub use failure::{Failure, Message, Place};
+pub use folder::{is_folder, join_path, json_files};
 pub use input::{read_named, read_text, reading_error, writing_error};
 pub use layout::{INDENT, write_laid_out};
 pub use lines::{AnswerLines, answer_lines};

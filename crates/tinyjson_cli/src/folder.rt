@@ -1,14 +1,21 @@
 //! The files below a folder.
-ghost use Rattle.std.specs.Prelude.{string_cmp, IfErr, IfOk, IsSorted};
+ghost use Rattle.std.specs.Prelude.{◌≡◌, string_cmp, IfErr, IfOk, IsSorted};
+ghost use Rattle.std.specs.String.{string_bytes};
 ghost use Rattle.tinyjson_cli.specs.Ending.{IsOfNamed};
+ghost use Rattle.tinyjson_cli.specs.Folders.{join_path};
 
-use crate::names::joined;
+use crate::failure::Failure;
+use crate::input::reading_error;
+use crate::shown::Shown;
 use std::alloc::{AllocError, Global};
 use std::{fs, io};
-use tinyjson_cli::{Failure, Shown, reading_error};
 
 /// The names of the files `*.json` below a folder, each from there on, in their order. What begins with a dot is left out,
 /// and so are folders that symbolic links lead to. It fails with `Misused`, whose words name a folder, or `OutOfMemory`.
+///
+/// ```
+/// for name in &json_files(rt, "schemas")? { .. } // a.json, b/c.json
+/// ```
 pub fn json_files(rt: &HostRuntime, folder: &str) -> Result<Vec<String>, Failure>
     ensures order { IfOk result (λ names. IsSorted string_cmp names.items) }
     ensures err { IfErr result IsOfNamed }
@@ -19,13 +26,30 @@ pub fn json_files(rt: &HostRuntime, folder: &str) -> Result<Vec<String>, Failure
         let Some(inner) = found.folders.pop() else {
             break;
         };
-        let path = joined(alloc, folder, inner.as_str())?;
+        let path = join_path(alloc, folder, inner.as_str())?;
         if let Err(error) = found.read(rt, path.as_str(), inner.as_str()) {
             return Err(folder_failure(alloc, path.as_str(), error));
         }
     }
     found.files.sort()?;
     Ok(found.files)
+}
+
+/// The name of a file below a folder: both, with one `/` between them where both have letters. The only error is out of
+/// memory.
+///
+/// ```
+/// let path = join_path(alloc, "a/b", "c.json")?; // a/b/c.json
+/// ```
+pub fn join_path(alloc: Global, folder: &str, name: &str) -> Result<String, AllocError>
+    ensures { IfOk result (λ s. string_bytes s ≡ join_path folder.now name.now) }
+{
+    let mut path = String::from_str(alloc, folder)?;
+    if !folder.is_empty() && !name.is_empty() && !folder.as_bytes().ends_with(b"/") {
+        path.push('/')?;
+    }
+    path.push_str(name)?;
+    Ok(path)
 }
 
 /// Whether a folder has this name.
@@ -61,7 +85,7 @@ impl Found {
             if name.starts_with('.') {
                 continue;
             }
-            let inner = joined(rt.alloc(), inner, name)?;
+            let inner = join_path(rt.alloc(), inner, name)?;
             if entry.file_type()?.is_dir() {
                 self.folders.push(inner)?;
             } else if name.ends_with(".json") && may_be_text(rt, entry.path().as_str()) {
