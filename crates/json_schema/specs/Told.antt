@@ -8,6 +8,8 @@ use Rattle.tinyjson_cli.specs.Shown.{shown}
 use Rattle.tinyjson_lines.specs.declared.refusal.Cause.TheVariants as line
 use Rattle.tinyjson_schema_report.specs.declared.verdict.Cause.{Cause}
 use Rattle.tinyjson_schema_report.specs.declared.verdict.Cause.TheVariants.{NotUtf8, NotJson, TooDeep, TooMuch, TooLong}
+use Rattle.json_schema.specs.declared.unknown.Unknown.{Unknown}
+use Rattle.json_schema.specs.declared.unknown.Unknown.TheVariants.{Keyword, Format, Dialect}
 
 abbrev pub program : List ℕ
 program = codes "json_schema"
@@ -38,22 +40,15 @@ told_line file n TooDeep = told_depth file n
 told_line file n TooMuch = told_steps file n
 told_line file n (TooLong m) = refusal_line program file record { number = n; cause = line.TooLong m }
 
--- that a name in the schema is no keyword
-abbrev pub told_word : List ℕ → List ℕ
-told_word k = codes "json_schema: the schema: \"" ++ (shown k ++ (codes "\" is no keyword" ++ line_feed ∷ []))
+-- what a name in the schema is not
+abbrev pub unknown_as : Unknown → List ℕ
+unknown_as Keyword = codes "is no keyword"
+unknown_as Format = codes "is an unknown format"
+unknown_as Dialect = codes "is an unknown $schema"
 
--- that a `$schema` names no draft that is known
-abbrev pub told_dialect : List ℕ → List ℕ
-told_dialect k = codes "json_schema: the schema: \"" ++ (shown k ++ (codes "\" is an unknown $schema" ++ line_feed ∷ []))
+abbrev pub told_name : Unknown → List ℕ → List ℕ
+told_name u k = codes "json_schema: the schema: \"" ++ (shown k ++ (codes "\" " ++ (unknown_as u ++ line_feed ∷ [])))
 
-abbrev pub told_words : List (List ℕ) → List ℕ
-told_words [] = []
-told_words (k ∷ ks) = told_word k ++ told_words ks
-
--- that a name at `format` is not known
-abbrev pub told_format : List ℕ → List ℕ
-told_format k = codes "json_schema: the schema: \"" ++ (shown k ++ (codes "\" is an unknown format" ++ line_feed ∷ []))
-
-abbrev pub told_formats : List (List ℕ) → List ℕ
-told_formats [] = []
-told_formats (k ∷ ks) = told_format k ++ told_formats ks
+abbrev pub told_names : Unknown → List (List ℕ) → List ℕ
+told_names u [] = []
+told_names u (k ∷ ks) = told_name u k ++ told_names u ks

@@ -22,6 +22,7 @@ use meta::{MetaSchemas, whole_of};
 use report::{write_report, write_text};
 use std::alloc::Global;
 use std::cell::Cell;
+use std::collections::BTreeSet;
 use std::io::{self, BufRead, Write};
 use std::process::ExitCode;
 use tinyjson::JsonValue;
@@ -34,7 +35,7 @@ use tinyjson_cli::{
 use tinyjson_schema::{Schema, SchemaError, unknown_formats, unknown_words};
 use tinyjson_schema_drafts::{Compound, Draft, compound_of, draft_of, unknown_dialect};
 use tinyjson_schema_report::{Every, Located, Refusal, check_as};
-use unknown::{tell_dialect, tell_formats, tell_words};
+use unknown::{Unknown, tell_name, tell_names};
 use verdict::{DEPTH_LIMIT, Judge};
 
 /// `-l` and `--lines`.
@@ -362,7 +363,7 @@ fn tell_unknown(rt: &HostRuntime, tree: &JsonValue) -> Result<(), Failure> {
     let Some(uri) = unknown_dialect(tree) else {
         return Ok(());
     };
-    match tell_dialect(rt.alloc(), &mut rt.stderr(), uri) {
+    match tell_name(rt.alloc(), &mut rt.stderr(), uri, Unknown::Dialect) {
         Ok(()) => Ok(()),
         Err(error) => Err(writing_error(error)),
     }
@@ -390,11 +391,9 @@ fn check_by(
 ) -> Result<Status, Failure> {
     let alloc = rt.alloc();
     let schema = read_schema(alloc, tree, is_older)?;
-    if let Err(error) = tell_words(alloc, &mut rt.stderr(), &unknown_words(tree, alloc)?) {
-        return Err(writing_error(error));
-    }
+    tell_unknown_names(rt, &unknown_words(tree, alloc)?, Unknown::Keyword)?;
     if request.formats {
-        tell_unknown_formats(rt, tree)?;
+        tell_unknown_names(rt, &unknown_formats(tree, alloc)?, Unknown::Format)?;
     }
     let buffers = Buffers::new(alloc);
     let judge = Judge {
@@ -414,10 +413,13 @@ fn check_by(
     Ok(by_texts(rt, request, By::Schema(judge)))
 }
 
-/// Tells of the formats of the schema that are not known.
-fn tell_unknown_formats(rt: &HostRuntime, tree: &JsonValue) -> Result<(), Failure> {
-    let alloc = rt.alloc();
-    match tell_formats(alloc, &mut rt.stderr(), &unknown_formats(tree, alloc)?) {
+/// Tells of the names in the schema that are not known.
+fn tell_unknown_names(
+    rt: &HostRuntime,
+    names: &BTreeSet<String>,
+    unknown: Unknown,
+) -> Result<(), Failure> {
+    match tell_names(rt.alloc(), &mut rt.stderr(), names, unknown) {
         Ok(()) => Ok(()),
         Err(error) => Err(writing_error(error)),
     }
