@@ -1,51 +1,22 @@
--- The verdict on a schema by its meta-schema (JSON Schema 2020-12, Core, 8.1.1), and the URIs of documents.
+-- The failure for an unknown meta-schema, and the URIs of documents.
 use Rattle.std.specs.Prelude.{◌≡◌, ℕ, Bool, false, ◌⊎◌, List, [], ◌∷◌, ◌++◌, Option, codes, cond}
-use Rattle.std.specs.Prelude.{unwrap_or, Ok}
+use Rattle.std.specs.Prelude.{unwrap_or}
 use Rattle.std.specs.Str.{chars}
-use Rattle.tinyjson.specs.Grammar.{IsText}
 use Rattle.tinyjson.specs.Tree.{Tree}
-use Rattle.tinyjson.specs.View.{view}
-use Rattle.tinyjson.specs.declared.parser.error.JsonParseError.{JsonParseError}
 use Rattle.tinyjson_cli.specs.Folders.{join_path}
 use Rattle.tinyjson_cli.specs.Shown.{shown}
 use Rattle.tinyjson_cli.specs.declared.failure.Failure.{Failure}
 use Rattle.tinyjson_cli.specs.declared.failure.Failure.TheVariants as failure
 use Rattle.tinyjson_cli.specs.declared.status.Status.TheVariants as status
-use Rattle.tinyjson_schema.specs.Reading.{ReadsSchema, root_in}
-use Rattle.tinyjson_schema.specs.Valid.{Root}
-use Rattle.tinyjson_schema.specs.declared.schema.Schema.{Schema}
 use Rattle.tinyjson_schema_drafts.specs.Documents.{found_at, has_definition}
 use Rattle.tinyjson_schema_drafts.specs.declared.draft.Draft.{Draft}
-use Rattle.tinyjson_schema_drafts.specs.References.{HasMetaSchemas, Seen, embed, meta_schema_of, referring}
+use Rattle.tinyjson_schema_drafts.specs.References.{Seen, embed}
 use Rattle.tinyjson_schema_drafts.specs.Retrieval.{with_retrieval_uri}
-use Rattle.tinyjson_schema_report.specs.Verdicts.{TextGivesAs}
 use Rattle.json_schema.specs.Failures.{Is}
 use Rattle.text_uri.specs.Relative.{relative_reference}
 use Rattle.json_schema.specs.Names.{plain}
-use Rattle.tinyjson_schema_report.specs.Verdicts.{IsNoText, depth_limit}
-use Rattle.tinyjson_schema_report.specs.declared.verdict.every.Every.{Every}
-use Rattle.tinyjson_schema_report.specs.declared.verdict.every.Every.TheVariants.{Refused}
-use Rattle.json_schema.specs.declared.meta.MetaSchemas.{MetaSchemas}
-use Rattle.tinyjson_schema_report.specs.declared.verdict.Cause.TheVariants as cause
 
--- ---- schemas by their meta-schemas
-
-abbrev pub judged_by : MetaSchemas → Schema → Root
-judged_by m s = root_in s m.formats
-
--- what the text xs violates of the schema r
-abbrev pub WholeGives : MetaSchemas → Seen → List ℕ → Every → Type 0
-WholeGives m r xs v = (s : Schema) × ReadsSchema r.0 (Ok s) × TextGivesAs m.most (judged_by m s) xs v
-
--- what it violates of the meta-schema with the URI u: of a schema that refers to it, with all that references lead into
-abbrev pub GivesBy : MetaSchemas → List ℕ → List ℕ → Every → Type 0
-GivesBy m u xs v =
-    (r : Seen) × HasMetaSchemas (referring u (view m.documents.tree), m.documents.is_older) r × WholeGives m r xs v
-
--- the text is JSON, and this is what it violates of the meta-schema that its `$schema` names; or it is no JSON
-abbrev pub SchemaGives : MetaSchemas → List ℕ → Every → Type 0
-SchemaGives m xs v = ((t : Tree) × IsText depth_limit xs t × GivesBy m (meta_schema_of m.draft t) xs v)
-    ⊎ ((e : JsonParseError) × IsNoText xs e × (v ≡ Refused (cause.NotJson e)))
+-- ---- failures
 
 -- Status 3 and the message for a `$schema` that is not known; or out of memory.
 abbrev pub TellsUnknown : List ℕ → Failure → Type 0

@@ -18,7 +18,7 @@ mod verdict;
 use documents::with_documents;
 use failure::{SchemaFailure, refused_failure, schema_failure, schema_text_failure, text_failure};
 use lines::{Check, Shows, check_lines};
-use meta::{MetaSchemas, whole_of};
+use meta::{meta_failure, meta_schemas, whole_of};
 use report::{write_report, write_text};
 use std::alloc::Global;
 use std::cell::Cell;
@@ -34,7 +34,7 @@ use tinyjson_cli::{
 };
 use tinyjson_schema::{Schema, SchemaError, unknown_formats, unknown_words};
 use tinyjson_schema_drafts::{Compound, Draft, compound_of, draft_of, unknown_dialect};
-use tinyjson_schema_report::{Every, Located, Refusal, check_as};
+use tinyjson_schema_report::{Every, Located, MetaSchemas, Refusal, check_as};
 use unknown::{Unknown, tell_name, tell_names};
 use verdict::{DEPTH_LIMIT, Judge};
 
@@ -315,7 +315,7 @@ fn check_schemas(
     if request.by_lines {
         return Err(schema_failure(rt.alloc(), &SchemaFailure::MetaLines));
     }
-    let checks = MetaSchemas::new(
+    let checks = meta_schemas(
         rt,
         default,
         request.formats,
@@ -509,7 +509,10 @@ impl Answer for AskedText<'_, '_, '_> {
         self.is_read.set(true);
         let every = match self.by {
             By::Schema(judge) => check_as(alloc, judge, text, self.most)?,
-            By::MetaSchemas(checks) => checks.check(alloc, text)?,
+            By::MetaSchemas(checks) => match checks.check(alloc, text) {
+                Ok(every) => every,
+                Err(error) => return Err(meta_failure(alloc, error)),
+            },
         };
         let found = match every {
             Every::Refused(cause) => return Err(text_failure(alloc, cause)),

@@ -1,6 +1,7 @@
 //! Compound documents: a schema with further documents embedded.
-ghost use Rattle.std.specs.Prelude.{◌≡◌, ◌||◌, map, IfErr, IfOk};
+ghost use Rattle.std.specs.Prelude.{◌≡◌, ◌||◌, false, map, IfErr, IfOk};
 ghost use Rattle.std.specs.Option.{option_map_or};
+ghost use Rattle.tinyjson.specs.Tree.{object, no_members};
 ghost use Rattle.tinyjson.specs.View.{view};
 ghost use Rattle.tinyjson_schema_drafts.specs.Documents.{string_of};
 ghost use Rattle.tinyjson_schema_drafts.specs.Meta.{published};
@@ -16,6 +17,7 @@ use crate::meta::MetaSchema;
 use crate::read::read_as;
 use crate::wanted::wanted;
 use std::alloc::{AllocError, Global};
+use std::collections::HashMap;
 use tinyjson::{JsonParseError, JsonValue};
 use tinyjson_pointer::put_member;
 use tinyjson_schema_bundle::{bundle_of, bundled};
@@ -61,6 +63,16 @@ pub fn compound_of(schema: JsonValue, default: Draft, alloc: Global) -> Result<C
     let is_older = is_older(draft_of(&schema, default));
     let tree = read_as(schema, default, alloc)?;
     Ok(Compound { tree, is_older })
+}
+
+/// A schema without keywords, and without documents.
+pub fn empty_compound(alloc: Global) -> Compound
+    ensures { seen result ≡ (object no_members, false) }
+{
+    Compound {
+        tree: JsonValue::Object(HashMap::new(alloc)),
+        is_older: false,
+    }
 }
 
 /// The schema as a document of one resource in the words of 2020-12, without meta-schemas: as [`read_as`] returns it, and

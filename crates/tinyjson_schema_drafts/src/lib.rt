@@ -24,7 +24,8 @@ mod translate;
 mod wanted;
 
 pub use compound::{
-    Compound, EmbedError, compound_of, embed, referring, resource_of, with_meta_schemas,
+    Compound, EmbedError, compound_of, embed, empty_compound, referring, resource_of,
+    with_meta_schemas,
 };
 pub use dialect::{draft_of, is_older, meta_schema_of, uri_of};
 pub use document::{base_of, found_at, has_definition, with_document};

@@ -17,3 +17,5 @@ pub mod Report
 pub mod Located
 -- The verdict on a text.
 pub mod Verdicts
+-- The verdict on a schema.
+pub mod Meta

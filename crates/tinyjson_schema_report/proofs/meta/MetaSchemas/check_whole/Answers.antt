@@ -2,8 +2,8 @@ use Rattle.std.proofs.Common.{chars}
 use Rattle.std.proofs.lemmas.Result.{IfOk-weaker}
 use Rattle.tinyjson_schema_drafts.specs.References.{seen}
 use Rattle.tinyjson_schema_report.specs.Verdicts.{TextGivesAs}
-use Rattle.json_schema.specs.Meta.{WholeGives, judged_by}
-use Rattle.json_schema.proofs.meta.MetaSchemas.check_whole.Goals as goal
+use Rattle.tinyjson_schema_report.specs.Meta.{WholeGives, judged_by}
+use Rattle.tinyjson_schema_report.proofs.meta.MetaSchemas.check_whole.Goals as goal
 
 pub returns-in-Ok : goal.returns-in-Ok
 returns-in-Ok c =

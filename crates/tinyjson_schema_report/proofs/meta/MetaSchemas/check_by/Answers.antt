@@ -1,8 +1,8 @@
 use Rattle.std.proofs.Common.{ap, chars, subst}
 use Rattle.std.proofs.lemmas.Result.{IfOk-weaker}
 use Rattle.tinyjson_schema_drafts.specs.References.{HasMetaSchemas, seen}
-use Rattle.json_schema.specs.Meta.{GivesBy, WholeGives}
-use Rattle.json_schema.proofs.meta.MetaSchemas.check_by.Goals as goal
+use Rattle.tinyjson_schema_report.specs.Meta.{GivesBy, WholeGives}
+use Rattle.tinyjson_schema_report.proofs.meta.MetaSchemas.check_by.Goals as goal
 
 pub returns : goal.returns
 returns c =

@@ -3,8 +3,8 @@ use Rattle.std.proofs.lemmas.Bool.{false≢true}
 use Rattle.std.proofs.lemmas.Result.{IfOk-weaker}
 use Rattle.tinyjson.specs.View.{view}
 use Rattle.tinyjson_schema_drafts.specs.References.{meta_schema_of}
-use Rattle.json_schema.specs.Meta.{GivesBy, SchemaGives}
-use Rattle.json_schema.proofs.meta.MetaSchemas.check.Goals as goal
+use Rattle.tinyjson_schema_report.specs.Meta.{GivesBy, SchemaGives}
+use Rattle.tinyjson_schema_report.proofs.meta.MetaSchemas.check.Goals as goal
 
 pub returns-in-Ok : goal.returns-in-Ok
 returns-in-Ok c =

@@ -1,7 +1,7 @@
 use Rattle.std.proofs.Common.{◌∙◌, chars, subst}
 use Rattle.std.specs.Prelude.{IfOk}
-use Rattle.json_schema.specs.Meta.{GivesBy}
-use Rattle.json_schema.proofs.meta.MetaSchemas.check_schema.Goals as goal
+use Rattle.tinyjson_schema_report.specs.Meta.{GivesBy}
+use Rattle.tinyjson_schema_report.proofs.meta.MetaSchemas.check_schema.Goals as goal
 
 pub returns : goal.returns
 returns c =
