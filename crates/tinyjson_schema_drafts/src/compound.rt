@@ -3,7 +3,6 @@ ghost use Rattle.std.specs.Prelude.{◌≡◌, ◌||◌, false, map, IfErr, IfOk
 ghost use Rattle.std.specs.Option.{option_map_or};
 ghost use Rattle.tinyjson.specs.Tree.{object, no_members};
 ghost use Rattle.tinyjson.specs.View.{view};
-ghost use Rattle.tinyjson_schema_drafts.specs.Documents.{string_of};
 ghost use Rattle.tinyjson_schema_drafts.specs.Meta.{published};
 ghost use Rattle.tinyjson_schema_drafts.specs.References.{compound_of, draft_of, is_older, embed, seen};
 ghost use Rattle.tinyjson_schema_drafts.specs.References.{referring, with_reference};
@@ -11,7 +10,7 @@ ghost use Rattle.tinyjson_schema_drafts.specs.References.{EmbedsOne, EmbedsAll, 
 ghost use Rattle.tinyjson_schema_drafts.specs.References.{IsCause, IsResourceOf};
 
 use crate::dialect::{draft_of, is_older};
-use crate::document::with_document;
+use crate::document::{string_of, with_document};
 use crate::draft::Draft;
 use crate::meta::MetaSchema;
 use crate::read::read_as;
@@ -226,13 +225,6 @@ pub fn referring(schema: &JsonValue, uri: &str, alloc: Global) -> Result<JsonVal
     let reference = string_of(uri, alloc)?;
     let copy = schema.try_clone(alloc)?;
     with_reference(copy, reference, alloc)
-}
-
-fn string_of(text: &str, alloc: Global) -> Result<JsonValue, AllocError>
-    ensures { IfOk result (λ v. view v ≡ string_of text.now) }
-{
-    let text = String::from_str(alloc, text)?;
-    Ok(JsonValue::String(text))
 }
 
 /// The object with this `$ref`; any other value stays.

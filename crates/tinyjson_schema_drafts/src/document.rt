@@ -5,7 +5,7 @@ ghost use Rattle.tinyjson.specs.View.{view};
 ghost use Rattle.tinyjson_schema_drafts.specs.Documents.{with_document, found_at, base_of, id_found};
 ghost use Rattle.tinyjson_schema_drafts.specs.Documents.{with_member, as_object};
 ghost use Rattle.tinyjson_schema_drafts.specs.Documents.{or_empty, definitions, without_definitions};
-ghost use Rattle.tinyjson_schema_drafts.specs.Documents.{has_definition};
+ghost use Rattle.tinyjson_schema_drafts.specs.Documents.{has_definition, string_of};
 
 use std::alloc::{AllocError, Global};
 use std::collections::HashMap;
@@ -135,6 +135,14 @@ fn or_empty(value: Option<JsonValue>, alloc: Global) -> JsonValue
         Some(value) => value,
         None => JsonValue::Object(HashMap::new(alloc)),
     }
+}
+
+/// The value that is this string.
+pub fn string_of(text: &str, alloc: Global) -> Result<JsonValue, AllocError>
+    ensures { IfOk result (λ v. view v ≡ string_of text.now) }
+{
+    let text = String::from_str(alloc, text)?;
+    Ok(JsonValue::String(text))
 }
 
 /// The object with this member; any other value stays.

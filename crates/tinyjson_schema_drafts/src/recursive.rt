@@ -1,11 +1,10 @@
 //! Recursive references of 2019-09 as dynamic ones.
 ghost use Rattle.std.specs.Prelude.{◌≡◌, IfOk};
-ghost use Rattle.std.specs.Str.{chars};
-ghost use Rattle.tinyjson.specs.Tree.{string};
 ghost use Rattle.tinyjson.specs.View.{view};
 ghost use Rattle.tinyjson_schema_drafts.specs.Recursion.{recursive_in_words, anchor_in_words};
 ghost use Rattle.tinyjson_schema_drafts.specs.Recursion.{is_marked, is_root_reference};
 
+use crate::document::string_of;
 use crate::rule::is_true;
 use std::alloc::{AllocError, Global};
 use tinyjson::JsonValue;
@@ -29,13 +28,6 @@ pub fn recursive_in_words(
     } else {
         reference.try_clone(alloc)
     }
-}
-
-fn string_of(word: &str, alloc: Global) -> Result<JsonValue, AllocError>
-    ensures { IfOk result (λ v. view v ≡ string (chars word.now)) }
-{
-    let text = String::from_str(alloc, word)?;
-    Ok(JsonValue::String(text))
 }
 
 fn is_root_reference(reference: &JsonValue) -> bool
