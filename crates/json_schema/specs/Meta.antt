@@ -1,6 +1,6 @@
 -- The failure for an unknown meta-schema, and the URIs of documents.
 use Rattle.std.specs.Prelude.{◌≡◌, ℕ, Bool, false, ◌⊎◌, List, [], ◌∷◌, ◌++◌, Option, codes, cond}
-use Rattle.std.specs.Prelude.{unwrap_or}
+use Rattle.std.specs.Prelude.{string_bytes, unwrap_or}
 use Rattle.std.specs.Str.{chars}
 use Rattle.tinyjson.specs.Tree.{Tree}
 use Rattle.tinyjson_cli.specs.Folders.{join_path}
@@ -12,7 +12,10 @@ use Rattle.tinyjson_schema_drafts.specs.Documents.{found_at, has_definition}
 use Rattle.tinyjson_schema_drafts.specs.declared.draft.Draft.{Draft}
 use Rattle.tinyjson_schema_drafts.specs.References.{Seen, embed}
 use Rattle.tinyjson_schema_drafts.specs.Retrieval.{with_retrieval_uri}
-use Rattle.json_schema.specs.Failures.{Is}
+use Rattle.tinyjson_schema_report.specs.declared.meta.MetaError.{MetaError}
+use Rattle.tinyjson_schema_report.specs.declared.meta.MetaError.TheVariants as meta
+use Rattle.json_schema.specs.Failures.{Is, TellsEmbed, TellsSchema}
+use Rattle.json_schema.specs.declared.failure.SchemaFailure.TheVariants as is
 use Rattle.text_uri.specs.Relative.{relative_reference}
 use Rattle.json_schema.specs.Names.{plain}
 
@@ -21,6 +24,13 @@ use Rattle.json_schema.specs.Names.{plain}
 -- Status 3 and the message for a `$schema` that is not known; or out of memory.
 abbrev pub TellsUnknown : List ℕ → Failure → Type 0
 TellsUnknown u f = Is status.Refused (codes "\"" ++ (shown (chars u) ++ codes "\" is an unknown $schema")) f ⊎ (f ≡ failure.OutOfMemory)
+
+-- The failure of a check by a meta-schema.
+abbrev pub FailsMeta : MetaError → Failure → Type 0
+FailsMeta (meta.Unknown u) f = TellsUnknown (string_bytes u) f
+FailsMeta (meta.Refused place words) f = TellsSchema (is.Refused place words) f
+FailsMeta (meta.Embed e) f = TellsEmbed e f
+FailsMeta meta.OutOfMemory f = f ≡ failure.OutOfMemory
 
 -- ---- the URIs of documents
 

@@ -2,7 +2,7 @@
 ghost use Rattle.std.specs.Prelude.{◌≡◌, [], false, IfOk};
 ghost use Rattle.tinyjson.specs.Tree.{object, no_members};
 ghost use Rattle.tinyjson_schema_drafts.specs.References.{seen, HasMetaSchemas};
-ghost use Rattle.json_schema.specs.Meta.{TellsUnknown};
+ghost use Rattle.json_schema.specs.Meta.{FailsMeta, TellsUnknown};
 
 use crate::documents::with_documents;
 use crate::failure::{SchemaFailure, embed_failure, schema_failure};
@@ -55,7 +55,9 @@ pub fn meta_schemas(
 }
 
 /// The failure of a check by a meta-schema.
-pub fn meta_failure(alloc: Global, error: MetaError) -> Failure {
+pub fn meta_failure(alloc: Global, error: MetaError) -> Failure
+    ensures { FailsMeta error result }
+{
     match error {
         MetaError::Unknown(uri) => unknown_failure(alloc, uri.as_str()),
         MetaError::Refused { place, words } => {
