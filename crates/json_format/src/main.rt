@@ -9,10 +9,9 @@ use options::{CHECK, INDENT, TABS, indent};
 use std::io::{self, Write};
 use std::process::ExitCode;
 use tinyjson_cli::{
-    Failure, HELP, Program, Shown, Status, VERSION, argument_words, arguments_of, read_text,
-    report, writing_error,
+    Failure, HELP, Program, Shown, Status, VERSION, argument_words, arguments_of, is_last,
+    read_text, replace, report, writing_error,
 };
-use tinyjson_in_place::{is_last, replace};
 
 const PROGRAM: Program<'static> = Program {
     name: "json_format",

@@ -12,10 +12,9 @@ use reading::read_patches;
 use std::process::ExitCode;
 use tinyjson_buffers::Buffers;
 use tinyjson_cli::{
-    HELP, INDENT, LINES, MAX_LINE, Misuse, Program, Status, VERSION, answer_texts, argument_words,
-    arguments_of, misused, report,
+    HELP, IN_PLACE, INDENT, LINES, MAX_LINE, Misuse, Program, Status, VERSION, answer_in_place,
+    answer_texts, argument_words, arguments_of, misused, report,
 };
-use tinyjson_in_place::{IN_PLACE, answer_in_place};
 
 const PROGRAM: Program<'static> = Program {
     name: "json_merge",

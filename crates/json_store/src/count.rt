@@ -1,15 +1,15 @@
 //! Counts the values of lines.
 ghost use Rattle.std.specs.Prelude.{◌≡◌};
 ghost use Rattle.tinyjson.specs.Tree.{Tree};
-ghost use Rattle.tinyjson_store.specs.Store.{count_of};
+ghost use Rattle.json_store.specs.Store.{count_of};
 
+use crate::store::Store;
 use std::alloc::Global;
 use std::io::{self, BufRead, ErrorKind, Write};
 use std::str;
 use tinyjson_cli::{AnswerLines, RefusedLine, Status, tell};
 use tinyjson_lines::{Cause, LineRead, Refusal, content, read_line_within, write_all};
 use tinyjson_normal::NormalReader;
-use tinyjson_store::Store;
 
 /// How often each value was counted.
 #[derive(Drop)]

@@ -2,6 +2,7 @@
 #![tactic(auto)]
 
 mod count;
+mod store;
 
 use count::Counter;
 use std::process::ExitCode;

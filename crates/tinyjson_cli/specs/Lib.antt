@@ -9,3 +9,4 @@ pub mod Layout
 pub mod Texts
 pub mod Unanswered
 pub mod Folders
+pub mod Changing

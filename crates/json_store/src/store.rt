@@ -2,7 +2,7 @@
 ghost use Rattle.std.specs.Prelude.{◌≡◌, IfOk, OnOk, OnErr};
 ghost use Rattle.tinyjson.specs.Tree.{Tree};
 ghost use Rattle.tinyjson_normal.specs.Normal.{HasTree};
-ghost use Rattle.tinyjson_store.specs.Store.{count_of, CountsOnce, CountsTheSame};
+ghost use Rattle.json_store.specs.Store.{count_of, CountsOnce, CountsTheSame};
 
 use std::alloc::{AllocError, Global};
 use std::collections::HashMap;

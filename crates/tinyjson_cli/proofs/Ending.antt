@@ -4,7 +4,7 @@ use Rattle.tinyjson_cli.specs.Failures.{failure_status, status_code}
 use Rattle.tinyjson_cli.specs.declared.failure.Failure.{Failure}
 use Rattle.tinyjson_cli.specs.declared.status.Status.{Status}
 use Rattle.tinyjson_cli.specs.declared.status.Status.TheVariants.{Done, No, Misused, Refused, Failed}
-use Rattle.tinyjson_in_place.specs.Changing.{IsOfFiles}
+use Rattle.tinyjson_cli.specs.Changing.{IsOfFiles}
 
 no_misuse : (a b : Status) → IsOfFiles a → IsOfFiles b → ¬ (2 ≡ max (status_code a) (status_code b))
 no_misuse Misused b h k e = h

@@ -5,15 +5,17 @@ ghost use Rattle.std.specs.Str.{chars};
 ghost use Rattle.tinyjson_cli.specs.Ending.{IsOfArguments};
 ghost use Rattle.tinyjson_cli.specs.Failures.{failure_status};
 ghost use Rattle.tinyjson_cli.specs.declared.status.Status.{Status};
-ghost use Rattle.tinyjson_in_place.specs.Changing.{IsOfFiles, IsUnanswered, is_last};
+ghost use Rattle.tinyjson_cli.specs.Changing.{IsOfFiles, IsUnanswered, is_last};
 
-use crate::file::replace;
+use crate::arguments::{Known, Misuse};
+use crate::failure::Failure;
+use crate::input::{read_text, writing_error};
+use crate::program::{Program, misused, report};
+use crate::replacement::replace;
+use crate::status::Status;
+use crate::texts::{TextAnswer, Texts, unanswered_failure};
 use std::alloc::Global;
 use std::io::{self, Write};
-use tinyjson_cli::{
-    Failure, Known, Misuse, Program, Status, TextAnswer, Texts, misused, read_text, report,
-    unanswered_failure, writing_error,
-};
 
 /// `-I` and `--in-place`.
 pub const IN_PLACE: Known<'static> = Known {

@@ -2,9 +2,9 @@ use Rattle.std.proofs.Common.{◌≡◌, ap, cond, ◌∙◌}
 use Rattle.std.specs.HashMap.{get_by_text}
 use Rattle.std.specs.Option.{unwrap_or}
 use Rattle.tinyjson.specs.Equality.{tree_eq}
-use Rattle.tinyjson_store.specs.Store.{key_of, count_of, next_count}
-use Rattle.tinyjson_store.proofs.Counting.{bytes_key, counted}
-use Rattle.tinyjson_store.proofs.store.Store.add.Goals as goal
+use Rattle.json_store.specs.Store.{key_of, count_of, next_count}
+use Rattle.json_store.proofs.Counting.{bytes_key, counted}
+use Rattle.json_store.proofs.store.Store.add.Goals as goal
 
 pub returns-clause-ok : goal.returns-clause-ok
 returns-clause-ok c = λ t h. λ i u j.

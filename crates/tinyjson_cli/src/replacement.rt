@@ -3,10 +3,11 @@ ghost use Rattle.std.specs.Prelude.{◌≡◌, IfErr};
 ghost use Rattle.tinyjson_cli.specs.Failures.{failure_status};
 ghost use Rattle.tinyjson_cli.specs.declared.status.Status.{Status};
 
+use crate::failure::Failure;
+use crate::shown::Shown;
 use std::alloc::Global;
 use std::fs::{self, OpenOptions};
 use std::io::{self, ErrorKind, Write};
-use tinyjson_cli::{Failure, Shown};
 
 /// Gives a file these bytes as its content. They are written to a file beside it, with its permissions, which then takes
 /// its name: so the file has its old content or the new one, also where the program is killed. The name of that file is

@@ -6,7 +6,7 @@ use Rattle.tinyjson.specs.Equality.{tree_eq}
 use Rattle.tinyjson.specs.Soundness.{IsTree}
 use Rattle.tinyjson.specs.Text.{compact}
 use Rattle.tinyjson.specs.Tree.{Tree}
-use Rattle.tinyjson_store.specs.declared.store.Store.{Store}
+use Rattle.json_store.specs.declared.store.Store.{Store}
 
 -- the bytes of a value's key in the store
 abbrev pub key_of : Tree → List ℕ

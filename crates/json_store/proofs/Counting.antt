@@ -14,7 +14,7 @@ use Rattle.tinyjson.specs.Equality.{tree_eq, tree_eq_Decides}
 use Rattle.tinyjson.specs.Soundness.{IsTree}
 use Rattle.tinyjson.specs.Text.{compact}
 use Rattle.tinyjson.specs.Tree.{Tree}
-use Rattle.tinyjson_store.specs.Store.{key_of}
+use Rattle.json_store.specs.Store.{key_of}
 
 -- a string with the characters of the compact text has its bytes
 pub bytes_key : (s : String Global) (t : Tree) → chars (string_bytes s) ≡ compact t → string_bytes s ≡ key_of t

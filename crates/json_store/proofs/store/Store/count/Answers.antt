@@ -1,9 +1,9 @@
 use Rattle.std.proofs.Common.{◌≡◌, ap, ◌∙◌}
 use Rattle.std.specs.HashMap.{get_by_text}
 use Rattle.std.specs.Option.{unwrap_or}
-use Rattle.tinyjson_store.specs.Store.{key_of}
-use Rattle.tinyjson_store.proofs.Counting.{bytes_key}
-use Rattle.tinyjson_store.proofs.store.Store.count.Goals as goal
+use Rattle.json_store.specs.Store.{key_of}
+use Rattle.json_store.proofs.Counting.{bytes_key}
+use Rattle.json_store.proofs.store.Store.count.Goals as goal
 
 pub returns : goal.returns
 returns c = λ t h.
