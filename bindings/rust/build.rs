@@ -1,4 +1,4 @@
-//! Links with libtinyjson.a, which `tools/bindings` builds.
+//! Links with libtinyjson.a, which `tests/bindings` builds.
 use std::env;
 use std::path::PathBuf;
 

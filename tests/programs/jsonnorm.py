@@ -1,6 +1,6 @@
 """Rows of `jsonnorm`: the normal form of a text.
 
-Answers of the original crate are replayed from crate-answers.json, which `tools/beside-the-crate` wrote.
+Answers of the original crate are replayed from crate-answers.json, which `tests/beside-the-crate` wrote.
 """
 
 import errno

@@ -1,4 +1,4 @@
-"""The rows that tools/bindings writes, by the calls of the module."""
+"""The rows that tests/bindings writes, by the calls of the module."""
 
 import doctest
 import os

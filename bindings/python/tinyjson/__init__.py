@@ -163,7 +163,7 @@ class _Place(ctypes.Structure):
 
 
 def _library() -> ctypes.CDLL:
-    """The shared library: the one that TINYJSON_LIBRARY names, the package's own, or what tools/bindings built."""
+    """The shared library: the one that TINYJSON_LIBRARY names, the package's own, or what tests/bindings built."""
     here = pathlib.Path(__file__).resolve().parent
     places = [here / "libtinyjson.so", here.parents[1] / "out" / "libtinyjson.so"]
     named = os.environ.get("TINYJSON_LIBRARY")

@@ -1,4 +1,4 @@
-//! The rows that `tools/bindings` writes, by the calls of this crate.
+//! The rows that `tests/bindings` writes, by the calls of this crate.
 use std::thread;
 
 use tinyjson_proved::{
