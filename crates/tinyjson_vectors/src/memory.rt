@@ -14,46 +14,34 @@ use tinyjson::{
     JsonParseErrorKind as Kind, JsonParseResult, JsonParser, JsonValue, check, insert_member,
 };
 
-/// The first example of RFC 8259, section 13.
+/// The first example of the crate's documentation.
 const DOCUMENT: &str = r#"
     {
-      "Image": {
-          "Width":  800,
-          "Height": 600,
-          "Title":  "View from 15th Floor",
-          "Thumbnail": {
-              "Url":    "http://www.example.com/image/481989943",
-              "Height": 125,
-              "Width":  100
-          },
-          "Animated" : false,
-          "IDs": [116, 943, 234, 38793]
-        }
+        "bool": true,
+        "arr": [1, null, "test"],
+        "nested": {
+            "blah": false,
+            "blahblah": 3.14
+        },
+        "unicode": "\u2764"
     }
 "#;
 
-const COMPACT: &str = "{\"Image\":{\"Animated\":false,\"Height\":600,\"IDs\":[116,943,234,38793],\
-    \"Thumbnail\":{\"Height\":125,\"Url\":\"http://www.example.com/image/481989943\",\"Width\":100},\
-    \"Title\":\"View from 15th Floor\",\"Width\":800}}";
+const COMPACT: &str = "{\"arr\":[1,null,\"test\"],\"bool\":true,\
+    \"nested\":{\"blah\":false,\"blahblah\":3.14},\"unicode\":\"\u{2764}\"}";
 
 const INDENTED: &str = "{
-  \"Image\": {
-    \"Animated\": false,
-    \"Height\": 600,
-    \"IDs\": [
-      116,
-      943,
-      234,
-      38793
-    ],
-    \"Thumbnail\": {
-      \"Height\": 125,
-      \"Url\": \"http://www.example.com/image/481989943\",
-      \"Width\": 100
-    },
-    \"Title\": \"View from 15th Floor\",
-    \"Width\": 800
-  }
+  \"arr\": [
+    1,
+    null,
+    \"test\"
+  ],
+  \"bool\": true,
+  \"nested\": {
+    \"blah\": false,
+    \"blahblah\": 3.14
+  },
+  \"unicode\": \"\u{2764}\"
 }";
 
 const TEXTS: &[(&str, Answer)] = &[
