@@ -79,7 +79,7 @@ def check_rows(checks):
 
 
 def check_padded(checks):
-    """The same with 40 members more in each object, and 40 items in each array."""
+    """The same with more members in each object, and more items in each array."""
     rows = [(row, *row) for row in (*SETTINGS, *CLEAN) if row[2][0] != 2]
     for row, (given, expected) in padded_rows(checks, "example_settings", rows, padded_settings, UNPADDED):
         name = f"example_settings: padded {row[0]} {row[1][:60]}"

@@ -184,7 +184,7 @@ def check_rows(checks):
 
 
 def check_padded(checks):
-    """The same lines with 40 members more in each object, and 40 items in each array."""
+    """The same lines with more members in each object, and more items in each array."""
     rows = [(row, [], *row) for row in LINES] + [(row, *row) for row in (*ALL_LINES, *CLEAN) if row[2][0] != 2]
     pad = lambda words, given, expected: (words, *padded_lines(given, expected, is_limited=any("d" in word for word in words)))
     for row, (words, given, expected) in padded_rows(checks, "json_lines", rows, pad, UNPADDED):

@@ -180,7 +180,7 @@ def check_lines(checks):
 
 
 def check_padded(checks):
-    """The rows of a value and its result with 40 members more in each object, also of the patch, and 40 items in each array."""
+    """The rows of a value and its result with more members in each object, also of the patch, and more items in each array."""
     rows = [(row, *(it.encode() for it in row)) for row in MERGED]
     rows += [(row, given, patch, expected[1][:-1]) for row in LONG_MERGES for given, patch, expected in [row] if expected[0] == 0]
     for row, (given, patch, result) in padded_rows(checks, "json_merge", rows, padded_merge, UNPADDED):

@@ -213,7 +213,7 @@ def check_groups(checks):
 
 
 def check_padded(checks):
-    """The same with 40 members more in each object, and 40 items in each array, under 40 levels."""
+    """The same with more members in each object, and more items in each array, under many levels."""
     rows = [(row, pointer, TEXT, printed(normal(part))) for row in POINTERS for pointer, part in [row]]
     rows += [(row, pointer, TEXT, row[1]) for row in NO_POINTER for pointer in row[0]]
     rows += [(row, words[0], *rest) for row in ROWS for words, *rest in [row] if rest[-1][0] != 2 or words not in ([], [NOT_UTF8])]

@@ -674,7 +674,7 @@ def check_copies(checks):
 
 
 def check_padded(checks):
-    """The same with 40 members more in each object, 40 items in each array where none is named from its end, and 40 operations
+    """The same with more members in each object, more items in each array where none is named from its end, and more operations
     before and after the others."""
     rows = [(row, *(it.encode() for it in row)) for row in APPLIED + LONG_APPLIED]
     for row, (given, operations, result) in padded_rows(checks, "json_patch", rows, padded_patch, UNPADDED):

@@ -925,7 +925,7 @@ def selections():
 
 
 def check_padded(checks):
-    """The same of values with 40 members more in each object, and 40 items in each array, under 40 levels."""
+    """The same of values with more members in each object, and more items in each array, under many levels."""
     for row, (document, query, *both) in padded_rows(checks, "json_path", selections(), padded_selection, {}):
         for words, lines in zip(([query], ["-p", query]), both):
             name = f"json_path: padded {row[0]} {words[0][:2]}"

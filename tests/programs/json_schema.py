@@ -1994,8 +1994,8 @@ def check_documents(checks):
 
 
 def check_padded(checks):
-    """The same with 40 schemas more in each list, 40 names in each object of them, 40 members in each object that no pattern asks of,
-    and 40 items in each array whose items no schema judges. The values of a schema are the lines of one input."""
+    """The same with more schemas in each list, more names in each object of them, more members in each object that no pattern asks of,
+    and more items in each array whose items no schema judges. The values of a schema are the lines of one input."""
     rows = KEYWORDS + REFERENCES + ANCHORS + RESOURCES + DYNAMIC
     rows = [(row, schema, [*valid, *(value for value, *_ in others)]) for row in rows for schema, valid, others in [row]]
     for row, (schema, values) in padded_rows(checks, "json_schema", rows, padded_values, {}):

@@ -70,7 +70,7 @@ def check_rows(checks):
 
 
 def check_padded(checks):
-    """The same lines with 40 members more in each object, and 40 items in each array."""
+    """The same lines with more members in each object, and more items in each array."""
     rows = [(row, *row) for row in (*LINES, *CLEAN)]
     pad = lambda given, expected: padded_lines(given, expected, prefix=rb"\d+ ")
     for row, (given, expected) in padded_rows(checks, "json_store", rows, pad, UNPADDED):

@@ -302,7 +302,7 @@ def check_streams(checks):
 
 
 def check_padded_indented(checks):
-    """Indented texts with 40 members more in each object, and 40 items in each array."""
+    """Indented texts with more members in each object, and more items in each array."""
     for row in texts.INDENTED:
         tree = padded(tree_of(row[0]))
         given, lines = row[0].replace("\n", " "), texts.laid_out(normal(tree).decode())

@@ -3,7 +3,7 @@
 import json
 import re
 
-from padding import COUNT, STEPS, WORDS, Members, Unpadded, deep, in_order, normal, padded, text_of, tree_of
+from padding import COUNT, STEPS, WORDS, Members, Unpadded, deep, normal, padded, tree_of
 from padded_schemas import padded_classes
 
 # Selectors, and segments of them: names, wildcards, indices and slices.
@@ -18,7 +18,7 @@ TEST = rf"(?:@\.{NAME}(?:\s*(?:==|<=?|>=?)\s*{LITERAL})?|(?:match|search)\(@\.{N
 FILTER = re.compile(rf"(?:\.\.)?\[\?\s*\(?{TEST}(?:\s*(?:&&|\|\|)\s*{TEST})*\)?\]")
 BY_NAME = re.compile(rf"\.\.?{NAME}")
 
-# The beginning of a query of a value under 40 levels, also as a normalized path.
+# The beginning of a query of a value under many levels, also as a normalized path.
 BELOW = "".join(f"[{step!r}]" for step in STEPS)
 
 # How a name stands in a normalized path (RFC 9535, 2.7).
@@ -109,7 +109,7 @@ def shown_nodes(nodes):
 
 
 def moved(query):
-    """A query of the same part under 40 levels: each `$` outside of strings stands for it."""
+    """A query of the same part under many levels: each `$` outside of strings stands for it."""
     pieces = re.split(rf"((?:'(?:[^'\\]|\\.)*'|\"(?:[^\"\\]|\\.)*\"))", query)
     pieces[::2] = (piece.replace("$", "$" + BELOW) for piece in pieces[::2])
     if re.search(r"match|search", query):
@@ -145,12 +145,12 @@ def padded_selection(document, query, values, paths):
         segments = segments_of(query)
     except Unpadded:
         if is_by_names(query):
-            return text_of(deep(padded(tree))), moved(query), [normal(padded(tree_of(value))) for value in values], below(paths)
-        return text_of(deep(tree)), moved(query), values, below(paths)
+            return deep(padded(tree)), moved(query), [normal(padded(tree_of(value))) for value in values], below(paths)
+        return deep(tree), moved(query), values, below(paths)
     if shown_nodes(selected(tree, segments)) != (values, paths):
         raise Unpadded("numbers that are written anew")
     values, paths = shown_nodes(selected(padded(tree), segments))
-    return text_of(deep(padded(tree))), "$" + BELOW + "".join(text for *_, text in segments), values, below(paths)
+    return deep(padded(tree)), "$" + BELOW + "".join(text for *_, text in segments), values, below(paths)
 
 
 def padded_refusal_of_query(query, place, words):

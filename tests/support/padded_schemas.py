@@ -11,6 +11,9 @@ ONE |= {"unevaluatedItems", "unevaluatedProperties"}
 LISTS = {"allOf": [True] * COUNT, "anyOf": [False] * COUNT, "oneOf": [False] * COUNT, "prefixItems": []}
 NAMED = {"$defs": KEYS, "properties": KEYS, "dependentSchemas": KEYS}
 
+# How many names get what takes a time for each name and each member: patterns, and lists of names.
+FEW = 40
+
 # Which judge the items and the members of a value one by one, and which count them.
 OF_ITEMS = {"contains", "items", "prefixItems", "unevaluatedItems"}
 OF_OTHERS = {"additionalProperties", "unevaluatedProperties"}
@@ -98,12 +101,12 @@ class Padding:
         if key in NAMED:
             return Members([(name, self.schema(it)) for name, it in value] + self.named(NAMED[key]))
         if key == "patternProperties":
-            return Members([(name, self.schema(it)) for name, it in value] + self.named(WORDS, False))
+            return Members([(name, self.schema(it)) for name, it in value] + self.named(WORDS[-FEW:], False))
         if key == "propertyNames":
             return self.names(value)
         if key == "dependentRequired":
-            more = KEYS if self.members else []
-            return Members([(name, it + more if isinstance(it, list) else it) for name, it in value] + self.named(KEYS, more))
+            more = KEYS[-FEW:] if self.members else []
+            return Members([(name, it + more if isinstance(it, list) else it) for name, it in value] + self.named(more or KEYS, more))
         return self.data(value) if key == "const" else value
 
     def of_list(self, key, value):

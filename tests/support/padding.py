@@ -1,4 +1,4 @@
-"""Rows made wider: each object has 40 more members, each array 40 more items, and each list of other things 40 more entries.
+"""Rows made wider: each object has 300 more members, each array 300 more items, and each list of other things 300 more entries.
 
 No clause says that a call succeeds, so a body that gives up at 17 members is proved too. Each function below takes a row that a
 program answers, and returns the same row, padded, with its answer. No answer is taken from a program: it is the row's own with the
@@ -8,15 +8,16 @@ padding put into it. Where padding does not keep the answer, `Unpadded` says why
 import collections
 import json
 import re
+import sys
 
-# How many are added, of which some are long.
-COUNT = 40
+# How many are added, of which some are long. A program without proof is given no long texts, so there it is fewer.
+COUNT = 40 if "--unproved" in sys.argv else 300
 LONG = 4
 
 
 def strings(first, letter):
     """Strings, and at their end some of 100 characters."""
-    return [f"{first}{i:02}" for i in range(COUNT - LONG)] + [letter * 98 + f"{i:02}" for i in range(LONG)]
+    return [f"{first}{i:03}" for i in range(COUNT - LONG)] + [letter * 98 + f"{i:02}" for i in range(LONG)]
 
 
 # Keys and strings that no row has, of which a half of the keys come before others.
@@ -185,15 +186,14 @@ def padded_lines(given, answer, prefix=rb"", is_limited=False):
     return b"\n".join(lines), (status, b"".join(results), b"".join(told.values()))
 
 
-# What leads to the bottom of `deep`, as tokens of a pointer: in a member, behind 40 items, and 38 levels more.
+# What leads to the bottom of `deep`, as tokens of a pointer: in a member, behind the items that are added, and more levels.
 STEPS = ["w", COUNT, *[0] * (COUNT - 2)]
 
 
 def deep(tree):
-    """A tree under 40 levels, of which the first two are wide."""
-    for _ in STEPS[2:]:
-        tree = [tree]
-    return Members([*MEMBERS, ("w", [*ITEMS, tree])])
+    """The text of a tree under as many levels, of which the first two are wide."""
+    levels = len(STEPS) - 2
+    return BEFORE + b"[" * levels + text_of(tree) + b"]" * levels + b"]}"
 
 
 def padded_pointer(pointer):
@@ -206,11 +206,11 @@ def padded_part(pointer, given, answer):
     """A pointer, a text, and the answer of `json_part`."""
     status, output, errors = answer
     if status == 0:
-        return padded_pointer(pointer), text_of(deep(padded(tree_of(given)))), (0, padded_normal(output[:-1]) + b"\n", errors)
+        return padded_pointer(pointer), deep(padded(tree_of(given))), (0, padded_normal(output[:-1]) + b"\n", errors)
     if status == 3:
         return pointer, *padded_refusal(given, answer)
     # An item more could be the part that is missed.
-    return padded_pointer(pointer), text_of(deep(padded(tree_of(given), items=False))), answer
+    return padded_pointer(pointer), deep(padded(tree_of(given), items=False)), answer
 
 
 def merged(target, patch):

@@ -108,7 +108,7 @@ def as_items(rows):
 
 
 def padded_inputs():
-    """The inputs with 40 members more in each object, and 40 items in each array, and the refused ones inside such ones."""
+    """The inputs with more members in each object, and more items in each array, and the refused ones inside such ones."""
     for row in inputs():
         given, expected = row
         try:
