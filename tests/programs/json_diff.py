@@ -10,7 +10,7 @@ from json_patch import APPLIED, operation, patched
 from pages import Page, misused
 from places import TOP
 from running import printed, program, reported, run_of
-from values import LONG, NESTED, NOT_UTF8, normal
+from values import LONG, NESTED, NOT_UTF8, WIDE_KEYS, normal, wide
 
 FAULTS = Faults("json_diff")
 
@@ -122,6 +122,9 @@ LONG_ROWS = [
     (nested(b"{}"), b"1", reported(2, "json_diff", "the old text: Parse error at line:1, col:5000: Nesting is too deep at '{'")),
     (b'{"a":%s}' % LONG, b'{"a":%s,"b":1}' % LONG, printed(b'{"b":1}')),
     (b'{"b":1}', b'{"a":%s}' % LONG, printed(b'{"a":%s,"b":null}' % LONG)),
+    # Members that are replaced, and that are removed.
+    (wide(0).encode(), wide(1).encode(), printed(wide(1).encode())),
+    (wide(0).encode(), b"{}", printed(wide("null").encode())),
     # The old text is read first.
     (b"[1,]", b"{", reported(2, "json_diff", "the old text: Parse error at line:1, col:3: Invalid character: ]")),
     (b"{}", b"[1,]", reported(3, "json_diff", "Parse error at line:1, col:3: Invalid character: ]")),
@@ -129,6 +132,12 @@ LONG_ROWS = [
     (NOT_UTF8, b"1", reported(2, "json_diff", "old:1:0: not UTF-8")),
     (NESTED, b"1", reported(2, "json_diff", "the old text: Parse error at line:1, col:1000: Nesting is too deep at '['")),
 ]
+
+
+def at_each_key(operation):
+    """The text of a patch with an operation for each key."""
+    return ("[" + ",".join(operation % key for key in WIDE_KEYS) + "]").encode()
+
 
 # The same of operations.
 LONG_OPERATIONS = [
@@ -139,6 +148,8 @@ LONG_OPERATIONS = [
     (b"1", nested(b"null"), printed(b'[{"op":"replace","path":"","value":%s}]' % nested(b"null"))),
     (b"1", nested(b"{}"), reported(3, "json_diff", "Parse error at line:1, col:5000: Nesting is too deep at '{'")),
     (b'{"a":%s}' % LONG, b'{"a":%s,"b":1}' % LONG, printed(b'[{"op":"add","path":"/b","value":1}]')),
+    (wide(0).encode(), wide(1).encode(), printed(at_each_key('{"op":"replace","path":"/%s","value":1}'))),
+    (wide(0).encode(), b"{}", printed(at_each_key('{"op":"remove","path":"/%s"}'))),
     (b"[1,]", b"{", reported(2, "json_diff", "the old text: Parse error at line:1, col:3: Invalid character: ]")),
     (b"{}", b"[1,]", reported(3, "json_diff", "Parse error at line:1, col:3: Invalid character: ]")),
 ]

@@ -11,7 +11,7 @@ from places import TOP
 from replaced import InPlace
 from document_rows import MERGES
 from running import printed, program, reported, run_of
-from values import DEEP, LONG, NESTED, NOT_UTF8, normal
+from values import DEEP, LONG, NESTED, NOT_UTF8, normal, wide
 
 FAULTS = Faults("json_merge")
 
@@ -56,6 +56,9 @@ LONG_MERGES = [
     (b"{}", nested(DEEPEST, b"1]"), reported(2, "json_merge", "the patch: Parse error at line:1, col:1500002: ',' or '}' is expected for object but actually found ']'")),
     (b'{"a":1}', b'{"b":%s}' % LONG, printed(b'{"a":1,"b":%s}' % LONG)),
     (b'{"a":%s}' % LONG, b'{"b":1}', printed(b'{"a":%s,"b":1}' % LONG)),
+    # Members that are replaced, and that are removed.
+    (wide(0).encode(), wide(1).encode(), printed(wide(1).encode())),
+    (wide(0).encode(), wide("null").encode(), printed(b"{}")),
     # The patch is read first.
     (b"{", b"[1,]", reported(2, "json_merge", "the patch: Parse error at line:1, col:3: Invalid character: ]")),
     (b"[1,]", b"{}", reported(3, "json_merge", "Parse error at line:1, col:3: Invalid character: ]")),
@@ -64,7 +67,7 @@ LONG_MERGES = [
 ]
 
 # How many rows are not padded, and why.
-UNPADDED = {"a large text": 8}
+UNPADDED = {"a large text": 10}
 
 # The arguments, the input, and the answer.
 ROWS = [

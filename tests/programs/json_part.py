@@ -12,7 +12,7 @@ from long_lines import LongLines, reports_each
 from padding import padded_part, padded_rows
 from pages import Page, misused
 from running import printed, program, reported, run_of
-from values import CONTROLS, DEEP, LONG, NESTED, NOT_UTF8, QUOTED, normal
+from values import CONTROLS, DEEP, LONG, NESTED, NOT_UTF8, QUOTED, WIDE, normal
 
 DOCUMENT_READER = whole.Reader("json_part", [""], 3)
 FAULTS = Faults("json_part", is_stopping=True)
@@ -184,6 +184,13 @@ def in_files(checks):
     return run_of(program("json_part"), words, cwd=checks.folder)
 
 
+def in_many_files(folder, names):
+    """The answer for a file by all these names, which are one."""
+    with open(f"{folder}/{names[0]}", "wb") as file:
+        file.write(b'{"a":2}')
+    return run_of(program("json_part"), ["/a", *names], cwd=folder)
+
+
 def check_lines(checks):
     """Each pointer of the RFC, in lines of which the second has no part, as they are and padded."""
     for row in POINTERS[1:]:
@@ -199,6 +206,7 @@ def check_lines(checks):
     words = b"bad:2: the pointer names no part\nbad:3:1: Invalid character: ,\nbad:4: not UTF-8\n"
     answer = (4, b"1\n2\n", words + b"none: No such file or directory (os error 2)\n")
     checks.row("json_part -l: files", answer, in_files, checks)
+    checks.row("json_part: many files", printed(*[b"2"] * WIDE), in_many_files, checks.folder, ["often"] * WIDE)
     checks.row("json_part: --max-line without -l", printed(b"[1,2]"), run_of, program("json_part"), ["-m2", ""], b"[1,\n2]")
     checks.row("json_part: -l, --max-line without a number", misused("json_part", "no number of 1 to 9 digits after -m"), run_of,
         program("json_part"), ["-lm", ""], b"1")

@@ -18,7 +18,7 @@ from padded_schemas import padded_lines, padded_refused, padded_values
 from padding import padded_rows
 from parts import located
 from running import program, reported, run_of, run_small
-from values import LONG, NESTED, NOT_UTF8, normal
+from values import LONG, NESTED, NOT_UTF8, WIDE, WIDE_KEYS, normal, wide
 
 FAULTS = Faults("json_schema", status=1, is_stopping=True)
 
@@ -1289,6 +1289,9 @@ def lists(count, size=0):
     return json.dumps({"prefixItems": [{"$ref": name} for name in kinds], "$defs": {**kinds, "list": generic}})
 
 
+# The name of a draft.
+NAMED_7 = '"$schema":"http://json-schema.org/draft-07/schema#"'
+
 # Deep and long schemas and values, each on a stack of 256 KB.
 LONG_SCHEMAS = [
     ('{"items":' * (LEVELS - 1) + "{}" + "}" * (LEVELS - 1), "[" * LEVELS + "]" * LEVELS, judged(None)),
@@ -1356,6 +1359,10 @@ LONG_SCHEMAS = [
     ('{"items":' * (LEVELS - 1) + '{"pattern":"%s"}' % grouped(201) + "}" * (LEVELS - 1), "1", reported(2, "json_schema", NOT_APPLIED % ("/items" * (LEVELS - 1) + "/pattern"))),
     ('{"patternProperties":{"^k":true,"9$":{"maximum":0}},"additionalProperties":false}', "{%s}" % ",".join(f'"k{i}":0' for i in range(20_000)), judged(None)),
     ('{"uniqueItems":true}', "[%s]" % ",".join(map(str, range(20_000))), judged(None)),
+    # Names of a schema, also of an older draft, and those that are no keywords.
+    ('{"properties":%s}' % wide('{"type":"integer"}'), wide(0), judged(None)),
+    ('{%s,"properties":%s}' % (NAMED_7, wide("false")), '{"k19999":1}', judged(("/k19999", "/properties/k19999"))),
+    ("{%s,%s" % (NAMED_7, wide(0)[1:]), "1", (0, b"", told(f'the schema: "{key}" is no keyword' for key in WIDE_KEYS))),
     ('{"uniqueItems":true}', "[%s,0]" % ",".join(map(str, range(20_000))), judged(("", "/uniqueItems"))),
     ('{"required":[%s]}' % ",".join(f'"{i}"' for i in range(20_000)), "[]", judged(None)),
     ('{"required":[%s,"0"]}' % ",".join(f'"{i}"' for i in range(20_000)), "[]", reported(2, "json_schema", NOT_APPLIED % "/required")),
@@ -1680,9 +1687,12 @@ def check_all(checks):
         schema, value, places = at
         for words, shown in ((["-a"], places), (["--all"], places), (["-a", "-n1"], places[:1]), ([], places[:1]), (["-n", "2", "-a"], places[:2])):
             checks.row(f"json_schema: {words} {schema[:60]} {value}", located(value.encode(), reports_of(shown)), placed, checks.folder, schema, words, value.encode(), at=at)
+    nulls = '{"items":{"type":"null"}}'
     for words, count in ((["-a"], 100), (["-an99"], 99), (["-a", "--number=149"], 149), (["-a", "-n", "200"], 150), (["-n", "5"], 1)):
         places = [(f"/{i}", "/items/type") for i in range(count)]
-        checks.row(f"json_schema: {words}, up to", located(EACH, reports_of(places)), placed, checks.folder, '{"items":{"type":"null"}}', words, EACH)
+        checks.row(f"json_schema: {words}, up to", located(EACH, reports_of(places)), placed, checks.folder, nulls, words, EACH)
+    reports = b"".join(unit_of(f"/{i}", "/items/type", line=1, column=2 * i + 2) for i in range(1_000))
+    checks.row("json_schema: -a, many", (1, reports, b""), placed, checks.folder, nulls, ["-an", "9999"], b"[" + b"1," * 999 + b"1]")
     texts = b"line 1, col 2: /0 must be null, is a number\nline 1, col 4: /1 must be null, is a number\n"
     checks.row("json_schema: -at", (1, texts, b""), checked, checks.folder, '{"items":{"type":"null"}}', ["-at"], b"[1,2]")
     meta = '{"properties":{"a":{"type":"any"},"b":5}}'
@@ -1697,7 +1707,7 @@ def check_all(checks):
 
 # Further documents by `-r`. The files, of which the first one is the schema; the arguments; values that are valid; and others, each with the
 # place in it and the keyword's.
-X, NAMED_7 = '{"$defs":{"x":{"type":"integer"}}}', '"$schema":"http://json-schema.org/draft-07/schema#"'
+X, LONG_URI = '{"$defs":{"x":{"type":"integer"}}}', "http://a/" + "b" * WIDE
 COMMON = {"schema": '{"$ref":"common.json#/$defs/x"}', "common.json": X}
 LISTED = '{"definitions":{"x":{"items":[{"type":"integer"}],"additionalItems":false}}}'
 DOCUMENTS = [
@@ -1708,6 +1718,7 @@ DOCUMENTS = [
     # Core, 9.1.1: by the URI that it was found at.
     ({"schema": '{"$ref":"http://a/b?c#/$defs/x"}', "common.json": X}, ["-r", "http://a/b?c=common.json"], ["1"], [('"a"', "", "/$ref/type")]),
     ({"schema": '{"$ref":"b#/$defs/x"}', "d/common.json": X}, ["--ref=b=d/common.json"], ["1"], [('"a"', "", "/$ref/type")]),
+    ({"schema": '{"$ref":"%s#/$defs/x"}' % LONG_URI, "common.json": X}, ["-r", f"{LONG_URI}=common.json"], ["1"], [('"a"', "", "/$ref/type")]),
     # 8.2.1: by its own `$id`, which is resolved by where it was found.
     ({"schema": '{"$ref":"http://a/b#/$defs/x"}', "common.json": '{"$id":"http://a/b",' + X[1:]}, ["-r", "common.json"], ["1"], [('"a"', "", "/$ref/type")]),
     ({"schema": '{"$ref":"d/b#/$defs/x"}', "d/common.json": '{"$id":"b",' + X[1:]}, ["-r", "d/common.json"], ["1"], [('"a"', "", "/$ref/type")]),

@@ -12,6 +12,7 @@ MEMORY = 64 * 1_048_576
 
 # A line that fills a reader's buffer more than once.
 WIDE = b'"' + b"x" * 199_998 + b'"'
+WIDEST = b'"' + b"x" * 2_999_998 + b'"'
 
 # The words, the input, and its lines. The bytes before a line feed count, a carriage return among them: `[1,2]` has 5.
 FIVE, SIX = b"[1,2]", b"[1,23]"
@@ -36,6 +37,7 @@ ROWS = [
     (["-m", str(len(WIDE))], WIDE + b"\n1\n" + WIDE, [WIDE, b"1", WIDE]),
     (["-m", str(len(WIDE) - 1)], WIDE + b"\n1\n" + WIDE, [len(WIDE) - 1, b"1", len(WIDE) - 1]),
     ([], WIDE + b"\n1\n", [WIDE, b"1"]),
+    ([], WIDEST + b"\n1\n", [WIDEST, b"1"]),
 ]
 
 

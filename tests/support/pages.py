@@ -94,6 +94,8 @@ class Page:
             run = lambda words, given=b"", **how: self.run(words, given, cwd=folder, **how)
             if not self.is_lines:
                 checks.row(f"{self.name}: files", both, run, [*self.words, "good", "good"])
+                many = (once[0], once[1] * 300, once[2])
+                checks.row(f"{self.name}: 300 files", many, run, [*self.words, *["good"] * 300])
                 checks.row(f"{self.name}: a file and standard input", both, run, [*self.words, "good", "-"], self.given)
                 answer = (3, once[1] * 2, b"bad:1:1: Invalid character: ,\n")
                 checks.row(f"{self.name}: a bad file", answer, run, [*self.words, "good", "bad", "good"])
