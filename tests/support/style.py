@@ -7,7 +7,8 @@ Of comments the phrases and the length of sentences are looked for.
 
 import re
 
-# The most words of a page, and of one that is not named here.
+# The most words of a page, and of one that is not named here: a tenth more than it has, so what is written replaces what was there.
+# Up to 2,000 are read in ten minutes. Longer ones are looked up by heading: calls, lemmas, definitions.
 WORDS = {
     "README.md": 600,
     "CHANGELOG.md": 1_500,
@@ -25,7 +26,7 @@ WORDS = {
     "docs/TESTING.md": 900,
 }
 OTHER_WORDS = 600
-# The words of a sentence.
+# The words of a sentence, of which a reader keeps some 20 in mind. A longer one than 40 is two.
 MEAN, LONGEST = 20, 40
 
 # What is said in plainer words: `nested`, `scalar`, `without building a value`, `accepts`, `returns`, `is in`.
