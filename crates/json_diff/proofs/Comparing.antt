@@ -1,20 +1,17 @@
--- What is printed of a value is what is printed of its text.
-use Rattle.std.proofs.Common.{ℕ, Bool, true, false, List, [], Option, None, Some, Result, Ok, Err, inl, inr, ⊎_elim, refl}
+-- What is printed of a value.
+use Rattle.std.proofs.Common.{ℕ, Bool, true, false, List, [], Option, None, Some, Result, Ok, Err, inr, refl}
 use Rattle.std.proofs.lemmas.Bool.{false≢true}
 use Rattle.std.specs.Result.{IsErr}
 use Rattle.std.specs.declared.io.Error.{Error}
 use Rattle.tinyjson.proofs.Callers.{Appends_written}
-use Rattle.tinyjson.specs.Grammar.{IsText}
 use Rattle.tinyjson.specs.Tree.{Tree}
 use Rattle.tinyjson.specs.Written.{Written, WrittenPart}
 use Rattle.tinyjson_cli.specs.Layout.{laid_out}
 use Rattle.tinyjson_cli.specs.Texts.{Answers}
 use Rattle.tinyjson_cli.specs.declared.texts.NoAnswer.{NoAnswer}
-use Rattle.tinyjson_cli.specs.declared.texts.NoAnswer.TheVariants.{Refused, No}
 use Rattle.tinyjson_diff.specs.Merging.{Leads, HasChangesAlone}
 use Rattle.tinyjson_diff.specs.Patching.{IsPatchBetween}
-use Rattle.json_diff.specs.Compare.{GivesMergePatch, GivesPatch, GivesPatchOf, GivesPatchTo}
-use Rattle.json_diff.specs.Reading.{text_depth}
+use Rattle.json_diff.specs.Compare.{GivesMergePatch, GivesPatch}
 
 module _ (i : Bool) (t u : Tree) (old new : Option (List ℕ)) where
   module _ (p : Tree) (is : Leads t u p × HasChangesAlone t u p) where
@@ -34,11 +31,3 @@ module _ (i : Bool) (t u : Tree) (old new : Option (List ℕ)) where
         → Answers (GivesPatch i t u) old new r
     patch_begun (Ok x) j w = absurd (false≢true j)
     patch_begun (Err e) j w = inr (laid_out i p, (p, is, refl), w)
-
-  pub of_text : (m : Bool) (text : List ℕ) (r : Result (Option NoAnswer) Error) → IsText text_depth text u
-      → Answers (GivesPatchOf m i t u) old new r → Answers (GivesPatchTo m i t text) old new r
-  of_text m text (Ok None) s w = (w.0, (u, s, w.1), w.2)
-  of_text true text (Ok (Some (Refused c))) s w = absurd w.0
-  of_text false text (Ok (Some (Refused c))) s w = absurd w.0
-  of_text m text (Ok (Some (No x))) s w = ((u, s, w.0), w.1)
-  of_text m text (Err e) s w = ⊎_elim (λ k. inl k) (λ k. inr (k.0, (u, s, k.1), k.2)) w

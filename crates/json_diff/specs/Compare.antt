@@ -1,22 +1,16 @@
--- What is printed, given the tree of the old text and a new text.
+-- What is printed, given the old tree and a new one.
 use Rattle.std.specs.Prelude.{◌≡◌, ℕ, Bool, true, false, List, ◌++◌, Some, Result, Ok, Err, codes, encode_utf8_all, string_bytes}
 use Rattle.std.specs.Str.{chars}
-use Rattle.tinyjson.specs.Error.{error_kind}
-use Rattle.tinyjson.specs.Grammar.{IsText, IsAccepted}
-use Rattle.tinyjson.specs.JsonParseErrorKind.TheVariants as kind
-use Rattle.tinyjson.specs.Parser.{ParsesText}
 use Rattle.tinyjson.specs.Soundness.{IsTree}
 use Rattle.tinyjson.specs.Tree.{Tree, null}
 use Rattle.tinyjson_cli.specs.Layout.{laid_out}
 use Rattle.tinyjson_cli.specs.Shown.{shown}
 use Rattle.tinyjson_cli.specs.declared.texts.NoAnswer.{NoAnswer}
-use Rattle.tinyjson_cli.specs.declared.texts.NoAnswer.TheVariants.{Refused, No}
+use Rattle.tinyjson_cli.specs.declared.texts.NoAnswer.TheVariants.{No}
 use Rattle.tinyjson_diff.specs.Merging.{Leads, HasChangesAlone}
 use Rattle.tinyjson_diff.specs.Patching.{IsPatchBetween}
-use Rattle.tinyjson_lines.specs.declared.refusal.Cause.TheVariants.{NotJson}
 use Rattle.tinyjson_pointer.specs.Text.{pointer_text}
 use Rattle.tinyjson_pointer.specs.Walk.{part_at}
-use Rattle.json_diff.specs.Reading.{text_depth}
 
 -- with the text of the pointer of these tokens, whose controls are shown by their code points
 abbrev pub no_patch_message : List (List ℕ) → List ℕ
@@ -41,9 +35,3 @@ GivesPatch is_indented t u (Err _) = ⊥
 abbrev pub GivesPatchOf : (is_merge is_indented : Bool) → Tree → Tree → Result (List ℕ) NoAnswer → Type 0
 GivesPatchOf true is_indented t u f = GivesMergePatch is_indented t u f
 GivesPatchOf false is_indented t u f = GivesPatch is_indented t u f
-
--- The same for the tree of a text; or that is no JSON text, and this is the parser's error.
-abbrev pub GivesPatchTo : (is_merge is_indented : Bool) → Tree → List ℕ → Result (List ℕ) NoAnswer → Type 0
-GivesPatchTo is_merge is_indented t text (Err (Refused (NotJson e))) =
-    ParsesText text_depth text (Err e) × ¬ (error_kind e ≡ kind.OutOfMemory) × ¬ IsAccepted text_depth text
-GivesPatchTo is_merge is_indented t text f = (u : Tree) × IsText text_depth text u × GivesPatchOf is_merge is_indented t u f

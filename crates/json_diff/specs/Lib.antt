@@ -1,3 +1,2 @@
 pub mod Compare
-pub mod Options
 pub mod Reading

@@ -1,24 +1,22 @@
-//! Compares texts with an old one.
+//! Compares values with an old one.
 ghost use Rattle.std.specs.Prelude.{◌≡◌, IfOk, string_bytes};
 ghost use Rattle.tinyjson_cli.specs.Texts.{Answers};
 ghost use Rattle.tinyjson_document.specs.Document.{tree};
 ghost use Rattle.tinyjson_pointer.specs.Tokens.{tokens_of};
-ghost use Rattle.json_diff.specs.Compare.{GivesMergePatch, GivesPatchOf, GivesPatchTo};
+ghost use Rattle.json_diff.specs.Compare.{GivesMergePatch, GivesPatchOf};
 ghost use Rattle.json_diff.specs.Compare.{no_patch_message};
 
-use crate::reading::TEXT_DEPTH;
 use std::alloc::{AllocError, Global};
 use std::io::{self, ErrorKind, Write};
-use tinyjson_cli::{NoAnswer, Shown, TextAnswer, write_laid_out};
+use tinyjson_cli::{NoAnswer, Shown, ValueTool, write_laid_out};
 use tinyjson_diff::{NoMergePatch, merge_diff, patch_diff};
-use tinyjson_document::{Document, Node};
-use tinyjson_lines::Cause;
+use tinyjson_document::Node;
 use tinyjson_pointer::Pointer;
 
-/// What is asked of each text: the patch that leads to it from an old one.
+/// What is asked of each value: the patch that leads to it from an old one.
 #[derive(Clone, Copy)]
 pub struct Asked<'a> {
-    /// The value of the old text.
+    /// The old value.
     pub old: Node<'a>,
     /// Whether the patch is a merge patch (RFC 7396), or else a JSON Patch (RFC 6902).
     pub is_merge: bool,
@@ -27,46 +25,25 @@ pub struct Asked<'a> {
 }
 
 /// ```
-/// asked.answer_text(alloc, r#"{"b":2}"#, &mut output)?; // of a merge patch from {"a":1}: writes {"a":null,"b":2} and a line feed
+/// asked.answer_value(alloc, new, len, &mut output)?; // from {"a":1} to {"b":2}, a merge patch: writes {"a":null,"b":2}
 /// ```
-impl TextAnswer for Asked<'_> {
-    ghost gives = { λ a text f. GivesPatchTo a.is_merge a.is_indented (tree a.old) text f };
+impl ValueTool for Asked<'_> {
+    ghost gives = { λ a _ t f. GivesPatchOf a.is_merge a.is_indented (tree a.old) t f };
 
-    fn answer_text<W: Write>(
+    fn answer_value<W: Write>(
         &self,
         alloc: Global,
-        text: &str,
+        new: Node<'_>,
+        _: usize,
         output: &mut W,
     ) -> io::Result<Option<NoAnswer>> {
-        match Document::read_with_depth_limit(alloc, text, TEXT_DEPTH) {
-            Ok(new) => answer_value(alloc, *self, new.root(), output),
-            Err(error) => {
-                if error.is_out_of_memory() {
-                    return Err(error.into());
-                }
-                Ok(Some(NoAnswer::Refused(Cause::NotJson(error))))
-            }
+        if self.is_merge {
+            return answer_merge(alloc, *self, new, output);
         }
+        let patch = patch_diff(alloc, self.old, new)?;
+        write_laid_out(alloc, &patch, self.is_indented, output)?;
+        Ok(None)
     }
-}
-
-/// Writes the text of the patch that leads to a value.
-fn answer_value<W: Write>(
-    alloc: Global,
-    asked: Asked<'_>,
-    new: Node<'_>,
-    output: &mut W,
-) -> io::Result<Option<NoAnswer>>
-    ensures { Answers (GivesPatchOf asked.entry.is_merge asked.entry.is_indented
-        (tree asked.entry.old) (tree new.entry))
-        (W.contents output.old) (W.contents output.new) result }
-{
-    if asked.is_merge {
-        return answer_merge(alloc, asked, new, output);
-    }
-    let patch = patch_diff(alloc, asked.old, new)?;
-    write_laid_out(alloc, &patch, asked.is_indented, output)?;
-    Ok(None)
 }
 
 /// Writes the text of the merge patch that leads to a value.

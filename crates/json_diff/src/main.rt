@@ -3,16 +3,21 @@
 #![tactic(auto)]
 
 mod compare;
-mod options;
 mod reading;
 
 use compare::Asked;
-use options::{MERGE, Request, requested};
-use reading::read_old;
+use reading::{TEXT_DEPTH, read_old};
 use std::process::ExitCode;
 use tinyjson_cli::{
-    HELP, INDENT, Misuse, Program, Status, Texts, VERSION, answer_texts, argument_words,
-    arguments_of, misused, report,
+    HELP, INDENT, Known, Program, Status, VERSION, Values, argument_words, arguments_of,
+    needed_operand, or_report, run_tool, texts_asked,
+};
+
+/// `-m` and `--merge`.
+const MERGE: Known<'static> = Known {
+    letter: b'm',
+    name: "merge",
+    takes: None,
 };
 
 const PROGRAM: Program<'static> = Program {
@@ -62,30 +67,13 @@ fn main(rt: HostRuntime) -> ExitCode {
 fn run(rt: &HostRuntime) -> Result<Status, Status> {
     let words = argument_words(rt, PROGRAM)?;
     let arguments = arguments_of(rt, PROGRAM, words.as_slice())?;
-    let Some(
-        Request {
-            is_merge,
-            is_indented,
-            old,
-            files,
-        },
-    ) = requested(&arguments)
-    else {
-        return Err(misused(rt, PROGRAM, Misuse::Missing("OLD")));
+    let (old, files) = needed_operand(rt, PROGRAM, &arguments, "OLD")?;
+    let old = or_report(rt, PROGRAM, read_old(rt, old))?;
+    let asked = Asked {
+        old: old.root(),
+        is_merge: arguments.has(b'm'),
+        is_indented: arguments.has(b'i'),
     };
-    let texts = Texts {
-        by_lines: false,
-        max_line: None,
-    };
-    match read_old(rt, old) {
-        Ok(old) => {
-            let asked = Asked {
-                old: old.root(),
-                is_merge,
-                is_indented,
-            };
-            Ok(answer_texts(rt, PROGRAM, texts, files, asked))
-        }
-        Err(failure) => Err(report(rt, PROGRAM, None, &failure)),
-    }
+    let tool = Values::new(rt.alloc(), asked, Some(TEXT_DEPTH));
+    Ok(run_tool(rt, PROGRAM, texts_asked(&arguments), files, tool))
 }

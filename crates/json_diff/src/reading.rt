@@ -1,10 +1,9 @@
 //! The old text that the arguments name.
 ghost use Rattle.std.specs.Str.{chars};
-ghost use Rattle.json_diff.specs.Reading.{IsOldFailure, ReadsOld, ReadsOldFile};
+ghost use Rattle.json_diff.specs.Reading.{ReadsOld, ReadsOldFile};
 
 use std::alloc::Global;
-use tinyjson::JsonParseError;
-use tinyjson_cli::{Failure, read_named};
+use tinyjson_cli::{Failure, named_text_failure, read_named};
 use tinyjson_document::Document;
 
 /// How many containers may be nested in a text: comparing and freeing values take stack with their nesting.
@@ -24,19 +23,6 @@ fn old_of(alloc: Global, text: &str) -> Result<Document, Failure>
 {
     match Document::read_with_depth_limit(alloc, text, TEXT_DEPTH) {
         Ok(old) => Ok(old),
-        Err(error) => Err(old_failure(alloc, error)),
-    }
-}
-
-/// The failure for a text that is no JSON text.
-fn old_failure(alloc: Global, error: JsonParseError) -> Failure
-    ensures { IsOldFailure error result }
-{
-    if error.is_out_of_memory() {
-        return Failure::OutOfMemory;
-    }
-    match format!(in alloc; "the old text: {error}") {
-        Ok(words) => Failure::Misused(words),
-        Err(_) => Failure::OutOfMemory,
+        Err(error) => Err(named_text_failure(alloc, "the old text", error)),
     }
 }

@@ -1,54 +1,92 @@
 //! The form of a text.
-ghost use Rattle.std.specs.Prelude.{◌≡◌, ◌≢◌, ◌∷◌, ◌++◌, [], IfErr};
-ghost use Rattle.std.specs.Prelude.{IfOk, IfSome, MatchOption, Some, encode_utf8_all};
+ghost use Rattle.std.specs.IoError.{error_kind};
+ghost use Rattle.std.specs.Prelude.{◌≡◌, ◌∷◌, ◌++◌, [], IfErr};
+ghost use Rattle.std.specs.Prelude.{IfOk, IfSome, MatchResult, Some, encode_utf8_all, option_map, string_bytes};
 ghost use Rattle.std.specs.Str.{chars};
+ghost use Rattle.std.specs.declared.io.ErrorKind.{ErrorKind};
 ghost use Rattle.tinyjson.specs.Characters.{line_feed};
 ghost use Rattle.tinyjson.specs.Text.{text};
 ghost use Rattle.tinyjson.specs.View.{view};
-ghost use Rattle.json_format.specs.Form.{IsForm, IsNoForm};
+ghost use Rattle.json_format.specs.Form.{GivesFormatted, IsForm, IsNoForm, name_line};
 
-use std::alloc::Global;
+use std::alloc::{AllocError, Global};
+use std::io::{self, ErrorKind, Write};
 use tinyjson::{JsonGenerator, JsonValue};
-use tinyjson_cli::Failure;
+use tinyjson_cli::{Input, NoAnswer, Shown, Status, Tool};
+use tinyjson_lines::{Cause, write_all};
 
-/// The text with sorted keys and this indent, one spelling for each number, and a line feed at its end.
+/// How texts are formatted.
+#[derive(Drop)]
+pub struct Formatter<'a> {
+    /// What a level is indented by.
+    pub indent: &'a str,
+    /// Whether the name of an input that is not in form is printed, and not its form.
+    pub is_check: bool,
+}
+
+impl Tool for Formatter<'_> {
+    ghost gives = { λ a source text f b. GivesFormatted a.is_check (chars a.indent.now)
+        source.file text f × (b ≡ a) };
+
+    fn answer<W: Write>(
+        &mut self,
+        alloc: Global,
+        input: Input<'_>,
+        output: &mut W,
+    ) -> io::Result<Result<Status, NoAnswer>> {
+        let text = input.text.as_str();
+        let form = match formatted(alloc, text, self.indent)? {
+            Ok(form) => form,
+            Err(why) => return Ok(Err(why)),
+        };
+        if !self.is_check {
+            write_all(output, form.as_slice())?;
+            return Ok(Ok(Status::Done));
+        }
+        if form.as_slice() == text.as_bytes() {
+            return Ok(Ok(Status::Done));
+        }
+        let name = name_line(alloc, input.file)?;
+        write_all(output, name.as_bytes())?;
+        Ok(Ok(Status::No))
+    }
+}
+
+/// The text with sorted keys and this indent, one spelling for each number, and a line feed at its end. The only error is
+/// out of memory.
 ///
 /// ```
-/// formatted(alloc, "{\"b\":1.0,\"a\":2}", "  ")? // {, a line for each member, "a" first, and }
+/// formatted(alloc, "{\"b\":1.0,\"a\":2}", "  ")?? // {, a line for each member, "a" first, and }
 /// ```
-pub fn formatted(alloc: Global, text: &str, indent: &str) -> Result<Vec<u8>, Failure>
-    ensures ok { IfOk result (λ v. IsForm (chars indent.now) (chars text.now) v.items) }
-    ensures err { IfErr result (IsNoForm (chars text.now)) }
+pub fn formatted(alloc: Global, text: &str, indent: &str) -> io::Result<Result<Vec<u8>, NoAnswer>>
+    ensures ok { IfOk result (λ form. MatchResult form
+        (λ v. IsForm (chars indent.now) (chars text.now) v.items)
+        (IsNoForm (chars text.now))) }
+    ensures err { IfErr result (λ e. error_kind e ≡ ErrorKind.OutOfMemory) }
 {
     let value = match JsonValue::from_str(alloc, text) {
         Ok(value) => value,
         Err(error) => {
             if error.is_out_of_memory() {
-                return Err(Failure::OutOfMemory);
+                return Err(io::Error::from(ErrorKind::OutOfMemory));
             }
-            return Err(Failure::NotJson(error));
+            return Ok(Err(NoAnswer::Refused(Cause::NotJson(error))));
         }
     };
     let form = form_of(alloc, &value, indent);
     value.dismantle();
     match form {
-        Some(form) => Ok(form),
-        None => Err(Failure::OutOfMemory),
+        Some(form) => Ok(Ok(form)),
+        None => Err(io::Error::from(ErrorKind::OutOfMemory)),
     }
 }
 
-/// What a file with this text is to have instead: its form, or nothing if it is in form.
-pub fn change(alloc: Global, text: &str, indent: &str) -> Result<Option<Vec<u8>>, Failure>
-    ensures ok { IfOk result (λ change. MatchOption change
-        (IsForm (chars indent.now) (chars text.now) text.now)
-        (λ v. IsForm (chars indent.now) (chars text.now) v.items × (v.items ≢ text.now))) }
-    ensures err { IfErr result (IsNoForm (chars text.now)) }
+/// The name of an input, as it is printed.
+fn name_line(alloc: Global, file: Option<&str>) -> Result<String, AllocError>
+    ensures { IfOk result (λ s. string_bytes s ≡ name_line (option_map (λ f. f.now) file.entry)) }
 {
-    let form = formatted(alloc, text, indent)?;
-    if form.as_slice() == text.as_bytes() {
-        return Ok(None);
-    }
-    Ok(Some(form))
+    let name = file.unwrap_or("-");
+    format!(in alloc; "{}\n", Shown(name))
 }
 
 /// The text of a value, unless memory runs out.

@@ -4,13 +4,11 @@
 mod form;
 mod options;
 
-use form::change;
+use form::Formatter;
 use options::{CHECK, INDENT, TABS, indent};
-use std::io::{self, Write};
 use std::process::ExitCode;
 use tinyjson_cli::{
-    Failure, HELP, Program, Shown, Status, VERSION, argument_words, arguments_of, is_last,
-    read_text, replace, report, writing_error,
+    Failure, HELP, Program, Status, Texts, VERSION, argument_words, arguments_of, report, run_tool,
 };
 
 const PROGRAM: Program<'static> = Program {
@@ -54,13 +52,6 @@ Examples:
 ",
 };
 
-/// How inputs are formatted.
-#[derive(Clone, Copy)]
-struct Asked<'a> {
-    indent: &'a str,
-    is_check: bool,
-}
-
 fn main(rt: HostRuntime) -> ExitCode {
     let (Ok(status) | Err(status)) = run(&rt);
     ExitCode::from(status.code())
@@ -72,61 +63,18 @@ fn run(rt: &HostRuntime) -> Result<Status, Status> {
     let Ok(indent) = indent(rt.alloc(), &arguments) else {
         return Err(report(rt, PROGRAM, None, &Failure::OutOfMemory));
     };
-    let asked = Asked {
+    let is_check = arguments.has(b'c');
+    let formatter = Formatter {
         indent: indent.as_str(),
-        is_check: arguments.has(b'c'),
+        is_check,
     };
-    Ok(format_all(rt, arguments.operands.as_slice(), asked))
-}
-
-/// Formats each file, or standard input. The status is the greatest.
-fn format_all(rt: &HostRuntime, files: &[&str], asked: Asked<'_>) -> Status {
+    let texts = Texts {
+        by_lines: false,
+        max_line: None,
+        goes_on: true,
+        in_place: !is_check,
+    };
+    let files = arguments.operands.as_slice();
     let inputs = if files.is_empty() { &["-"] } else { files };
-    let mut status = Status::Done;
-    for name in inputs {
-        let file = if *name == "-" { None } else { Some(*name) };
-        match format_input(rt, file, asked) {
-            Ok(of_input) => status = status.and(of_input),
-            Err(failure) => {
-                status = status.and(report(rt, PROGRAM, file, &failure));
-                if is_last(&failure) {
-                    break;
-                }
-            }
-        }
-    }
-    status
-}
-
-/// Formats a file in place, or standard input to standard output; or only checks it.
-fn format_input(rt: &HostRuntime, file: Option<&str>, asked: Asked<'_>) -> Result<Status, Failure> {
-    let text = read_text(rt, file)?;
-    let change = change(rt.alloc(), text.as_str(), asked.indent)?;
-    match (change, file) {
-        (None, None) if !asked.is_check => print_form(rt, text.as_bytes()),
-        (None, _) => Ok(Status::Done),
-        (Some(_), _) if asked.is_check => print_name(rt, file.unwrap_or("-")),
-        (Some(form), None) => print_form(rt, form.as_slice()),
-        (Some(form), Some(name)) => replace_named(rt, name, form.as_slice()),
-    }
-}
-
-fn print_form(rt: &HostRuntime, form: &[u8]) -> Result<Status, Failure> {
-    match io::writer(rt).write_all(form) {
-        Ok(()) => Ok(Status::Done),
-        Err(error) => Err(writing_error(error)),
-    }
-}
-
-/// Prints the name of an input that is not in form.
-fn print_name(rt: &HostRuntime, name: &str) -> Result<Status, Failure> {
-    match println!(rt; "{}", Shown(name)) {
-        Ok(()) => Ok(Status::No),
-        Err(error) => Err(writing_error(error)),
-    }
-}
-
-fn replace_named(rt: &HostRuntime, name: &str, form: &[u8]) -> Result<Status, Failure> {
-    replace(rt, PROGRAM.name, name, form)?;
-    Ok(Status::Done)
+    Ok(run_tool(rt, PROGRAM, texts, inputs, formatter))
 }

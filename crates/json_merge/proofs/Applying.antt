@@ -1,19 +1,17 @@
--- What is printed of a value is what is printed of its text.
-use Rattle.std.proofs.Common.{◌≡◌, ℕ, Bool, List, [], ◌∷◌, ◌++◌, Option, None, Some, Result, Ok, Err, inl, inr, ⊎_elim, ap, refl}
+-- What is printed of a value.
+use Rattle.std.proofs.Common.{◌≡◌, ℕ, Bool, List, [], ◌∷◌, ◌++◌, Option, None, Some, Result, Ok, Err, inr, ap, refl}
 use Rattle.std.proofs.lemmas.Bool.{false≢true}
 use Rattle.std.proofs.lemmas.Result.{MatchResult-from_err}
 use Rattle.std.specs.Result.{IsErr}
 use Rattle.std.specs.declared.io.Error.{Error}
 use Rattle.tinyjson.proofs.Callers.{Appends_written, begins, stop}
-use Rattle.tinyjson.specs.Grammar.{IsText}
 use Rattle.tinyjson.specs.Tree.{Tree}
 use Rattle.tinyjson.specs.Written.{Written, WrittenPart, WritesPrefix}
 use Rattle.tinyjson_cli.specs.Layout.{laid_out}
 use Rattle.tinyjson_cli.specs.Texts.{Answers}
 use Rattle.tinyjson_cli.specs.declared.texts.NoAnswer.{NoAnswer}
-use Rattle.tinyjson_cli.specs.declared.texts.NoAnswer.TheVariants.{Refused, No}
 use Rattle.tinyjson_patch.specs.Merge.{merge_patch}
-use Rattle.json_merge.specs.Apply.{GivesMerged, GivesMergedOf, all_merged}
+use Rattle.json_merge.specs.Apply.{GivesMerged, all_merged}
 
 -- an error before the first write
 pub unwritten : {T E : Type 0} (old : Option (List ℕ)) (bytes : List ℕ) (r : Result T E) → IsErr r → WritesPrefix old old bytes r
@@ -26,17 +24,10 @@ last_merged t (q ∷ ps) p = last_merged (merge_patch t q) ps p
 
 module _ (i : Bool) (ps : List Tree) (t : Tree) (old new : Option (List ℕ)) where
   module _ (u : Tree) (is : u ≡ all_merged t ps) where
-    pub line_written : Written old new (laid_out i u) [] → Answers (GivesMergedOf i ps t) old new (Ok None)
+    pub line_written : Written old new (laid_out i u) [] → Answers (GivesMerged i ps t) old new (Ok None)
     line_written w = (laid_out i u, ap (laid_out i) is, Appends_written old new _ w)
 
     pub line_begun : (r : Result (Option NoAnswer) Error) → IsErr r → WrittenPart old new (laid_out i u)
-        → Answers (GivesMergedOf i ps t) old new r
+        → Answers (GivesMerged i ps t) old new r
     line_begun (Ok x) j w = absurd (false≢true j)
     line_begun (Err e) j w = inr (laid_out i u, ap (laid_out i) is, w)
-
-  pub of_text : (text : List ℕ) (r : Result (Option NoAnswer) Error) → IsText None text t → Answers (GivesMergedOf i ps t) old new r
-      → Answers (GivesMerged i ps text) old new r
-  of_text text (Ok None) s w = (w.0, (t, s, w.1), w.2)
-  of_text text (Ok (Some (Refused c))) s w = absurd w.0
-  of_text text (Ok (Some (No x))) s w = absurd w.0
-  of_text text (Err e) s w = ⊎_elim (λ k. inl k) (λ k. inr (k.0, (t, s, k.1), k.2)) w

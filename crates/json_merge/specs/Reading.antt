@@ -1,31 +1,20 @@
 -- A patch that is read.
-use Rattle.std.specs.Prelude.{◌≡◌, ℕ, List, ◌++◌, None, Some, Result, Ok, Err, ◌⊎◌, All, codes, length}
+use Rattle.std.specs.Prelude.{◌≡◌, ℕ, List, None, Result, Ok, Err, ◌⊎◌, All, codes, length}
 use Rattle.std.specs.declared.alloc.Global.{Global}
 use Rattle.std.specs.declared.vec.Vec.{Vec}
-use Rattle.tinyjson.specs.Error.{error_kind, error_message}
 use Rattle.tinyjson.specs.Events.{TellsText}
 use Rattle.tinyjson.specs.Grammar.{IsText}
-use Rattle.tinyjson.specs.JsonParseErrorKind.TheVariants as kind
 use Rattle.tinyjson.specs.declared.parser.error.JsonParseError.{JsonParseError}
 use Rattle.tinyjson_cli.specs.Ending.{IsOfNamed}
-use Rattle.tinyjson_cli.specs.Failures.{failure_message, failure_status}
+use Rattle.tinyjson_cli.specs.Naming.{IsNoText}
 use Rattle.tinyjson_cli.specs.declared.failure.Failure.{Failure}
-use Rattle.tinyjson_cli.specs.declared.failure.Failure.TheVariants as failure
-use Rattle.tinyjson_cli.specs.declared.status.Status.TheVariants as status
 use Rattle.tinyjson_document.specs.Document.{HasTree, document_tree}
 use Rattle.tinyjson_document.specs.declared.document.Document.{Document}
-
--- The failure has the parser's message, or memory ran out.
-abbrev pub IsPatchFailure : JsonParseError → Failure → Type 0
-IsPatchFailure e f =
-    (¬ (error_kind e ≡ kind.OutOfMemory) × (failure_status f ≡ status.Misused)
-    × (failure_message f ≡ Some (codes "the patch: " ++ error_message e)))
-    ⊎ (f ≡ failure.OutOfMemory)
 
 -- The patch of the text, or the failure for the parser's error.
 abbrev pub ReadsMergePatch : List ℕ → Result Document Failure → Type 0
 ReadsMergePatch text (Ok p) = IsText None text (document_tree p)
-ReadsMergePatch text (Err f) = (e : JsonParseError) × TellsText HasTree None text (Err e) × IsPatchFailure e f
+ReadsMergePatch text (Err f) = (e : JsonParseError) × TellsText HasTree None text (Err e) × IsNoText (codes "the patch") e f
 
 -- the patch of a file's text
 abbrev pub IsOfFile : Document → Type 0

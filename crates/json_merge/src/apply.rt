@@ -1,92 +1,43 @@
-//! Applies merge patches to texts.
-ghost use Rattle.std.specs.Prelude.{◌≡◌, ◌∷◌, ℕ, List, IfOk, None, false, map, true};
-ghost use Rattle.tinyjson.specs.Events.{TellsText};
+//! Applies merge patches to values.
+ghost use Rattle.std.specs.Prelude.{◌≡◌, ◌∷◌, IfOk, false, map, true};
 ghost use Rattle.tinyjson.specs.Written.{WritesPrefix};
 ghost use Rattle.tinyjson_cli.specs.Layout.{laid_out};
-ghost use Rattle.tinyjson_cli.specs.Texts.{Answers};
-ghost use Rattle.tinyjson_document.specs.Document.{document_tree, HasTree, tree};
+ghost use Rattle.tinyjson_document.specs.Document.{document_tree, tree};
 ghost use Rattle.tinyjson_patch.specs.Merge.{merge_patch};
-ghost use Rattle.json_merge.specs.Apply.{GivesMerged, GivesMergedOf, all_merged};
+ghost use Rattle.json_merge.specs.Apply.{GivesMerged, all_merged};
 
 use std::alloc::{AllocError, Global};
 use std::io::{self, Write};
-use tinyjson::JsonParseError;
-use tinyjson_buffers::Buffers;
-use tinyjson_cli::{NoAnswer, TextAnswer};
+use tinyjson_cli::{NoAnswer, ValueTool};
 use tinyjson_document::{Document, Node};
-use tinyjson_lines::Cause;
 use tinyjson_normal::Compact;
 use tinyjson_patch::{merge_documents, merge_into};
 
-/// What is asked of each text: its value with some patches applied (RFC 7396), each to the result of the one before.
+/// What is asked of each value: some patches applied (RFC 7396), each to the result of the one before.
 #[derive(Clone, Copy)]
 pub struct Asked<'a> {
     /// The patches, in order.
     pub patches: &'a [Document],
     /// Whether the text of the result is indented with two spaces.
     pub is_indented: bool,
-    /// The memory that the texts are read into, one after another.
-    pub buffers: &'a Buffers,
 }
 
 /// ```
-/// asked.answer_text(alloc, r#"{"a":1,"b":2}"#, &mut output)?; // by {"a":null}: writes {"b":2} and a line feed
+/// asked.answer_value(alloc, value, len, &mut output)?; // of {"a":1,"b":2}, by {"a":null}: writes {"b":2} and a line feed
 /// ```
-impl TextAnswer for Asked<'_> {
-    ghost gives = { λ a text f. GivesMerged
-        a.is_indented (map document_tree a.patches.now) text f };
+impl ValueTool for Asked<'_> {
+    ghost gives = { λ a _ t f. GivesMerged a.is_indented (map document_tree a.patches.now) t f };
 
-    fn answer_text<W: Write>(
+    fn answer_value<W: Write>(
         &self,
         alloc: Global,
-        text: &str,
+        value: Node<'_>,
+        _: usize,
         output: &mut W,
     ) -> io::Result<Option<NoAnswer>> {
-        let read = self.buffers.read(text);
-        let answered = answer_read(alloc, *self, &read, output);
-        if let Ok(document) = read {
-            self.buffers.recycle(document);
-        }
-        answered
+        write_text(alloc, *self, value, output)?;
+        Ok(None)
     }
-}
-
-/// Answers for what was read of a text.
-fn answer_read<W: Write>(
-    alloc: Global,
-    asked: Asked<'_>,
-    read: &Result<Document, JsonParseError>,
-    output: &mut W,
-) -> io::Result<Option<NoAnswer>>
-    ensures { (text : List ℕ) → TellsText HasTree None text read.now
-        → Answers (GivesMerged asked.entry.is_indented
-        (map document_tree asked.entry.patches.now) text)
-        (W.contents output.old) (W.contents output.new) result }
-{
-    match read {
-        Ok(document) => answer_value(alloc, asked, document.root(), output),
-        Err(error) => {
-            if error.is_out_of_memory() {
-                return Err((*error).into());
-            }
-            Ok(Some(NoAnswer::Refused(Cause::NotJson(*error))))
-        }
-    }
-}
-
-/// Writes the text of a value with the patches applied.
-fn answer_value<W: Write>(
-    alloc: Global,
-    asked: Asked<'_>,
-    value: Node<'_>,
-    output: &mut W,
-) -> io::Result<Option<NoAnswer>>
-    ensures { Answers (GivesMergedOf asked.entry.is_indented
-        (map document_tree asked.entry.patches.now) (tree value.entry))
-        (W.contents output.old) (W.contents output.new) result }
-{
-    write_text(alloc, asked, value, output)?;
-    Ok(None)
 }
 
 /// Writes the text of a value with the patches applied, compact or indented, and a line feed.

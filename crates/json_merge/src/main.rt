@@ -7,13 +7,12 @@ mod options;
 mod reading;
 
 use apply::Asked;
-use options::{PATCHES, Request, requested};
+use options::{PATCHES, patches_asked};
 use reading::read_patches;
 use std::process::ExitCode;
-use tinyjson_buffers::Buffers;
 use tinyjson_cli::{
-    HELP, IN_PLACE, INDENT, LINES, MAX_LINE, Misuse, Program, Status, VERSION, answer_in_place,
-    answer_texts, argument_words, arguments_of, misused, report,
+    HELP, IN_PLACE, INDENT, LINES, MAX_LINE, Misuse, Program, Status, VERSION, Values,
+    argument_words, arguments_of, misused, or_report, run_tool, texts_asked,
 };
 
 const PROGRAM: Program<'static> = Program {
@@ -66,30 +65,14 @@ fn main(rt: HostRuntime) -> ExitCode {
 fn run(rt: &HostRuntime) -> Result<Status, Status> {
     let words = argument_words(rt, PROGRAM)?;
     let arguments = arguments_of(rt, PROGRAM, words.as_slice())?;
-    let Some(
-        Request {
-            texts,
-            is_indented,
-            patches,
-            files,
-        },
-    ) = requested(&arguments)
-    else {
+    let Some((patches, files)) = patches_asked(&arguments) else {
         return Err(misused(rt, PROGRAM, Misuse::Missing("PATCH")));
     };
-    match read_patches(rt, patches) {
-        Ok(patches) => {
-            let buffers = Buffers::new(rt.alloc());
-            let asked = Asked {
-                patches: patches.as_slice(),
-                is_indented,
-                buffers: &buffers,
-            };
-            if arguments.has(b'I') {
-                return Ok(answer_in_place(rt, PROGRAM, texts, files, &asked));
-            }
-            Ok(answer_texts(rt, PROGRAM, texts, files, asked))
-        }
-        Err(failure) => Err(report(rt, PROGRAM, None, &failure)),
-    }
+    let patches = or_report(rt, PROGRAM, read_patches(rt, patches))?;
+    let asked = Asked {
+        patches: patches.as_slice(),
+        is_indented: arguments.has(b'i'),
+    };
+    let tool = Values::new(rt.alloc(), asked, None);
+    Ok(run_tool(rt, PROGRAM, texts_asked(&arguments), files, tool))
 }

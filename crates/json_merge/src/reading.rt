@@ -1,11 +1,10 @@
 //! The patches that the arguments name.
 ghost use Rattle.std.specs.Prelude.{length};
 ghost use Rattle.std.specs.Str.{chars};
-ghost use Rattle.json_merge.specs.Reading.{IsPatchFailure, ReadsFiles, ReadsMergePatch};
+ghost use Rattle.json_merge.specs.Reading.{ReadsFiles, ReadsMergePatch};
 
 use std::alloc::Global;
-use tinyjson::JsonParseError;
-use tinyjson_cli::{Failure, read_named};
+use tinyjson_cli::{Failure, named_text_failure, read_named};
 use tinyjson_document::Document;
 
 /// The patches of these files, in order.
@@ -29,19 +28,6 @@ fn read_patch(alloc: Global, text: &str) -> Result<Document, Failure>
 {
     match Document::read(alloc, text) {
         Ok(patch) => Ok(patch),
-        Err(error) => Err(patch_failure(alloc, error)),
-    }
-}
-
-/// The failure for a text that is no patch.
-fn patch_failure(alloc: Global, error: JsonParseError) -> Failure
-    ensures { IsPatchFailure error result }
-{
-    if error.is_out_of_memory() {
-        return Failure::OutOfMemory;
-    }
-    match format!(in alloc; "the patch: {error}") {
-        Ok(words) => Failure::Misused(words),
-        Err(_) => Failure::OutOfMemory,
+        Err(error) => Err(named_text_failure(alloc, "the patch", error)),
     }
 }

@@ -1,4 +1,4 @@
--- What is printed of a part is what is printed of its text.
+-- What is printed of a part.
 use Rattle.std.proofs.Common.{◌≡◌, ℕ, Bool, true, false, List, [], ◌∷◌, ◌++◌, Option, None}
 use Rattle.std.proofs.Common.{Some, Result, Ok, Err, inl, inr, ⊎_elim, refl, ◌∙◌, codes, encode_utf8_all}
 use Rattle.std.proofs.lemmas.Bool.{false≢true}
@@ -6,16 +6,15 @@ use Rattle.std.specs.Result.{IsErr}
 use Rattle.std.specs.declared.io.Error.{Error}
 use Rattle.tinyjson.proofs.Callers.{Appends_written}
 use Rattle.tinyjson.specs.Characters.{line_feed}
-use Rattle.tinyjson.specs.Grammar.{IsText}
 use Rattle.tinyjson.specs.Tree.{Tree, null, boolean, number, string, array, object}
 use Rattle.tinyjson.specs.Written.{Written, WrittenPart}
 use Rattle.tinyjson_cli.specs.Layout.{laid_out}
 use Rattle.tinyjson_cli.specs.Texts.{Answers}
 use Rattle.tinyjson_cli.specs.declared.texts.NoAnswer.{NoAnswer}
-use Rattle.tinyjson_cli.specs.declared.texts.NoAnswer.TheVariants.{Refused, No}
+use Rattle.tinyjson_cli.specs.declared.texts.NoAnswer.TheVariants.{Refused, No, Failed}
 use Rattle.tinyjson_document.specs.Parts.{string_in}
 use Rattle.tinyjson_pointer.specs.Walk.{part_at}
-use Rattle.json_part.specs.Part.{GivesMissing, GivesPart, GivesPartOf, part_or_null, printed, printed_as}
+use Rattle.json_part.specs.Part.{GivesMissing, GivesPart, part_or_null, printed, printed_as}
 use Rattle.json_part.specs.declared.part.Form.{Form}
 
 pub part_found : (b : Bool) (o : Option Tree) (u : Tree) → o ≡ Some u → part_or_null b o ≡ Some u
@@ -64,26 +63,20 @@ null_text false false = refl
 
 module _ (form : Form) (ks : List (List ℕ)) (t : Tree) (old new : Option (List ℕ)) where
   module _ (u : Tree) (is : part_or_null form.or_null (part_at t ks) ≡ Some u) where
-    pub part_written : Written old new (printed form u) [] → Answers (GivesPartOf form ks t) old new (Ok None)
+    pub part_written : Written old new (printed form u) [] → Answers (GivesPart form ks t) old new (Ok None)
     part_written w = (printed form u, (u, is, refl), Appends_written old new _ w)
 
     pub part_begun : (r : Result (Option NoAnswer) Error) → IsErr r → WrittenPart old new (printed form u)
-        → Answers (GivesPartOf form ks t) old new r
+        → Answers (GivesPart form ks t) old new r
     part_begun (Ok x) i w = absurd (false≢true i)
     part_begun (Err e) i w = inr (printed form u, (u, is, refl), w)
 
   -- what is printed where the tokens name no part
   pub missing : (r : Result (Option NoAnswer) Error) → part_at t ks ≡ None → Answers (GivesMissing form.or_null) old new r
-      → Answers (GivesPartOf form ks t) old new r
+      → Answers (GivesPart form ks t) old new r
   missing (Ok None) e h = (h.0, (null, null_found form.or_null _ h.1.0 e, h.1.1 ∙ null_text form.is_raw form.is_indented), h.2)
   missing (Ok (Some (Refused c))) e h = absurd h.0
+  missing (Ok (Some (Failed w))) e h = absurd h.0
   missing (Ok (Some (No w))) e h = ((none_found form.or_null _ h.0.0 e, h.0.1), h.1)
   missing (Err x) e h =
       ⊎_elim (λ k. inl k) (λ k. inr (k.0, (null, null_found form.or_null _ k.1.0 e, k.1.1 ∙ null_text form.is_raw form.is_indented), k.2)) h
-
-  pub of_text : (text : List ℕ) (r : Result (Option NoAnswer) Error) → IsText None text t → Answers (GivesPartOf form ks t) old new r
-      → Answers (GivesPart form ks text) old new r
-  of_text text (Ok None) s w = (w.0, (t, s, w.1), w.2)
-  of_text text (Ok (Some (Refused c))) s w = absurd w.0
-  of_text text (Ok (Some (No x))) s w = ((t, s, w.0), w.1)
-  of_text text (Err e) s w = ⊎_elim (λ k. inl k) (λ k. inr (k.0, (t, s, k.1), k.2)) w

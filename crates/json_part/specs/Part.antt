@@ -1,11 +1,7 @@
--- What is printed, given a pointer, a form and a text.
+-- What is printed, given a pointer, a form and a value.
 use Rattle.std.specs.Prelude.{◌≡◌, ℕ, Bool, true, false, List, [], ◌∷◌, ◌++◌, Option, Some, None, Result, Ok, Err, ◌⊎◌}
 use Rattle.std.specs.Prelude.{codes, encode_utf8_all, string_bytes}
 use Rattle.tinyjson.specs.Characters.{line_feed}
-use Rattle.tinyjson.specs.Error.{error_kind}
-use Rattle.tinyjson.specs.Grammar.{IsText, IsAccepted}
-use Rattle.tinyjson.specs.JsonParseErrorKind.TheVariants as kind
-use Rattle.tinyjson.specs.Parser.{ParsesText}
 use Rattle.tinyjson.specs.Tree.{Tree, null, string}
 use Rattle.tinyjson_cli.specs.Failures.{failure_message, failure_status}
 use Rattle.tinyjson_cli.specs.Layout.{laid_out}
@@ -13,8 +9,7 @@ use Rattle.tinyjson_cli.specs.declared.failure.Failure.{Failure}
 use Rattle.tinyjson_cli.specs.declared.failure.Failure.TheVariants as failure
 use Rattle.tinyjson_cli.specs.declared.status.Status.TheVariants as status
 use Rattle.tinyjson_cli.specs.declared.texts.NoAnswer.{NoAnswer}
-use Rattle.tinyjson_cli.specs.declared.texts.NoAnswer.TheVariants.{Refused, No}
-use Rattle.tinyjson_lines.specs.declared.refusal.Cause.TheVariants.{NotJson}
+use Rattle.tinyjson_cli.specs.declared.texts.NoAnswer.TheVariants.{No}
 use Rattle.tinyjson_pointer.specs.Reading.{Reads, pointer_error_message}
 use Rattle.tinyjson_pointer.specs.Walk.{part_at}
 use Rattle.tinyjson_pointer.specs.declared.pointer.Pointer.{Pointer}
@@ -47,17 +42,11 @@ part_or_null true None = Some null
 part_or_null or_null found = found
 
 -- The part of the tree that the tokens name is printed, or there is none.
-abbrev pub GivesPartOf : Form → List (List ℕ) → Tree → Result (List ℕ) NoAnswer → Type 0
-GivesPartOf form ks t (Ok bytes) = (u : Tree) × (part_or_null form.or_null (part_at t ks) ≡ Some u) × (bytes ≡ printed form u)
-GivesPartOf form ks t (Err (No w)) =
+abbrev pub GivesPart : Form → List (List ℕ) → Tree → Result (List ℕ) NoAnswer → Type 0
+GivesPart form ks t (Ok bytes) = (u : Tree) × (part_or_null form.or_null (part_at t ks) ≡ Some u) × (bytes ≡ printed form u)
+GivesPart form ks t (Err (No w)) =
     (part_or_null form.or_null (part_at t ks) ≡ None) × (string_bytes w ≡ codes "the pointer names no part")
-GivesPartOf form ks t (Err _) = ⊥
-
--- The same for the tree of a text; or that is no JSON text, and this is the parser's error.
-abbrev pub GivesPart : Form → List (List ℕ) → List ℕ → Result (List ℕ) NoAnswer → Type 0
-GivesPart form ks text (Err (Refused (NotJson e))) =
-    ParsesText None text (Err e) × ¬ (error_kind e ≡ kind.OutOfMemory) × ¬ IsAccepted None text
-GivesPart form ks text f = (t : Tree) × IsText None text t × GivesPartOf form ks t f
+GivesPart form ks t (Err _) = ⊥
 
 -- What is printed where there is no part: null, or nothing. For a private contract.
 abbrev pub GivesMissing : Bool → Result (List ℕ) NoAnswer → Type 0

@@ -6,14 +6,13 @@ mod options;
 mod part;
 mod pointer;
 
-use options::{NULL, RAW, Request, requested};
-use part::Asked;
+use options::{NULL, form_asked};
+use part::Part;
 use pointer::read_pointer;
 use std::process::ExitCode;
-use tinyjson_buffers::Buffers;
 use tinyjson_cli::{
-    HELP, INDENT, LINES, MAX_LINE, Misuse, Program, Status, VERSION, answer_texts, argument_words,
-    arguments_of, misused, report,
+    HELP, INDENT, LINES, MAX_LINE, Program, RAW, Status, VERSION, Values, argument_words,
+    arguments_of, needed_operand, or_report, run_tool, texts_asked,
 };
 
 const PROGRAM: Program<'static> = Program {
@@ -65,27 +64,12 @@ fn main(rt: HostRuntime) -> ExitCode {
 fn run(rt: &HostRuntime) -> Result<Status, Status> {
     let words = argument_words(rt, PROGRAM)?;
     let arguments = arguments_of(rt, PROGRAM, words.as_slice())?;
-    let Some(
-        Request {
-            texts,
-            form,
-            pointer,
-            files,
-        },
-    ) = requested(&arguments)
-    else {
-        return Err(misused(rt, PROGRAM, Misuse::Missing("POINTER")));
+    let (pointer, files) = needed_operand(rt, PROGRAM, &arguments, "POINTER")?;
+    let pointer = or_report(rt, PROGRAM, read_pointer(rt.alloc(), pointer))?;
+    let part = Part {
+        pointer: &pointer,
+        form: form_asked(&arguments),
     };
-    match read_pointer(rt.alloc(), pointer) {
-        Ok(pointer) => {
-            let buffers = Buffers::new(rt.alloc());
-            let asked = Asked {
-                pointer: &pointer,
-                form,
-                buffers: &buffers,
-            };
-            Ok(answer_texts(rt, PROGRAM, texts, files, asked))
-        }
-        Err(failure) => Err(report(rt, PROGRAM, None, &failure)),
-    }
+    let tool = Values::new(rt.alloc(), part, None);
+    Ok(run_tool(rt, PROGRAM, texts_asked(&arguments), files, tool))
 }

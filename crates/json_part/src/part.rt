@@ -1,22 +1,19 @@
-//! Prints the part of a text that a pointer names.
-ghost use Rattle.std.specs.Prelude.{◌++◌, ◌∷◌, [], ℕ, List, None, encode_utf8_all};
+//! Prints the part of a value that a pointer names.
+ghost use Rattle.std.specs.Prelude.{◌++◌, ◌∷◌, [], encode_utf8_all};
 ghost use Rattle.std.specs.Str.{chars};
 ghost use Rattle.tinyjson.specs.Characters.{line_feed};
-ghost use Rattle.tinyjson.specs.Events.{TellsText};
 ghost use Rattle.tinyjson.specs.Written.{WritesPrefix};
 ghost use Rattle.tinyjson_cli.specs.Layout.{laid_out};
 ghost use Rattle.tinyjson_cli.specs.Texts.{Answers};
-ghost use Rattle.tinyjson_document.specs.Document.{document_tree, tree, HasTree};
+ghost use Rattle.tinyjson_document.specs.Document.{tree};
 ghost use Rattle.tinyjson_pointer.specs.Tokens.{tokens_of};
-ghost use Rattle.json_part.specs.Part.{GivesMissing, GivesPart, GivesPartOf, printed};
+ghost use Rattle.json_part.specs.Part.{GivesMissing, GivesPart, printed};
 
 use std::alloc::Global;
 use std::io::{self, Write};
-use tinyjson::JsonParseError;
-use tinyjson_buffers::Buffers;
-use tinyjson_cli::{NoAnswer, TextAnswer};
-use tinyjson_document::{Document, Node};
-use tinyjson_lines::{Cause, write_all};
+use tinyjson_cli::{NoAnswer, ValueTool};
+use tinyjson_document::Node;
+use tinyjson_lines::write_all;
 use tinyjson_pointer::Pointer;
 
 /// How a part is printed.
@@ -30,82 +27,32 @@ pub struct Form {
     pub or_null: bool,
 }
 
-/// What is asked of each text: the part that a pointer names, in a form.
+/// The part of each value that a pointer names, in a form.
 #[derive(Clone, Copy)]
-pub struct Asked<'a> {
+pub struct Part<'a> {
     pub pointer: &'a Pointer,
     pub form: Form,
-    /// The memory that the lines are read into, one after another.
-    pub buffers: &'a Buffers,
 }
 
 /// ```
-/// asked.answer_text(alloc, r#"{"a":[7.0]}"#, &mut output)?; // where `/a/0` is asked: writes 7 and a line feed
+/// part.answer_value(alloc, value, len, &mut output)?; // of /a/0 in {"a":[7]}: writes 7 and a line feed
 /// ```
-impl TextAnswer for Asked<'_> {
-    ghost gives = { λ a text f. GivesPart a.form (tokens_of a.pointer.now) text f };
+impl ValueTool for Part<'_> {
+    ghost gives = { λ a _ t f. GivesPart a.form (tokens_of a.pointer.now) t f };
 
-    fn answer_text<W: Write>(
+    fn answer_value<W: Write>(
         &self,
         alloc: Global,
-        text: &str,
+        value: Node<'_>,
+        _: usize,
         output: &mut W,
     ) -> io::Result<Option<NoAnswer>> {
-        let read = self.buffers.read(text);
-        let answered = answer_read(alloc, *self, &read, output);
-        if let Ok(document) = read {
-            self.buffers.recycle(document);
-        }
-        answered
+        let Some(part) = self.pointer.find_part(value) else {
+            return answer_missing(alloc, self.form.or_null, output);
+        };
+        write_part(alloc, part, self.form, output)?;
+        Ok(None)
     }
-
-    fn answer_owned<W: Write>(
-        &self,
-        alloc: Global,
-        text: String,
-        output: &mut W,
-    ) -> io::Result<Option<NoAnswer>> {
-        answer_read(alloc, *self, &Document::of_text(alloc, text), output)
-    }
-}
-
-/// Answers for what was read of a text.
-fn answer_read<W: Write>(
-    alloc: Global,
-    asked: Asked<'_>,
-    read: &Result<Document, JsonParseError>,
-    output: &mut W,
-) -> io::Result<Option<NoAnswer>>
-    ensures { (text : List ℕ) → TellsText HasTree None text read.now
-        → Answers (GivesPart asked.entry.form (tokens_of asked.entry.pointer.now) text)
-        (W.contents output.old) (W.contents output.new) result }
-{
-    match read {
-        Ok(document) => answer_document(alloc, asked, document, output),
-        Err(error) => {
-            if error.is_out_of_memory() {
-                return Err((*error).into());
-            }
-            Ok(Some(NoAnswer::Refused(Cause::NotJson(*error))))
-        }
-    }
-}
-
-/// Prints the part of a document.
-fn answer_document<W: Write>(
-    alloc: Global,
-    asked: Asked<'_>,
-    document: &Document,
-    output: &mut W,
-) -> io::Result<Option<NoAnswer>>
-    ensures { Answers (GivesPartOf asked.entry.form (tokens_of asked.entry.pointer.now)
-        (document_tree document.now)) (W.contents output.old) (W.contents output.new) result }
-{
-    let Some(part) = asked.pointer.find_part(document.root()) else {
-        return answer_missing(alloc, asked.form.or_null, output);
-    };
-    write_part(alloc, part, asked.form, output)?;
-    Ok(None)
 }
 
 /// Prints null where there is no part, if that is asked.

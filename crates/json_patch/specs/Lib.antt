@@ -1,4 +1,2 @@
-pub mod Answers
 pub mod Apply
-pub mod Options
 pub mod Reading

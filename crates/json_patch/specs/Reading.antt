@@ -1,16 +1,13 @@
 -- A patch that is read.
-use Rattle.std.specs.Prelude.{◌≡◌, ℕ, List, ◌++◌, Option, Some, Result, Ok, Err, ◌⊎◌, IsErrAnd, codes}
-use Rattle.tinyjson.specs.Error.{error_kind, error_message}
+use Rattle.std.specs.Prelude.{◌≡◌, ℕ, List, Option, Some, Result, Ok, Err, ◌⊎◌, IsErrAnd, codes}
 use Rattle.tinyjson.specs.Grammar.{IsText}
-use Rattle.tinyjson.specs.JsonParseErrorKind.TheVariants as kind
 use Rattle.tinyjson.specs.Parser.{ParsesText}
 use Rattle.tinyjson.specs.Tree.{Tree}
 use Rattle.tinyjson.specs.declared.parser.error.JsonParseError.{JsonParseError}
 use Rattle.tinyjson_cli.specs.Ending.{IsOfNamed}
-use Rattle.tinyjson_cli.specs.Failures.{failure_message, failure_status}
+use Rattle.tinyjson_cli.specs.Naming.{IsMisuse, IsNoText}
 use Rattle.tinyjson_cli.specs.declared.failure.Failure.{Failure}
 use Rattle.tinyjson_cli.specs.declared.failure.Failure.TheVariants as failure
-use Rattle.tinyjson_cli.specs.declared.status.Status.TheVariants as status
 use Rattle.tinyjson_patch.specs.Document.{ReadsPatch}
 use Rattle.tinyjson_patch.specs.Message.{patch_error_message}
 use Rattle.tinyjson_patch.specs.declared.fault.PatchError.{PatchError}
@@ -21,18 +18,10 @@ use Rattle.tinyjson_patch.specs.declared.patch.Patch.{Patch}
 abbrev pub patch_depth : Option ℕ
 patch_depth = Some 1000
 
--- the failure with this message about the patch, or memory ran out
-abbrev pub IsMisuse : List ℕ → Failure → Type 0
-IsMisuse message f =
-    ((failure_status f ≡ status.Misused) × (failure_message f ≡ Some (codes "the patch: " ++ message))) ⊎ (f ≡ failure.OutOfMemory)
-
--- for a text that is no JSON text, and for a document that is no patch
-abbrev pub IsNoText : JsonParseError → Failure → Type 0
-IsNoText e f = IsMisuse (error_message e) f × (error_kind e ≡ kind.OutOfMemory → f ≡ failure.OutOfMemory)
-
+-- The failure has the message of the error, or memory ran out.
 abbrev pub IsNoPatch : PatchError → Failure → Type 0
 IsNoPatch document.OutOfMemory f = f ≡ failure.OutOfMemory
-IsNoPatch e f = IsMisuse (patch_error_message e) f
+IsNoPatch e f = IsMisuse (codes "the patch") (patch_error_message e) f
 
 -- The patch of a document, or the failure for the error.
 abbrev pub ReadsDocument : Tree → Result Patch Failure → Type 0
@@ -43,7 +32,7 @@ ReadsDocument d (Err f) = (e : PatchError) × ReadsPatch d (Err e) × IsNoPatch 
 abbrev pub ReadsPatchText : List ℕ → Result Patch Failure → Type 0
 ReadsPatchText text (Ok p) = (d : Tree) × IsText patch_depth text d × ReadsDocument d (Ok p)
 ReadsPatchText text (Err f) =
-    ((e : JsonParseError) × ParsesText patch_depth text (Err e) × IsNoText e f)
+    ((e : JsonParseError) × ParsesText patch_depth text (Err e) × IsNoText (codes "the patch") e f)
     ⊎ ((d : Tree) × IsText patch_depth text d × ReadsDocument d (Err f))
 
 -- The patch of a file's text, or the failure for it; or that of a file that can't be read.

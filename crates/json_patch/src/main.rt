@@ -2,19 +2,15 @@
 //! arguments and the statuses.
 #![tactic(auto)]
 
-mod answers;
 mod apply;
-mod options;
 mod reading;
 
 use apply::Asked;
-use options::{Request, requested};
 use reading::read_patch;
 use std::process::ExitCode;
-use tinyjson_buffers::Buffers;
 use tinyjson_cli::{
-    HELP, IN_PLACE, INDENT, LINES, MAX_LINE, Misuse, Program, Status, VERSION, answer_files,
-    answer_in_place, answer_texts, argument_words, arguments_of, misused, report,
+    HELP, IN_PLACE, INDENT, LINES, MAX_LINE, Program, Status, VERSION, Values, argument_words,
+    arguments_of, needed_operand, or_report, run_tool, texts_asked,
 };
 
 const PROGRAM: Program<'static> = Program {
@@ -69,33 +65,12 @@ fn main(rt: HostRuntime) -> ExitCode {
 fn run(rt: &HostRuntime) -> Result<Status, Status> {
     let words = argument_words(rt, PROGRAM)?;
     let arguments = arguments_of(rt, PROGRAM, words.as_slice())?;
-    let Some(
-        Request {
-            texts,
-            is_indented,
-            patch,
-            files,
-        },
-    ) = requested(&arguments)
-    else {
-        return Err(misused(rt, PROGRAM, Misuse::Missing("PATCH")));
+    let (patch, files) = needed_operand(rt, PROGRAM, &arguments, "PATCH")?;
+    let patch = or_report(rt, PROGRAM, read_patch(rt, patch))?;
+    let asked = Asked {
+        patch: &patch,
+        is_indented: arguments.has(b'i'),
     };
-    match read_patch(rt, patch) {
-        Ok(patch) => {
-            let buffers = Buffers::new(rt.alloc());
-            let asked = Asked {
-                patch: &patch,
-                is_indented,
-                buffers: &buffers,
-            };
-            if arguments.has(b'I') {
-                return Ok(answer_in_place(rt, PROGRAM, texts, files, &asked));
-            }
-            if texts.by_lines {
-                return Ok(answer_texts(rt, PROGRAM, texts, files, asked));
-            }
-            Ok(answer_files(rt, PROGRAM, files, &asked))
-        }
-        Err(failure) => Err(report(rt, PROGRAM, None, &failure)),
-    }
+    let tool = Values::new(rt.alloc(), asked, None);
+    Ok(run_tool(rt, PROGRAM, texts_asked(&arguments), files, tool))
 }

@@ -1,12 +1,12 @@
 //! The patch that the arguments name.
 ghost use Rattle.std.specs.Str.{chars};
 ghost use Rattle.tinyjson.specs.View.{view};
-ghost use Rattle.json_patch.specs.Reading.{IsNoPatch, IsNoText, ReadsDocument, ReadsPatchText};
+ghost use Rattle.json_patch.specs.Reading.{IsNoPatch, ReadsDocument, ReadsPatchText};
 ghost use Rattle.json_patch.specs.Reading.{ReadsPatchFile, patch_depth};
 
 use std::alloc::Global;
-use tinyjson::{JsonParseError, JsonValue};
-use tinyjson_cli::{Failure, read_named};
+use tinyjson::JsonValue;
+use tinyjson_cli::{Failure, named_text_failure, read_named};
 use tinyjson_patch::{Patch, PatchError};
 
 /// How many containers may be nested in a patch: freeing it takes stack with its nesting.
@@ -26,7 +26,7 @@ fn patch_of(alloc: Global, text: &str) -> Result<Patch, Failure>
 {
     match JsonValue::from_str_with_depth_limit(alloc, text, PATCH_DEPTH) {
         Ok(document) => patch_of_document(alloc, &document),
-        Err(error) => Err(text_failure(alloc, error)),
+        Err(error) => Err(named_text_failure(alloc, "the patch", error)),
     }
 }
 
@@ -36,19 +36,6 @@ fn patch_of_document(alloc: Global, document: &JsonValue) -> Result<Patch, Failu
     match Patch::from_value(alloc, document) {
         Ok(patch) => Ok(patch),
         Err(error) => Err(document_failure(alloc, error)),
-    }
-}
-
-/// The failure for a text that is no JSON text.
-fn text_failure(alloc: Global, error: JsonParseError) -> Failure
-    ensures { IsNoText error result }
-{
-    if error.is_out_of_memory() {
-        return Failure::OutOfMemory;
-    }
-    match format!(in alloc; "the patch: {error}") {
-        Ok(words) => Failure::Misused(words),
-        Err(_) => Failure::OutOfMemory,
     }
 }
 

@@ -1,4 +1,4 @@
--- What is printed of nodes is what is printed of a text.
+-- What is printed of nodes.
 use Rattle.std.proofs.Common.{◌≡◌, ◌==◌, ℕ, true, false, not, List, [], ◌∷◌, ◌++◌, length, Bool, subst, Option, None}
 use Rattle.std.proofs.Common.{Some, ◌||◌, Result, Ok, Err, inl, inr, refl, sym, ap, ◌∙◌, ⊎_elim, arith, suc, encode_utf8_all}
 use Rattle.std.proofs.lemmas.Bool.Decides.{nat_tests}
@@ -10,7 +10,6 @@ use Rattle.std.specs.HashSet.{contains_text}
 use Rattle.std.specs.Result.{IsErr}
 use Rattle.std.specs.declared.io.Error.{Error}
 use Rattle.tinyjson.proofs.Callers.{Appends_written}
-use Rattle.tinyjson.specs.Grammar.{IsText}
 use Rattle.tinyjson.specs.Tree.{Tree, null, boolean, number, string, array, object}
 use Rattle.tinyjson.specs.Text.{compact}
 use Rattle.tinyjson.specs.Written.{Written, WrittenPart}
@@ -21,7 +20,7 @@ use Rattle.tinyjson_path.specs.Patterns.{judged}
 use Rattle.tinyjson_path.specs.Queries.{is_some_part, query_parts}
 use Rattle.tinyjson_path.specs.declared.node.Located.{Located}
 use Rattle.tinyjson_path.specs.declared.patterns.PatternLimit.{PatternLimit}
-use Rattle.json_path.specs.Selected.{Answers, GivesNodes, GivesParts, GivesRest, GivesSelected, GivesText, is_answer, printed}
+use Rattle.json_path.specs.Selected.{Answers, GivesNodes, GivesParts, GivesRest, GivesSelected, is_answer, printed}
 use Rattle.json_path.specs.Places.{has_path}
 use Rattle.json_path.specs.Shapes.{begun, layout_text, raw_text}
 use Rattle.json_path.specs.Without.{is_at, path_bytes, without}
@@ -29,7 +28,7 @@ use Rattle.json_path.specs.declared.places.Places.{Places}
 use Rattle.json_path.specs.declared.selected.Form.{Form}
 use Rattle.json_path.specs.declared.selected.Layout.{Layout}
 use Rattle.json_path.specs.declared.selected.Unanswered.{Unanswered}
-use Rattle.json_path.specs.declared.selected.Unanswered.TheVariants.{Refused, NoNode, NothingLeft, Pattern}
+use Rattle.json_path.specs.declared.selected.Unanswered.TheVariants.{NoNode, NothingLeft, Pattern}
 use Rattle.json_path.specs.declared.selected.Wanted.{Wanted}
 use Rattle.json_path.specs.declared.selected.Wanted.TheVariants.{Selected, Rest}
 
@@ -95,7 +94,6 @@ module _ (wanted : Wanted) (q : Query) (old new : Option (List ℕ)) (t : Tree) 
   pub of_parts : (ps : List Part) (r : Result (Option Unanswered) Error) → ps ≡ query_parts judged q t
       → Answers (GivesParts wanted t ps) old new r → Answers (GivesNodes judged wanted q t) old new r
   of_parts ps (Ok None) p w = (w.0, subst (λ z. GivesParts wanted t z (Ok w.0)) p w.1, w.2)
-  of_parts ps (Ok (Some (Refused e))) p w = (subst (λ z. GivesParts wanted t z (Err (Refused e))) p w.0, w.1)
   of_parts ps (Ok (Some NoNode)) p w = (subst (λ z. GivesParts wanted t z (Err NoNode)) p w.0, w.1)
   of_parts ps (Ok (Some NothingLeft)) p w = (subst (λ z. GivesParts wanted t z (Err NothingLeft)) p w.0, w.1)
   of_parts ps (Ok (Some (Pattern l))) p w = absurd (no_pattern wanted ps l w.0)
@@ -104,19 +102,6 @@ module _ (wanted : Wanted) (q : Query) (old new : Option (List ℕ)) (t : Tree) 
       no_pattern (Selected form) ps l h = h
       no_pattern Rest ps l h = h
   of_parts ps (Err e) p w = ⊎_elim (λ k. inl k) (λ k. inr (k.0, subst (λ z. GivesParts wanted t z (Ok k.0)) p k.1, k.2)) w
-
-  pub of_tree : (text : List ℕ) (r : Result (Option Unanswered) Error) → IsText None text t
-      → Answers (GivesNodes judged wanted q t) old new r → Answers (GivesText judged wanted q text) old new r
-  of_tree text (Ok None) s w = (w.0, (t, s, w.1), w.2)
-  of_tree text (Ok (Some (Refused e))) s w = absurd (no_refusal wanted w.0)
-    where
-      no_refusal : (w : Wanted) → GivesParts w t (query_parts judged q t) (Err (Refused e)) → ⊥
-      no_refusal (Selected form) h = h
-      no_refusal Rest h = h
-  of_tree text (Ok (Some NoNode)) s w = ((t, s, w.0), w.1)
-  of_tree text (Ok (Some NothingLeft)) s w = ((t, s, w.0), w.1)
-  of_tree text (Ok (Some (Pattern l))) s w = ((t, s, w.0), w.1)
-  of_tree text (Err e) s w = ⊎_elim (λ k. inl k) (λ k. inr (k.0, (t, s, k.1), k.2)) w
 
 -- ---- the rest
 

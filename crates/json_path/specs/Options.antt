@@ -1,9 +1,7 @@
 -- The program's arguments.
-use Rattle.std.specs.Prelude.{◌≡◌, ◌≢◌, ◌⊎◌, ℕ, Bool, true, false, ◌&&◌, not, cond, List, [], ◌∷◌, ◌++◌, Option, option_map}
+use Rattle.std.specs.Prelude.{◌≡◌, ◌≢◌, ◌⊎◌, ℕ, Bool, true, false, ◌&&◌, not, cond, List, [], ◌∷◌, ◌++◌}
 use Rattle.tinyjson.specs.Characters.{line_feed}
-use Rattle.tinyjson_cli.specs.Arguments.{Given, first_operand, is_given}
-use Rattle.tinyjson_cli.specs.Texts.{texts_given}
-use Rattle.tinyjson_cli.specs.declared.texts.Texts.{Texts}
+use Rattle.tinyjson_cli.specs.Arguments.{Given, is_given}
 use Rattle.json_path.specs.declared.selected.Form.{Form}
 use Rattle.json_path.specs.declared.selected.Layout.{Layout}
 use Rattle.json_path.specs.declared.selected.Layout.TheVariants.{Compact, Indented}
@@ -32,11 +30,6 @@ form_asked a = record {
 -- with `-v` the rest, whatever else is given
 abbrev pub wanted_asked : Given → Wanted
 wanted_asked a = cond (is_given 118 a) Rest (Selected (form_asked a))
-
--- how the texts are found; what is asked of each; whether a file has the query; the query or its file; and
--- the files with the texts
-abbrev pub asks : Given → Option ((Texts × (Wanted × Bool)) × (List ℕ × List (List ℕ)))
-asks a = option_map (λ o. ((texts_given a, (wanted_asked a, is_given 113 a)), o)) (first_operand a.operands)
 
 -- the text of a file, and the same without the line feed that ends it, if one does
 abbrev pub IsWithoutEnd : List ℕ → List ℕ → Type 0

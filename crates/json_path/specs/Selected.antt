@@ -1,4 +1,4 @@
--- What is printed, given a query and a text: what is selected, or the rest.
+-- What is printed, given a query and a value: what is selected, or the rest.
 use Rattle.std.specs.Prelude.{◌≡◌, ℕ, Bool, true, false, ◌||◌, cond, List, [], ◌∷◌, ◌++◌, Option, None, Some, Result}
 use Rattle.std.specs.Prelude.{Ok, Err, ◌⊎◌, codes, Any}
 use Rattle.std.specs.Prelude.{encode_utf8_all}
@@ -7,10 +7,6 @@ use Rattle.std.specs.IoError.{error_kind as io_kind}
 use Rattle.std.specs.declared.io.Error.{Error}
 use Rattle.std.specs.declared.io.ErrorKind.TheVariants as io
 use Rattle.tinyjson.specs.Characters.{line_feed}
-use Rattle.tinyjson.specs.Error.{error_kind, error_message}
-use Rattle.tinyjson.specs.Grammar.{IsText, IsAccepted}
-use Rattle.tinyjson.specs.JsonParseErrorKind.TheVariants as kind
-use Rattle.tinyjson.specs.Parser.{ParsesText}
 use Rattle.tinyjson.specs.Text.{compact}
 use Rattle.tinyjson.specs.Tree.{Tree}
 use Rattle.tinyjson.specs.Written.{WrittenPart}
@@ -24,13 +20,12 @@ use Rattle.json_path.specs.Shapes.{array_line, lines_of}
 use Rattle.json_path.specs.Without.{is_at, without}
 use Rattle.json_path.specs.declared.selected.Form.{Form}
 use Rattle.json_path.specs.declared.selected.Unanswered.{Unanswered}
-use Rattle.json_path.specs.declared.selected.Unanswered.TheVariants.{Refused, NoNode, NothingLeft, Pattern}
+use Rattle.json_path.specs.declared.selected.Unanswered.TheVariants.{NoNode, NothingLeft, Pattern}
 use Rattle.json_path.specs.declared.selected.Wanted.{Wanted}
 use Rattle.json_path.specs.declared.selected.Wanted.TheVariants.{Selected, Rest}
 
 -- the message of a text that has no answer
 abbrev pub unanswered_message : Unanswered → List ℕ
-unanswered_message (Refused e) = error_message e
 unanswered_message NoNode = codes "the query selects no node"
 unanswered_message NothingLeft = codes "nothing is left"
 unanswered_message (Pattern l) = limit_message l
@@ -65,12 +60,6 @@ abbrev pub GivesNodes : Judge → Wanted → Query → Tree → Result (List ℕ
 GivesNodes judge wanted q t (Err (Pattern l)) = Any (Exceeds l) (query_strings q ++ strings_in t)
 GivesNodes judge wanted q t f = GivesParts wanted t (query_parts judge q t) f
 
--- The same for the tree of a text; or that is no JSON text, and this is the parser's error.
-abbrev pub GivesText : Judge → Wanted → Query → List ℕ → Result (List ℕ) Unanswered → Type 0
-GivesText judge wanted q text (Err (Refused e)) =
-    ParsesText None text (Err e) × ¬ (error_kind e ≡ kind.OutOfMemory) × ¬ IsAccepted None text
-GivesText judge wanted q text f = (t : Tree) × IsText None text t × GivesNodes judge wanted q t f
-
 -- The answer is written; or there is none, and nothing is. After an error of the writer, or if memory runs out, a prefix of
 -- the answer is written, or nothing.
 abbrev pub Answers : (Result (List ℕ) Unanswered → Type 0) → Option (List ℕ) → Option (List ℕ) → Result (Option Unanswered) Error → Type 0
@@ -80,6 +69,6 @@ Answers gives held holds (Err e) =
     ((io_kind e ≡ io.OutOfMemory) × Keeps held holds) ⊎ ((bytes : List ℕ) × gives (Ok bytes) × WrittenPart held holds bytes)
 
 -- The answer, with right answers for regular expressions.
-abbrev pub AnswersWanted : Wanted → Query → List ℕ → Option (List ℕ) → Option (List ℕ) → Result (Option Unanswered) Error → Type 0
-AnswersWanted wanted q text held holds result =
-    (judge : Judge) × IsRight judge × Answers (GivesText judge wanted q text) held holds result
+abbrev pub AnswersWanted : Wanted → Query → Tree → Option (List ℕ) → Option (List ℕ) → Result (Option Unanswered) Error → Type 0
+AnswersWanted wanted q t held holds result =
+    (judge : Judge) × IsRight judge × Answers (GivesNodes judge wanted q t) held holds result

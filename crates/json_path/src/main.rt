@@ -4,7 +4,6 @@
 
 mod answers;
 mod array;
-mod failure;
 mod lines;
 mod options;
 mod places;
@@ -13,13 +12,12 @@ mod rest;
 mod selected;
 
 use answers::Asked;
-use options::{EMPTY, FLAT, PATHS, QUERY_FILE, RAW, REST, Request, requested, without_end};
+use options::{EMPTY, FLAT, PATHS, QUERY_FILE, REST, wanted_of, without_end};
 use query::read_query;
 use std::process::ExitCode;
-use tinyjson_buffers::Buffers;
 use tinyjson_cli::{
-    Failure, HELP, INDENT, LINES, MAX_LINE, Misuse, Program, Status, VERSION, answer_files,
-    answer_texts, argument_words, arguments_of, misused, read_named, report,
+    Failure, HELP, INDENT, LINES, MAX_LINE, Program, RAW, Status, VERSION, Values, argument_words,
+    arguments_of, needed_operand, or_report, read_named, run_tool, texts_asked,
 };
 use tinyjson_path::Query;
 
@@ -84,35 +82,21 @@ fn main(rt: HostRuntime) -> ExitCode {
 fn run(rt: &HostRuntime) -> Result<Status, Status> {
     let words = argument_words(rt, PROGRAM)?;
     let arguments = arguments_of(rt, PROGRAM, words.as_slice())?;
-    let Some(request) = requested(&arguments) else {
-        return Err(misused(rt, PROGRAM, Misuse::Missing("QUERY")));
-    };
-    match query_of(rt, &request) {
-        Ok(query) => Ok(answer(rt, &request, &query)),
-        Err(failure) => Err(report(rt, PROGRAM, None, &failure)),
-    }
-}
-
-/// The query of the arguments, or of the file that they name.
-fn query_of(rt: &HostRuntime, request: &Request<'_, '_>) -> Result<Query, Failure> {
-    if !request.is_file {
-        return read_query(rt.alloc(), request.query);
-    }
-    let text = read_named(rt, request.query)?;
-    read_query(rt.alloc(), without_end(text.as_str()))
-}
-
-/// Answers each input.
-fn answer(rt: &HostRuntime, request: &Request<'_, '_>, query: &Query) -> Status {
-    let wanted = request.wanted;
-    let buffers = Buffers::new(rt.alloc());
+    let (query, files) = needed_operand(rt, PROGRAM, &arguments, "QUERY")?;
+    let query = or_report(rt, PROGRAM, query_of(rt, query, arguments.has(b'q')))?;
     let asked = Asked {
-        query,
-        wanted,
-        buffers: &buffers,
+        query: &query,
+        wanted: wanted_of(&arguments),
     };
-    if request.texts.by_lines {
-        return answer_texts(rt, PROGRAM, request.texts, request.files, asked);
+    let tool = Values::new(rt.alloc(), asked, None);
+    Ok(run_tool(rt, PROGRAM, texts_asked(&arguments), files, tool))
+}
+
+/// The query of this text, or of the file that has this name.
+fn query_of(rt: &HostRuntime, text: &str, is_file: bool) -> Result<Query, Failure> {
+    if !is_file {
+        return read_query(rt.alloc(), text);
     }
-    answer_files(rt, PROGRAM, request.files, &asked)
+    let text = read_named(rt, text)?;
+    read_query(rt.alloc(), without_end(text.as_str()))
 }

@@ -1,11 +1,11 @@
 //! The program's arguments.
-ghost use Rattle.std.specs.Prelude.{◌≡◌, ◌&&◌, not, option_map, map};
+ghost use Rattle.std.specs.Prelude.{◌≡◌, ◌&&◌, not};
 ghost use Rattle.tinyjson_cli.specs.Arguments.{given_of};
-ghost use Rattle.json_path.specs.Options.{asks, form_asked, layout_asked, shape_asked, wanted_asked};
+ghost use Rattle.json_path.specs.Options.{form_asked, layout_asked, shape_asked, wanted_asked};
 ghost use Rattle.json_path.specs.Options.{IsWithoutEnd};
 
 use crate::selected::{Form, Layout, Shape, Wanted};
-use tinyjson_cli::{Arguments, Known, Texts, texts_asked};
+use tinyjson_cli::{Arguments, Known};
 
 /// `-p` and `--paths`.
 pub const PATHS: Known<'static> = Known {
@@ -18,13 +18,6 @@ pub const PATHS: Known<'static> = Known {
 pub const FLAT: Known<'static> = Known {
     letter: b'f',
     name: "flat",
-    takes: None,
-};
-
-/// `-r` and `--raw`.
-pub const RAW: Known<'static> = Known {
-    letter: b'r',
-    name: "raw",
     takes: None,
 };
 
@@ -49,42 +42,8 @@ pub const QUERY_FILE: Known<'static> = Known {
     takes: None,
 };
 
-/// A query, what is asked of texts, and the files with them.
-#[derive(Drop)]
-pub struct Request<'w, 'a> {
-    /// How the texts of an input are found.
-    pub texts: Texts,
-    /// What is asked of each text.
-    pub wanted: Wanted,
-    /// Whether a file with the query is named in its place.
-    pub is_file: bool,
-    /// The text of the query, or the name of its file.
-    pub query: &'w str,
-    /// The files with the texts.
-    pub files: &'a [&'w str],
-}
-
-/// Parses the arguments: `[-l [-m N] [-f]] [-p] [-i] [-r] [-e] [-v] [-q] QUERY [FILE..]`.
-pub fn requested<'w, 'a>(arguments: &'a Arguments<'w>) -> Option<Request<'w, 'a>>
-    ensures { option_map (λ r. (
-      (r.texts, (r.wanted, r.is_file)),
-      (r.query.now, map (λ f. f.now) r.files.now),
-    )) result ≡ asks (given_of arguments.now) }
-{
-    let texts = texts_asked(arguments);
-    let wanted = wanted_of(arguments);
-    let is_file = arguments.has(b'q');
-    let (query, files) = arguments.first()?;
-    Some(Request {
-        texts,
-        wanted,
-        is_file,
-        query,
-        files,
-    })
-}
-
-fn wanted_of(arguments: &Arguments<'_>) -> Wanted
+/// What is asked of each value.
+pub fn wanted_of(arguments: &Arguments<'_>) -> Wanted
     ensures { result ≡ wanted_asked (given_of arguments.now) }
 {
     let form = form_of(arguments);

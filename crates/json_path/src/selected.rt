@@ -1,14 +1,12 @@
-//! What a query selects in a text, or what is left without it.
-ghost use Rattle.std.specs.Prelude.{◌≡◌, ℕ, List, None, Some, string_bytes};
-ghost use Rattle.std.specs.Str.{chars};
-ghost use Rattle.tinyjson.specs.Events.{TellsText};
+//! What a query selects in a value, or what is left without it.
+ghost use Rattle.std.specs.Prelude.{◌≡◌, List, Some};
 ghost use Rattle.tinyjson.specs.Written.{WritesPrefix};
-ghost use Rattle.tinyjson_document.specs.Document.{HasTree, tree};
+ghost use Rattle.tinyjson_document.specs.Document.{tree};
 ghost use Rattle.tinyjson_path.specs.Nodes.{Part, Step, parts_view};
 ghost use Rattle.tinyjson_path.specs.Patterns.{judged};
 ghost use Rattle.tinyjson_path.specs.Selections.{left};
 ghost use Rattle.json_path.specs.Places.{has_path, IsBounded};
-ghost use Rattle.json_path.specs.Selected.{Answers, AnswersWanted, GivesNodes, GivesText};
+ghost use Rattle.json_path.specs.Selected.{Answers, AnswersWanted, GivesNodes};
 ghost use Rattle.json_path.specs.Selected.{GivesSelected, GivesRest, is_answer, printed, unanswered_message};
 ghost use Rattle.json_path.specs.Shapes.{begun};
 ghost use Rattle.json_path.specs.Without.{is_at};
@@ -21,9 +19,6 @@ use crate::rest::write_without;
 use std::alloc::Global;
 use std::fmt;
 use std::io::{self, ErrorKind, Write};
-use tinyjson::JsonParseError;
-use tinyjson_buffers::Buffers;
-use tinyjson_document::Document;
 use tinyjson_lines::write_all;
 use tinyjson_path::{FindError, Located, PatternLimit, Query, Selection, find_in, has_pattern};
 
@@ -57,20 +52,18 @@ pub struct Form {
     pub or_none: bool,
 }
 
-/// What is asked of a text.
+/// What is asked of a value.
 #[derive(Clone, Copy)]
 pub enum Wanted {
     /// What the query selects, in this form.
     Selected(Form),
-    /// The text without what the query selects.
+    /// The value without what the query selects.
     Rest,
 }
 
-/// Why a text has no answer.
+/// Why a value has no answer.
 #[derive(Drop)]
 pub enum Unanswered {
-    /// The text is no JSON text.
-    Refused(JsonParseError),
     /// The query selects no node.
     NoNode,
     /// The query selects the whole value, and nothing would be left.
@@ -85,7 +78,6 @@ impl fmt::Display for Unanswered {
 
     fn fmt<W: fmt::Write>(&self, f: &mut fmt::Formatter<W>) -> fmt::Result {
         match self {
-            Unanswered::Refused(error) => write!(f, "{error}"),
             Unanswered::NoNode => f.write_str("the query selects no node"),
             Unanswered::NothingLeft => f.write_str("nothing is left"),
             Unanswered::Pattern(limit) => write!(f, "{limit}"),
@@ -93,100 +85,24 @@ impl fmt::Display for Unanswered {
     }
 }
 
-/// Writes what the query selects in the text's value, in order, or the value without it; or returns why there is no
-/// answer.
+/// Writes what the query selects in the value, in order, or the value without it; or returns why there is no answer.
 ///
 /// After an error of the writer, or if memory runs out, a prefix may be written. The value may be nested to any depth.
 ///
 /// ```
-/// // of $.a[1:]: 2 and 3, on a line each; or {"a":[1]}
-/// write_answer(alloc, &query, r#"{"a":[1,2,3.0]}"#, wanted, &mut output)?;
+/// write_answer(alloc, &query, value, wanted, &mut output)?; // of $.a[1:] in {"a":[1,2,3]}: 2 and 3, on a line each
 /// ```
 pub fn write_answer<W: Write>(
     alloc: Global,
     query: &Query,
-    text: &str,
+    value: tinyjson_document::Node,
     wanted: Wanted,
     output: &mut W,
 ) -> io::Result<Option<Unanswered>>
-    ensures { AnswersWanted wanted query.now (chars text.now)
+    ensures { AnswersWanted wanted query.now (tree value.entry)
         (W.contents output.old) (W.contents output.new) result }
 {
-    write_read(alloc, query, &Document::read(alloc, text), wanted, output)
-}
-
-/// Does as [`write_answer`], in the memory of the buffers: for texts that are answered one after another.
-///
-/// ```
-/// let buffers = Buffers::new(alloc);
-/// write_answer_in(alloc, &buffers, &query, "[1]", wanted, &mut output)?;
-/// write_answer_in(alloc, &buffers, &query, "[2]", wanted, &mut output)?; // takes no new memory for the document
-/// ```
-pub fn write_answer_in<W: Write>(
-    alloc: Global,
-    buffers: &Buffers,
-    query: &Query,
-    text: &str,
-    wanted: Wanted,
-    output: &mut W,
-) -> io::Result<Option<Unanswered>>
-    ensures { AnswersWanted wanted query.now (chars text.now)
-        (W.contents output.old) (W.contents output.new) result }
-{
-    let read = buffers.read(text);
-    let answered = write_read(alloc, query, &read, wanted, output);
-    if let Ok(document) = read {
-        buffers.recycle(document);
-    }
-    answered
-}
-
-/// Does as [`write_answer`], for a text that is given up: its document keeps it.
-///
-/// ```
-/// let text = String::from_str(alloc, r#"{"a":[1,2,3.0]}"#)?;
-/// write_owned_answer(alloc, &query, text, wanted, &mut output)?; // of $.a[1:]: 2 and 3, on a line each; or {"a":[1]}
-/// ```
-pub fn write_owned_answer<W: Write>(
-    alloc: Global,
-    query: &Query,
-    text: String,
-    wanted: Wanted,
-    output: &mut W,
-) -> io::Result<Option<Unanswered>>
-    ensures { AnswersWanted wanted query.now (chars (string_bytes text))
-        (W.contents output.old) (W.contents output.new) result }
-{
-    write_read(
-        alloc,
-        query,
-        &Document::of_text(alloc, text),
-        wanted,
-        output,
-    )
-}
-
-/// The same for what was read of a text.
-fn write_read<W: Write>(
-    alloc: Global,
-    query: &Query,
-    read: &Result<Document, JsonParseError>,
-    wanted: Wanted,
-    output: &mut W,
-) -> io::Result<Option<Unanswered>>
-    ensures { (text : List ℕ) → TellsText HasTree None text read.now
-        → Answers (GivesText judged wanted query.now text)
-        (W.contents output.old) (W.contents output.new) result }
-{
-    match read {
-        Ok(document) => write_found(alloc, query, document.root(), wanted, output),
-        Err(error) => {
-            if error.is_out_of_memory() {
-                return Err((*error).into());
-            }
-            Ok(Some(Unanswered::Refused(*error)))
-        }
-    }
+    write_found(alloc, query, value, wanted, output)
 }
 
 fn write_found<W: Write>(

@@ -1,89 +1,67 @@
 //! Counts the values of lines.
-ghost use Rattle.std.specs.Prelude.{◌≡◌};
+ghost use Rattle.std.specs.Prelude.{◌≡◌, IfOk, string_bytes};
 ghost use Rattle.tinyjson.specs.Tree.{Tree};
-ghost use Rattle.json_store.specs.Store.{count_of};
+ghost use Rattle.json_store.specs.Counts.{GivesCount, count_text};
+ghost use Rattle.json_store.specs.Store.{CountsOnce, count_of};
+ghost use Rattle.tinyjson_normal.specs.Normal.{HasTree};
 
 use crate::store::Store;
-use std::alloc::Global;
-use std::io::{self, BufRead, ErrorKind, Write};
-use std::str;
-use tinyjson_cli::{AnswerLines, RefusedLine, Status, tell};
-use tinyjson_lines::{Cause, LineRead, Refusal, content, read_line_within, write_all};
-use tinyjson_normal::NormalReader;
+use std::alloc::{AllocError, Global};
+use std::io::{self, Write};
+use tinyjson_cli::{Input, NoAnswer, Status, Tool};
+use tinyjson_lines::{Cause, write_all};
+use tinyjson_normal::{NormalReader, NormalText};
 
 /// How often each value was counted.
 #[derive(Drop)]
 pub struct Counter {
-    alloc: Global,
-    max_line: Option<usize>,
     reader: NormalReader,
     store: Store,
 }
 
 impl Counter {
-    /// A counter without values, for lines of at most `max_line` bytes.
-    pub fn new(alloc: Global, max_line: Option<usize>) -> Counter
-        ensures counts { (t : Tree) → count_of result.store t ≡ 0 }
-        ensures limit { result.max_line ≡ max_line }
+    /// A counter without values.
+    pub fn new(alloc: Global) -> Counter
+        ensures { (t : Tree) → count_of result.store t ≡ 0 }
     {
         Counter {
-            alloc,
-            max_line,
             reader: NormalReader::new(alloc),
             store: Store::new(alloc),
         }
     }
 
-    /// Counts the value of a line and writes it with its count; or returns why the line is rejected.
-    fn count<W: Write>(&mut self, line: &[u8], output: &mut W) -> io::Result<Option<Cause>> {
-        let Ok(text) = str::from_utf8(content(line)) else {
-            return Ok(Some(Cause::NotUtf8));
-        };
-        match self.reader.read(text, None) {
-            Ok(mut value) => {
-                self.store.add(self.alloc, &value)?;
-                let count = self.store.count(self.alloc, &value)?;
-                let count = format!(in self.alloc; "{count} ")?;
-                write_all(output, count.as_bytes())?;
-                value.write_line_to(self.alloc, output)?;
-                self.reader.reuse(value);
-                Ok(None)
-            }
-            Err(error) if error.is_out_of_memory() => Err(error.into()),
-            Err(error) => Ok(Some(Cause::NotJson(error))),
-        }
+    /// Counts a value, and returns its count as it is printed.
+    fn count(&mut self, alloc: Global, value: &NormalText) -> Result<String, AllocError>
+        ensures { (t : Tree) → HasTree value.now t → IfOk result (λ s.
+            CountsOnce self.old.store t self.new.store
+            × (string_bytes s ≡ count_text (count_of self.new.store t))) }
+    {
+        self.store.add(alloc, value)?;
+        let count = self.store.count(alloc, value)?;
+        format!(in alloc; "{count} ")
     }
 }
 
-impl AnswerLines for Counter {
-    fn answer<R: BufRead, W: Write, E: Write>(
+/// Counts the value of a text, and writes its count and its normal form.
+impl Tool for Counter {
+    ghost gives = { λ a _ text f b. GivesCount a.store text f b.store };
+
+    fn answer<W: Write>(
         &mut self,
-        file: Option<&str>,
-        input: &mut R,
+        alloc: Global,
+        input: Input<'_>,
         output: &mut W,
-        errors: &mut E,
-    ) -> io::Result<(bool, Status)> {
-        let mut line = Vec::new(self.alloc);
-        for number in 1..u64::MAX {
-            let refused = match read_line_within(input, &mut line, self.max_line)? {
-                LineRead::Whole => self.count(line.as_slice(), output)?,
-                LineRead::TooLong(max) => Some(Cause::TooLong(max)),
-                LineRead::End => {
-                    output.flush()?;
-                    return Ok((true, Status::Done));
-                }
-            };
-            if let Some(cause) = refused {
-                output.flush()?;
-                let refused = RefusedLine {
-                    program: "json_store",
-                    file,
-                    refusal: Refusal { number, cause },
-                };
-                tell(self.alloc, errors, &refused)?;
-                return Ok((false, Status::Refused));
+    ) -> io::Result<Result<Status, NoAnswer>> {
+        match self.reader.read(input.text.as_str(), None) {
+            Ok(mut value) => {
+                let count = self.count(alloc, &value)?;
+                write_all(output, count.as_bytes())?;
+                value.write_line_to(alloc, output)?;
+                self.reader.reuse(value);
+                Ok(Ok(Status::Done))
             }
+            Err(error) if error.is_out_of_memory() => Err(error.into()),
+            Err(error) => Ok(Err(NoAnswer::Refused(Cause::NotJson(error)))),
         }
-        Err(io::Error::new(ErrorKind::InvalidData, "too many lines"))
     }
 }

@@ -7,7 +7,7 @@ mod store;
 use count::Counter;
 use std::process::ExitCode;
 use tinyjson_cli::{
-    HELP, MAX_LINE, Program, Status, VERSION, answer_lines, argument_words, arguments_of,
+    HELP, MAX_LINE, Program, Status, VERSION, argument_words, arguments_of, lines_asked, run_tool,
 };
 
 const PROGRAM: Program<'static> = Program {
@@ -53,6 +53,7 @@ fn main(rt: HostRuntime) -> ExitCode {
 fn run(rt: &HostRuntime) -> Result<Status, Status> {
     let words = argument_words(rt, PROGRAM)?;
     let arguments = arguments_of(rt, PROGRAM, words.as_slice())?;
-    let mut counter = Counter::new(rt.alloc(), arguments.number(b'm'));
-    Ok(answer_lines(rt, PROGRAM, arguments.operands.as_slice(), &mut counter))
+    let texts = lines_asked(&arguments, false);
+    let counter = Counter::new(rt.alloc());
+    Ok(run_tool(rt, PROGRAM, texts, arguments.operands.as_slice(), counter))
 }

@@ -1,39 +1,49 @@
--- What is wrong with one file is no misuse; nor is the greater of two such statuses.
-use Rattle.std.proofs.Common.{◌≡◌, max, subst, sym}
+-- The greater of two statuses, of which one is `Failed`.
+use Rattle.std.proofs.Common.{◌≡◌, ◌∙◌, max, refl, subst, true}
 use Rattle.tinyjson_cli.specs.Failures.{failure_status, status_code}
 use Rattle.tinyjson_cli.specs.declared.failure.Failure.{Failure}
+use Rattle.tinyjson_cli.specs.declared.failure.Failure.TheVariants as failure
 use Rattle.tinyjson_cli.specs.declared.status.Status.{Status}
 use Rattle.tinyjson_cli.specs.declared.status.Status.TheVariants.{Done, No, Misused, Refused, Failed}
-use Rattle.tinyjson_cli.specs.Changing.{IsOfFiles}
+use Rattle.tinyjson_cli.specs.Changing.{is_last}
 
-no_misuse : (a b : Status) → IsOfFiles a → IsOfFiles b → ¬ (2 ≡ max (status_code a) (status_code b))
-no_misuse Misused b h k e = h
-no_misuse a Misused h k e = k
-no_misuse Done Done h k e = cc
-no_misuse Done No h k e = cc
-no_misuse Done Refused h k e = cc
-no_misuse Done Failed h k e = cc
-no_misuse No Done h k e = cc
-no_misuse No No h k e = cc
-no_misuse No Refused h k e = cc
-no_misuse No Failed h k e = cc
-no_misuse Refused Done h k e = cc
-no_misuse Refused No h k e = cc
-no_misuse Refused Refused h k e = cc
-no_misuse Refused Failed h k e = cc
-no_misuse Failed Done h k e = cc
-no_misuse Failed No h k e = cc
-no_misuse Failed Refused h k e = cc
-no_misuse Failed Failed h k e = cc
+greatest_failed : (a c : Status) → status_code c ≡ max (status_code a) 4 → c ≡ Failed
+greatest_failed a Failed e = refl
+greatest_failed Done Done e = cc
+greatest_failed Done No e = cc
+greatest_failed Done Misused e = cc
+greatest_failed Done Refused e = cc
+greatest_failed No Done e = cc
+greatest_failed No No e = cc
+greatest_failed No Misused e = cc
+greatest_failed No Refused e = cc
+greatest_failed Misused Done e = cc
+greatest_failed Misused No e = cc
+greatest_failed Misused Misused e = cc
+greatest_failed Misused Refused e = cc
+greatest_failed Refused Done e = cc
+greatest_failed Refused No e = cc
+greatest_failed Refused Misused e = cc
+greatest_failed Refused Refused e = cc
+greatest_failed Failed Done e = cc
+greatest_failed Failed No e = cc
+greatest_failed Failed Misused e = cc
+greatest_failed Failed Refused e = cc
 
-greatest : (a b c : Status) → IsOfFiles a → IsOfFiles b → status_code c ≡ max (status_code a) (status_code b) → IsOfFiles c
-greatest a b Misused h k e = no_misuse a b h k e
-greatest a b Done h k e = tt
-greatest a b No h k e = tt
-greatest a b Refused h k e = tt
-greatest a b Failed h k e = tt
+last_fails : (f : Failure) → is_last f ≡ true → failure_status f ≡ Failed
+last_fails failure.OutOfMemory e = refl
+last_fails failure.Closed e = refl
+last_fails (failure.Writing x) e = refl
+last_fails (failure.No w) e = cc
+last_fails (failure.Misused w) e = cc
+last_fails (failure.NotJson x) e = cc
+last_fails (failure.NotUtf8 p) e = cc
+last_fails (failure.Refused w) e = cc
+last_fails (failure.Failed w) e = refl
+last_fails (failure.Reading x) e = refl
 
--- the status after one more failure
-pub with_failure : (a b c : Status) (f : Failure) → IsOfFiles a → IsOfFiles (failure_status f) → b ≡ failure_status f
-    → status_code c ≡ max (status_code a) (status_code b) → IsOfFiles c
-with_failure a b c f h k is e = greatest a b c h (subst IsOfFiles (sym is) k) e
+-- the status after a failure that ends the run
+pub failed : (a b c : Status) (f : Failure) → is_last f ≡ true → b ≡ failure_status f
+    → status_code c ≡ max (status_code a) (status_code b) → c ≡ Failed
+failed a b c f h is e =
+    greatest_failed a c (subst (λ s. status_code c ≡ max (status_code a) (status_code s)) (is ∙ last_fails f h) e)

@@ -10,3 +10,9 @@ pub mod Texts
 pub mod Unanswered
 pub mod Folders
 pub mod Changing
+pub mod Outputs
+pub mod Tools
+pub mod Runs
+pub mod LineRuns
+pub mod Values
+pub mod Naming

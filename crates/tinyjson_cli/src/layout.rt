@@ -16,6 +16,13 @@ pub const INDENT: Known<'static> = Known {
     takes: None,
 };
 
+/// `-r` and `--raw`.
+pub const RAW: Known<'static> = Known {
+    letter: b'r',
+    name: "raw",
+    takes: None,
+};
+
 /// Writes the text of the value, compact or indented with two spaces, and a line feed.
 ///
 /// It stops at the first error, and then a prefix was written. It does not flush.

@@ -1,4 +1,6 @@
 //! The output of a program.
+ghost use Rattle.std.specs.Prelude.{◌≡◌};
+ghost use Rattle.tinyjson_cli.specs.Outputs.{watched_contents};
 
 use std::io::{self, ErrorKind, Write};
 
@@ -15,12 +17,16 @@ impl<W: Write> Watched<W> {
     }
 
     /// The error of the last write that failed, once.
-    pub(crate) fn take_error(&mut self) -> Option<io::Error> {
+    pub(crate) fn take_error(&mut self) -> Option<io::Error>
+        ensures { self.new.inner ≡ self.old.inner }
+    {
         self.error.take()
     }
 }
 
 impl<W: Write> Write for Watched<W> {
+    ghost contents = { watched_contents W.contents };
+
     fn write(&mut self, buf: &[u8]) -> io::Result<usize> {
         match self.inner.write(buf) {
             Ok(len) => Ok(len),

@@ -45,8 +45,12 @@ impl fmt::Display for UnansweredLine<'_> {
                 };
                 write!(f, "{refused}")
             }
-            (None, NoAnswer::No(words)) => write!(f, "{program}: line {number}: {words}"),
-            (Some(file), NoAnswer::No(words)) => write!(f, "{}:{number}: {words}", Shown(file)),
+            (None, NoAnswer::No(words) | NoAnswer::Failed(words)) => {
+                write!(f, "{program}: line {number}: {words}")
+            }
+            (Some(file), NoAnswer::No(words) | NoAnswer::Failed(words)) => {
+                write!(f, "{}:{number}: {words}", Shown(file))
+            }
         }
     }
 }

@@ -1,7 +1,6 @@
-use Rattle.std.specs.Str.{chars}
 use Rattle.tinyjson_path.proofs.Callers.{judged_right}
 use Rattle.tinyjson_path.specs.Patterns.{judged}
 use Rattle.json_path.proofs.selected.write_answer.Goals as goal
 
 pub returns : goal.returns
-returns g c = (judged, judged_right, c.write_read.ensures (chars c.args.text.now) c.read.ensures)
+returns g c = (judged, judged_right, c.write_found.ensures)
