@@ -60,8 +60,12 @@ impl Tool for Counter {
                 self.reader.reuse(value);
                 Ok(Ok(Status::Done))
             }
-            Err(error) if error.is_out_of_memory() => Err(error.into()),
-            Err(error) => Ok(Err(NoAnswer::Refused(Cause::NotJson(error)))),
+            Err(error) => {
+                if error.is_out_of_memory() {
+                    return Err(error.into());
+                }
+                Ok(Err(NoAnswer::Refused(Cause::NotJson(error))))
+            }
         }
     }
 }
