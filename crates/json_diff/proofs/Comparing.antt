@@ -1,5 +1,5 @@
 -- What is printed of a value.
-use Rattle.std.proofs.Common.{ℕ, Bool, true, false, List, [], Option, None, Some, Result, Ok, Err, inr, refl}
+use Rattle.std.proofs.Common.{ℕ, Bool, true, false, List, [], Option, None, Result, Ok, Err, inr, refl}
 use Rattle.std.proofs.lemmas.Bool.{false≢true}
 use Rattle.std.specs.Result.{IsErr}
 use Rattle.std.specs.declared.io.Error.{Error}

@@ -13,6 +13,7 @@ use Rattle.tinyjson_cli.specs.declared.status.Status.TheVariants as status
 use Rattle.tinyjson_cli.specs.declared.texts.NoAnswer.{NoAnswer}
 use Rattle.tinyjson_cli.specs.declared.texts.NoAnswer.TheVariants as no
 use Rattle.tinyjson_lines.specs.declared.refusal.Cause.TheVariants.{NotJson}
+use Rattle.json_format.specs.declared.form.Formatter.{Formatter}
 
 -- the bytes of a tree's text with this indent, and a line feed
 abbrev pub form_of : List ℕ → Tree → List ℕ
@@ -43,3 +44,7 @@ abbrev pub GivesFormatted : (is_check : Bool) → List ℕ → Option (List ℕ)
 GivesFormatted false indent file xs (Ok a) = (a.0 ≡ status.Done) × IsForm indent xs a.1
 GivesFormatted true indent file xs (Ok a) = IsChecked indent file xs a.0 a.1
 GivesFormatted is_check indent file xs (Err why) = IsNoForm xs why
+
+-- The same of a program that stays as it was. For private contracts.
+abbrev pub Formats : Formatter → Option (List ℕ) → List ℕ → Result (Status × List ℕ) NoAnswer → Formatter → Type 0
+Formats a file xs f b = GivesFormatted a.is_check (chars a.indent.now) file xs f × (b ≡ a)

@@ -1,13 +1,15 @@
 //! The form of a text.
+ghost use Rattle.std.specs.Bool.{Decides};
 ghost use Rattle.std.specs.IoError.{error_kind};
 ghost use Rattle.std.specs.Prelude.{◌≡◌, ◌∷◌, ◌++◌, [], IfErr};
-ghost use Rattle.std.specs.Prelude.{IfOk, IfSome, MatchResult, Some, encode_utf8_all, option_map, string_bytes};
+ghost use Rattle.std.specs.Prelude.{IfOk, IfSome, MatchResult, Some, encode_utf8_all, option_map, string_bytes, true};
 ghost use Rattle.std.specs.Str.{chars};
 ghost use Rattle.std.specs.declared.io.ErrorKind.{ErrorKind};
 ghost use Rattle.tinyjson.specs.Characters.{line_feed};
 ghost use Rattle.tinyjson.specs.Text.{text};
 ghost use Rattle.tinyjson.specs.View.{view};
-ghost use Rattle.json_format.specs.Form.{GivesFormatted, IsForm, IsNoForm, name_line};
+ghost use Rattle.tinyjson_cli.specs.Tools.{Answered};
+ghost use Rattle.json_format.specs.Form.{Formats, GivesFormatted, IsForm, IsNoForm, name_line};
 
 use std::alloc::{AllocError, Global};
 use std::io::{self, ErrorKind, Write};
@@ -34,19 +36,65 @@ impl Tool for Formatter<'_> {
         input: Input<'_>,
         output: &mut W,
     ) -> io::Result<Result<Status, NoAnswer>> {
-        let text = input.text.as_str();
-        let form = match formatted(alloc, text, self.indent)? {
-            Ok(form) => form,
-            Err(why) => return Ok(Err(why)),
-        };
-        if !self.is_check {
-            write_all(output, form.as_slice())?;
+        self.answer_text(alloc, input.text.as_str(), input.file, output)
+    }
+}
+
+impl Formatter<'_> {
+    fn answer_text<W: Write>(
+        &self,
+        alloc: Global,
+        text: &str,
+        file: Option<&str>,
+        output: &mut W,
+    ) -> io::Result<Result<Status, NoAnswer>>
+        ensures { Answered (Formats self.now (option_map (λ f. f.now) file.entry) (chars text.now))
+            self.now (W.contents output.old) (W.contents output.new) result }
+    {
+        match formatted(alloc, text, self.indent)? {
+            Ok(form) => self.answer_form(alloc, text, form.as_slice(), file, output),
+            Err(why) => Ok(Err(why)),
+        }
+    }
+
+    /// Prints the form of a text; or checks whether it is the text.
+    fn answer_form<W: Write>(
+        &self,
+        alloc: Global,
+        text: &str,
+        form: &[u8],
+        file: Option<&str>,
+        output: &mut W,
+    ) -> io::Result<Result<Status, NoAnswer>>
+        ensures { IsForm (chars self.now.indent.now) (chars text.now) form.now →
+            Answered (Formats self.now (option_map (λ f. f.now) file.entry) (chars text.now))
+            self.now (W.contents output.old) (W.contents output.new) result }
+    {
+        if self.is_check {
+            return self.check_form(alloc, text, form, file, output);
+        }
+        write_all(output, form)?;
+        Ok(Ok(Status::Done))
+    }
+
+    /// Prints the name of an input that is not in form.
+    fn check_form<W: Write>(
+        &self,
+        alloc: Global,
+        text: &str,
+        form: &[u8],
+        file: Option<&str>,
+        output: &mut W,
+    ) -> io::Result<Result<Status, NoAnswer>>
+        ensures { self.now.is_check ≡ true →
+            IsForm (chars self.now.indent.now) (chars text.now) form.now →
+            Answered (Formats self.now (option_map (λ f. f.now) file.entry) (chars text.now))
+            self.now (W.contents output.old) (W.contents output.new) result }
+    {
+        if has_bytes(text, form) {
             return Ok(Ok(Status::Done));
         }
-        if form.as_slice() == text.as_bytes() {
-            return Ok(Ok(Status::Done));
-        }
-        let name = name_line(alloc, input.file)?;
+        let name = name_line(alloc, file)?;
         write_all(output, name.as_bytes())?;
         Ok(Ok(Status::No))
     }
@@ -79,6 +127,13 @@ pub fn formatted(alloc: Global, text: &str, indent: &str) -> io::Result<Result<V
         Some(form) => Ok(Ok(form)),
         None => Err(io::Error::from(ErrorKind::OutOfMemory)),
     }
+}
+
+/// Whether a text has these bytes.
+fn has_bytes(text: &str, bytes: &[u8]) -> bool
+    ensures { Decides result (bytes.now ≡ encode_utf8_all (chars text.now)) }
+{
+    bytes == text.as_bytes()
 }
 
 /// The name of an input, as it is printed.

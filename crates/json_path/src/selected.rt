@@ -19,6 +19,7 @@ use crate::rest::write_without;
 use std::alloc::Global;
 use std::fmt;
 use std::io::{self, ErrorKind, Write};
+use tinyjson_document::Node;
 use tinyjson_lines::write_all;
 use tinyjson_path::{FindError, Located, PatternLimit, Query, Selection, find_in, has_pattern};
 
@@ -95,7 +96,7 @@ impl fmt::Display for Unanswered {
 pub fn write_answer<W: Write>(
     alloc: Global,
     query: &Query,
-    value: tinyjson_document::Node,
+    value: Node<'_>,
     wanted: Wanted,
     output: &mut W,
 ) -> io::Result<Option<Unanswered>>
@@ -108,7 +109,7 @@ pub fn write_answer<W: Write>(
 fn write_found<W: Write>(
     alloc: Global,
     query: &Query,
-    root: tinyjson_document::Node,
+    root: Node<'_>,
     wanted: Wanted,
     output: &mut W,
 ) -> io::Result<Option<Unanswered>>
@@ -125,7 +126,7 @@ fn write_found<W: Write>(
 fn write_selection<W: Write>(
     alloc: Global,
     query: &Query,
-    root: tinyjson_document::Node,
+    root: Node<'_>,
     form: Form,
     output: &mut W,
 ) -> io::Result<Option<Unanswered>>
@@ -146,7 +147,7 @@ fn write_selection<W: Write>(
 fn write_collected<W: Write>(
     alloc: Global,
     query: &Query,
-    root: tinyjson_document::Node,
+    root: Node<'_>,
     form: Form,
     output: &mut W,
 ) -> io::Result<Option<Unanswered>>
@@ -248,7 +249,7 @@ fn write_nodes_begun<'v, W: Write>(
 fn write_rest<W: Write>(
     alloc: Global,
     query: &Query,
-    root: tinyjson_document::Node,
+    root: Node<'_>,
     output: &mut W,
 ) -> io::Result<Option<Unanswered>>
     ensures { Answers (GivesNodes judged Rest query.now (tree root.entry))
@@ -265,7 +266,7 @@ fn write_rest<W: Write>(
 /// Writes the value without these places of it.
 fn write_left<W: Write>(
     alloc: Global,
-    root: tinyjson_document::Node,
+    root: Node<'_>,
     places: &Places,
     output: &mut W,
 ) -> io::Result<Option<Unanswered>>
