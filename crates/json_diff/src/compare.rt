@@ -1,7 +1,7 @@
 //! Compares values with an old one.
 ghost use Rattle.std.specs.Prelude.{◌≡◌, IfOk, string_bytes};
 ghost use Rattle.tinyjson_cli.specs.Texts.{Answers};
-ghost use Rattle.tinyjson_document.specs.Document.{tree};
+ghost use Rattle.tinyjson_document.specs.Document.{document_tree, tree};
 ghost use Rattle.tinyjson_pointer.specs.Tokens.{tokens_of};
 ghost use Rattle.json_diff.specs.Compare.{GivesMergePatch, GivesPatchOf};
 ghost use Rattle.json_diff.specs.Compare.{no_patch_message};
@@ -10,25 +10,32 @@ use std::alloc::{AllocError, Global};
 use std::io::{self, ErrorKind, Write};
 use tinyjson_cli::{NoAnswer, Shown, ValueTool, write_laid_out};
 use tinyjson_diff::{NoMergePatch, merge_diff, patch_diff};
-use tinyjson_document::Node;
+use tinyjson_document::{Document, Node};
 use tinyjson_pointer::Pointer;
 
 /// What is asked of each value: the patch that leads to it from an old one.
-#[derive(Clone, Copy)]
-pub struct Asked<'a> {
+#[derive(Drop)]
+pub struct Comparison {
     /// The old value.
-    pub old: Node<'a>,
+    pub old: Document,
     /// Whether the patch is a merge patch (RFC 7396), or else a JSON Patch (RFC 6902).
     pub is_merge: bool,
     /// Whether its text is indented with two spaces.
     pub is_indented: bool,
 }
 
+#[derive(Clone, Copy)]
+struct Asked<'a> {
+    old: Node<'a>,
+    is_merge: bool,
+    is_indented: bool,
+}
+
 /// ```
-/// asked.answer_value(alloc, new, len, &mut output)?; // from {"a":1} to {"b":2}, a merge patch: writes {"a":null,"b":2}
+/// comparison.answer_value(alloc, new, len, &mut output)?; // from {"a":1} to {"b":2}, a merge patch: writes {"a":null,"b":2}
 /// ```
-impl ValueTool for Asked<'_> {
-    ghost gives = { λ a _ t f. GivesPatchOf a.is_merge a.is_indented (tree a.old) t f };
+impl ValueTool for Comparison {
+    ghost gives = { λ a _ t f. GivesPatchOf a.is_merge a.is_indented (document_tree a.old) t f };
 
     fn answer_value<W: Write>(
         &self,
@@ -37,13 +44,32 @@ impl ValueTool for Asked<'_> {
         _: usize,
         output: &mut W,
     ) -> io::Result<Option<NoAnswer>> {
-        if self.is_merge {
-            return answer_merge(alloc, *self, new, output);
-        }
-        let patch = patch_diff(alloc, self.old, new)?;
-        write_laid_out(alloc, &patch, self.is_indented, output)?;
-        Ok(None)
+        let asked = Asked {
+            old: self.old.root(),
+            is_merge: self.is_merge,
+            is_indented: self.is_indented,
+        };
+        answer(alloc, asked, new, output)
     }
+}
+
+/// Writes the text of the patch that leads to a value.
+fn answer<W: Write>(
+    alloc: Global,
+    asked: Asked<'_>,
+    new: Node<'_>,
+    output: &mut W,
+) -> io::Result<Option<NoAnswer>>
+    ensures { Answers (GivesPatchOf asked.entry.is_merge asked.entry.is_indented
+        (tree asked.entry.old) (tree new.entry))
+        (W.contents output.old) (W.contents output.new) result }
+{
+    if asked.is_merge {
+        return answer_merge(alloc, asked, new, output);
+    }
+    let patch = patch_diff(alloc, asked.old, new)?;
+    write_laid_out(alloc, &patch, asked.is_indented, output)?;
+    Ok(None)
 }
 
 /// Writes the text of the merge patch that leads to a value.

@@ -5,7 +5,7 @@
 mod compare;
 mod reading;
 
-use compare::Asked;
+use compare::Comparison;
 use reading::{TEXT_DEPTH, read_old};
 use std::process::ExitCode;
 use tinyjson_cli::{
@@ -69,11 +69,11 @@ fn run(rt: &HostRuntime) -> Result<Status, Status> {
     let arguments = arguments_of(rt, PROGRAM, words.as_slice())?;
     let (old, files) = needed_operand(rt, PROGRAM, &arguments, "OLD")?;
     let old = or_report(rt, PROGRAM, read_old(rt, old))?;
-    let asked = Asked {
-        old: old.root(),
+    let comparison = Comparison {
+        old,
         is_merge: arguments.has(b'm'),
         is_indented: arguments.has(b'i'),
     };
-    let tool = Values::new(rt.alloc(), asked, Some(TEXT_DEPTH));
+    let tool = Values::new(rt.alloc(), comparison, Some(TEXT_DEPTH));
     Ok(run_tool(rt, PROGRAM, texts_asked(&arguments), files, tool))
 }

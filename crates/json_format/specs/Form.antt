@@ -45,6 +45,6 @@ GivesFormatted false indent file xs (Ok a) = (a.0 ≡ status.Done) × IsForm ind
 GivesFormatted true indent file xs (Ok a) = IsChecked indent file xs a.0 a.1
 GivesFormatted is_check indent file xs (Err why) = IsNoForm xs why
 
--- The same of a program that stays as it was. For private contracts.
+-- A program answers so, and stays as it was. For private contracts.
 abbrev pub Formats : Formatter → Option (List ℕ) → List ℕ → Result (Status × List ℕ) NoAnswer → Formatter → Type 0
 Formats a file xs f b = GivesFormatted a.is_check (chars a.indent.now) file xs f × (b ≡ a)

@@ -75,6 +75,8 @@ fn run(rt: &HostRuntime) -> Result<Status, Status> {
         in_place: !is_check,
     };
     let files = arguments.operands.as_slice();
-    let inputs = if files.is_empty() { &["-"] } else { files };
-    Ok(run_tool(rt, PROGRAM, texts, inputs, formatter))
+    if files.is_empty() {
+        return Ok(run_tool(rt, PROGRAM, texts, &["-"], formatter));
+    }
+    Ok(run_tool(rt, PROGRAM, texts, files, formatter))
 }

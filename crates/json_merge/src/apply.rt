@@ -2,6 +2,7 @@
 ghost use Rattle.std.specs.Prelude.{◌≡◌, ◌∷◌, IfOk, false, map, true};
 ghost use Rattle.tinyjson.specs.Written.{WritesPrefix};
 ghost use Rattle.tinyjson_cli.specs.Layout.{laid_out};
+ghost use Rattle.tinyjson_cli.specs.Texts.{Answers};
 ghost use Rattle.tinyjson_document.specs.Document.{document_tree, tree};
 ghost use Rattle.tinyjson_patch.specs.Merge.{merge_patch};
 ghost use Rattle.json_merge.specs.Apply.{GivesMerged, all_merged};
@@ -14,19 +15,25 @@ use tinyjson_normal::Compact;
 use tinyjson_patch::{merge_documents, merge_into};
 
 /// What is asked of each value: some patches applied (RFC 7396), each to the result of the one before.
-#[derive(Clone, Copy)]
-pub struct Asked<'a> {
+#[derive(Drop)]
+pub struct Merging {
     /// The patches, in order.
-    pub patches: &'a [Document],
+    pub patches: Vec<Document>,
     /// Whether the text of the result is indented with two spaces.
     pub is_indented: bool,
+}
+
+#[derive(Clone, Copy)]
+struct Asked<'a> {
+    patches: &'a [Document],
+    is_indented: bool,
 }
 
 /// ```
 /// asked.answer_value(alloc, value, len, &mut output)?; // of {"a":1,"b":2}, by {"a":null}: writes {"b":2} and a line feed
 /// ```
-impl ValueTool for Asked<'_> {
-    ghost gives = { λ a _ t f. GivesMerged a.is_indented (map document_tree a.patches.now) t f };
+impl ValueTool for Merging {
+    ghost gives = { λ a _ t f. GivesMerged a.is_indented (map document_tree a.patches.items) t f };
 
     fn answer_value<W: Write>(
         &self,
@@ -35,9 +42,27 @@ impl ValueTool for Asked<'_> {
         _: usize,
         output: &mut W,
     ) -> io::Result<Option<NoAnswer>> {
-        write_text(alloc, *self, value, output)?;
-        Ok(None)
+        let asked = Asked {
+            patches: self.patches.as_slice(),
+            is_indented: self.is_indented,
+        };
+        answer(alloc, asked, value, output)
     }
+}
+
+/// Writes the result, and has an answer for each value.
+fn answer<W: Write>(
+    alloc: Global,
+    asked: Asked<'_>,
+    value: Node<'_>,
+    output: &mut W,
+) -> io::Result<Option<NoAnswer>>
+    ensures { Answers (GivesMerged asked.entry.is_indented
+        (map document_tree asked.entry.patches.now) (tree value.entry))
+        (W.contents output.old) (W.contents output.new) result }
+{
+    write_text(alloc, asked, value, output)?;
+    Ok(None)
 }
 
 /// Writes the text of a value with the patches applied, compact or indented, and a line feed.

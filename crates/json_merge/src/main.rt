@@ -6,7 +6,7 @@ mod apply;
 mod options;
 mod reading;
 
-use apply::Asked;
+use apply::Merging;
 use options::{PATCHES, patches_asked};
 use reading::read_patches;
 use std::process::ExitCode;
@@ -69,10 +69,10 @@ fn run(rt: &HostRuntime) -> Result<Status, Status> {
         return Err(misused(rt, PROGRAM, Misuse::Missing("PATCH")));
     };
     let patches = or_report(rt, PROGRAM, read_patches(rt, patches))?;
-    let asked = Asked {
-        patches: patches.as_slice(),
+    let merging = Merging {
+        patches,
         is_indented: arguments.has(b'i'),
     };
-    let tool = Values::new(rt.alloc(), asked, None);
+    let tool = Values::new(rt.alloc(), merging, None);
     Ok(run_tool(rt, PROGRAM, texts_asked(&arguments), files, tool))
 }
