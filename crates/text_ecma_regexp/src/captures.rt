@@ -5,7 +5,8 @@ ghost use Rattle.text_ecma_regexp.specs.Regex.{group_name, after_name, is_look_s
 ghost use Rattle.text_ecma_regexp.specs.Regex.{names};
 ghost use Rattle.text_ecma_regexp.specs.Scan.{unrolled, few, now, texts};
 
-use crate::letters::{End, cut};
+use crate::letters::End;
+use text_uri::cut;
 
 /// The most groups that may be nested, and the most names.
 pub(crate) const MOST: usize = 128;

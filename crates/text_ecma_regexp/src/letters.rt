@@ -1,8 +1,10 @@
 //! Letters, and where texts of them end.
-ghost use Rattle.std.specs.Prelude.{◌≡◌, bytes_eq, codes, length};
+ghost use Rattle.std.specs.Prelude.{◌≡◌, bytes_eq, codes};
 ghost use Rattle.text_ecma_regexp.specs.Letters.{is_among};
 ghost use Rattle.text_ecma_regexp.specs.Scan.{ends, now};
-ghost use Rattle.text_uri.specs.Letters.{before, from, after};
+ghost use Rattle.text_uri.specs.Letters.{after};
+
+use text_uri::Ends;
 
 /// Where a part of a text ends.
 #[derive(Clone, Copy)]
@@ -13,34 +15,16 @@ pub(crate) enum End {
     Greater,
 }
 
-/// The part before the end, and the rest from there on.
-pub(crate) fn cut(text: &[u8], end: End) -> (&[u8], &[u8])
-    ensures front { result.0.now ≡ before (ends end) text.now }
-    ensures rest { result.1.now ≡ from (ends end) text.now }
-{
-    text.split_at(end_in(text, end))
-}
+impl Ends for End {
+    ghost ends = { ends };
 
-/// The number of bytes before the end.
-fn end_in(bytes: &[u8], end: End) -> usize
-    ensures { result ≡ length (before (ends end) bytes.now) }
-{
-    for (i, byte) in bytes.iter().enumerate() {
-        if ends(end, *byte) {
-            return i;
+    fn ends(self, byte: u8) -> bool {
+        match self {
+            End::Digits => !byte.is_ascii_digit(),
+            End::Brace => byte == b'}',
+            End::Equals => byte == b'=',
+            End::Greater => byte == b'>',
         }
-    }
-    bytes.len()
-}
-
-fn ends(end: End, byte: u8) -> bool
-    ensures { result ≡ ends end byte }
-{
-    match end {
-        End::Digits => !byte.is_ascii_digit(),
-        End::Brace => byte == b'}',
-        End::Equals => byte == b'=',
-        End::Greater => byte == b'>',
     }
 }
 

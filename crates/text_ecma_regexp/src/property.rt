@@ -5,8 +5,9 @@ ghost use Rattle.text_ecma_regexp.specs.Regex.{is_word, is_category_of, is_scrip
 ghost use Rattle.text_ecma_regexp.specs.Regex.{is_property, property_end, property_front};
 ghost use Rattle.text_ecma_regexp.specs.Scan.{now};
 
-use crate::letters::{End, after_brace, cut, is_same};
+use crate::letters::{End, after_brace, is_same};
 use crate::property_names::{BINARY_PROPERTIES, GENERAL_CATEGORIES, SCRIPTS};
+use text_uri::cut;
 
 /// Whether the text is one of the words, which have spaces between them.
 fn is_word(words: &[u8], text: &[u8]) -> bool

@@ -4,7 +4,8 @@ ghost use Rattle.text_ecma_regexp.specs.Regex.{number, most_front, bounds_end, p
 ghost use Rattle.text_ecma_regexp.specs.Regex.{after_quantifier};
 ghost use Rattle.text_ecma_regexp.specs.Scan.{are_digits, without_zeros, ordered, at_most, now};
 
-use crate::letters::{End, after_brace, cut};
+use crate::letters::{End, after_brace};
+use text_uri::cut;
 
 /// The digits without zeros at their front.
 fn without_zeros(digits: &[u8]) -> &[u8]

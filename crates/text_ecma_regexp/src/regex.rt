@@ -8,9 +8,10 @@ ghost use Rattle.text_ecma_regexp.specs.Scan.{found, groups_of, led, now, texts}
 use crate::captures::{MOST, after_name, count, group_name, take_names};
 use crate::class::class_front;
 use crate::escape::{is_syntax, set_or_character};
-use crate::letters::{End, cut};
+use crate::letters::End;
 use crate::names::{are_distinct, has_name, is_name};
 use crate::quantifier::after_quantifier;
+use text_uri::cut;
 
 /// The groups that are open: whether each may have a quantifier.
 #[derive(Drop)]
@@ -70,15 +71,15 @@ fn step<'t>(count: usize, names: &[&[u8]], groups: &mut Groups, text: &'t [u8]) 
         return Some(text);
     };
     match *c {
-        b'(' => opened(groups, rest),
-        b')' => closed(groups, rest),
+        b'(' => open_group(groups, rest),
+        b')' => close_group(groups, rest),
         c => term_front(count, names, c, rest),
     }
 }
 
 /// What follows the begin of a group, which is open then.
 #[tactic(auto, using(crate::proofs::Groups::stack_more, crate::proofs::Groups::stack_length))]
-fn opened<'t>(groups: &mut Groups, text: &'t [u8]) -> Option<&'t [u8]>
+fn open_group<'t>(groups: &mut Groups, text: &'t [u8]) -> Option<&'t [u8]>
     requires depth { groups.old.depth ≤ 128 }
     ensures value { led groups.new result ≡ opened (groups_of groups.old) text.now }
     ensures depth { groups.new.depth ≤ 128 }
@@ -94,7 +95,7 @@ fn opened<'t>(groups: &mut Groups, text: &'t [u8]) -> Option<&'t [u8]>
 
 /// What follows the end of the innermost group, and its quantifier.
 #[tactic(auto, using(crate::proofs::Groups::stack_opened))]
-fn closed<'t>(groups: &mut Groups, text: &'t [u8]) -> Option<&'t [u8]>
+fn close_group<'t>(groups: &mut Groups, text: &'t [u8]) -> Option<&'t [u8]>
     requires depth { groups.old.depth ≤ 128 }
     ensures value { led groups.new result ≡ closed (groups_of groups.old) text.now }
     ensures depth { groups.new.depth ≤ 128 }

@@ -8,7 +8,8 @@ ghost use Rattle.text_formats.specs.Form.{two};
 ghost use Rattle.text_formats.specs.Letters.{begins};
 
 use crate::form::{has_form, two};
-use crate::letters::{End, cut};
+use crate::letters::End;
+use text_uri::cut;
 
 /// Whether the text is a date of the Gregorian calendar: `full-date` of RFC 3339, section 5.6.
 ///

@@ -4,7 +4,8 @@ ghost use Rattle.text_formats.specs.Duration.{is_duration, is_dates, is_time_par
 ghost use Rattle.text_formats.specs.Duration.{after_unit, after_chain, after_units};
 ghost use Rattle.text_formats.specs.Splitting.{now};
 
-use crate::letters::{End, cut, is_letter};
+use crate::letters::{End, is_letter};
+use text_uri::cut;
 
 /// Whether the text is a duration (RFC 3339, appendix A): years, months and days, or weeks, or hours, minutes and
 /// seconds after a `T`, without a gap between the units. Letters may be small.

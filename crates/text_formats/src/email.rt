@@ -6,7 +6,8 @@ ghost use Rattle.text_formats.specs.Email.{is_only_end, is_after_local};
 
 use crate::host::is_name;
 use crate::ip::{Rules, is_address, is_quad};
-use crate::letters::{End, Letters, after_word, are, cut};
+use crate::letters::{End, Letters, after_word, are};
+use text_uri::cut;
 
 /// Whether the text is an address of mail: `Mailbox` of RFC 5321, section 4.1.2, whose domain is labels as those of a
 /// host, or an address of IPv4 or IPv6 in brackets. The part before the `@` has at most 64 bytes (section 4.5.3.1.1).

@@ -6,7 +6,8 @@ ghost use Rattle.text_formats.specs.Ip.{is_piece, after_colon, least, is_whole, 
 ghost use Rattle.text_formats.specs.Letters.{begins, is_colon, is_empty};
 
 use crate::form::digit;
-use crate::letters::{End, Letters, are, cut};
+use crate::letters::{End, Letters, are};
+use text_uri::cut;
 
 /// The rules of an address.
 #[derive(Clone, Copy)]

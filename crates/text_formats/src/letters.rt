@@ -1,14 +1,15 @@
 //! Letters, and where texts of them end.
 ghost use Rattle.std.specs.Char.{to_ascii_lowercase};
-ghost use Rattle.std.specs.Prelude.{◌≡◌, ◌==◌, length};
+ghost use Rattle.std.specs.Prelude.{◌≡◌, ◌==◌};
 ghost use Rattle.text_formats.specs.Letters.{each, is_unreserved, is_sub_delimiter, begins_with_pair};
 ghost use Rattle.text_formats.specs.Letters.{is_uri_letter, is_label_letter, is_atom_letter, is_pointer_letter};
 ghost use Rattle.text_formats.specs.Letters.{is_among, after_word};
 ghost use Rattle.text_formats.specs.Scan.{ends, passes};
 ghost use Rattle.text_formats.specs.Splitting.{now};
 ghost use Rattle.text_formats.specs.Template.{is_literal, is_name_letter};
-ghost use Rattle.text_uri.specs.Letters.{before, from};
 ghost use Rattle.text_uri.specs.Parts.{is_scheme_letter};
+
+use text_uri::Ends;
 
 /// Where a part of a text ends.
 #[derive(Clone, Copy)]
@@ -45,42 +46,24 @@ pub(crate) enum Letters {
     Name,
 }
 
-/// The part before the end, and the rest from there on.
-pub(crate) fn cut(text: &[u8], end: End) -> (&[u8], &[u8])
-    ensures front { result.0.now ≡ before (ends end) text.now }
-    ensures rest { result.1.now ≡ from (ends end) text.now }
-{
-    text.split_at(end_in(text, end))
-}
+impl Ends for End {
+    ghost ends = { ends };
 
-/// The number of bytes before the end.
-fn end_in(bytes: &[u8], end: End) -> usize
-    ensures { result ≡ length (before (ends end) bytes.now) }
-{
-    for (i, byte) in bytes.iter().enumerate() {
-        if ends(end, *byte) {
-            return i;
+    fn ends(self, byte: u8) -> bool {
+        match self {
+            End::Digits => !byte.is_ascii_digit(),
+            End::User => byte == b'@',
+            End::Host => byte == b':',
+            End::Literal => byte == b']',
+            End::Version => byte == b'.',
+            End::Scheme => matches!(byte, b':' | b'/' | b'?' | b'#'),
+            End::Authority => matches!(byte, b'/' | b'?' | b'#'),
+            End::Path => matches!(byte, b'?' | b'#'),
+            End::Query => byte == b'#',
+            End::Brace => byte == b'{',
+            End::Expression => byte == b'}',
+            End::Name => matches!(byte, b':' | b'*'),
         }
-    }
-    bytes.len()
-}
-
-fn ends(end: End, byte: u8) -> bool
-    ensures { result ≡ ends end byte }
-{
-    match end {
-        End::Digits => !byte.is_ascii_digit(),
-        End::User => byte == b'@',
-        End::Host => byte == b':',
-        End::Literal => byte == b']',
-        End::Version => byte == b'.',
-        End::Scheme => matches!(byte, b':' | b'/' | b'?' | b'#'),
-        End::Authority => matches!(byte, b'/' | b'?' | b'#'),
-        End::Path => matches!(byte, b'?' | b'#'),
-        End::Query => byte == b'#',
-        End::Brace => byte == b'{',
-        End::Expression => byte == b'}',
-        End::Name => matches!(byte, b':' | b'*'),
     }
 }
 

@@ -4,7 +4,8 @@ ghost use Rattle.text_formats.specs.Letters.{begins};
 ghost use Rattle.text_formats.specs.Pointer.{is_pointer, is_number, is_end, is_step, is_after_number};
 ghost use Rattle.text_formats.specs.Pointer.{is_relative_pointer};
 
-use crate::letters::{End, Letters, are, cut};
+use crate::letters::{End, Letters, are};
+use text_uri::cut;
 
 /// Whether the text is a JSON Pointer (RFC 6901, section 3).
 ///

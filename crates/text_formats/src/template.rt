@@ -7,7 +7,8 @@ ghost use Rattle.text_formats.specs.Template.{are_pieces, are_variables, is_end,
 ghost use Rattle.text_formats.specs.Template.{is_most, is_name, is_name_part, is_of_pieces, is_piece, is_template};
 ghost use Rattle.text_formats.specs.Template.{is_variable, is_within};
 
-use crate::letters::{End, Letters, are, cut, is_among};
+use crate::letters::{End, Letters, are, is_among};
+use text_uri::cut;
 
 /// The first and the last character of each range beyond ASCII that a template may have.
 const WIDE: [(u32, u32); 19] = [

@@ -11,7 +11,8 @@ ghost use Rattle.text_uri.specs.Letters.{after};
 ghost use Rattle.text_uri.specs.Parts.{split, cut_scheme, cut_authority, cut_query, is_scheme};
 
 use crate::ip::{Rules, is_address};
-use crate::letters::{End, Letters, are, cut};
+use crate::letters::{End, Letters, are};
+use text_uri::cut;
 
 /// The parts of a reference.
 #[derive(Clone, Copy)]

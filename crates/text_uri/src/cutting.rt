@@ -1,11 +1,20 @@
 //! Where texts are cut.
-ghost use Rattle.std.specs.Prelude.{◌≡◌, length};
+ghost use Rattle.std.specs.Prelude.{◌≡◌, ℕ, Bool, length};
 ghost use Rattle.std.specs.String.{string_bytes};
 ghost use Rattle.text_uri.specs.Letters.{before, from, after};
 ghost use Rattle.text_uri.specs.Letters.{before_last_slash, through_last_slash};
 ghost use Rattle.text_uri.specs.Splitting.{ends, now};
 
-/// Where a part of a text ends.
+/// A kind of places in texts: a part of a text ends at the first such byte.
+pub trait Ends: Copy {
+    ghost ends: { Self → ℕ → Bool };
+
+    /// Whether the part ends at the byte.
+    fn ends(self, byte: u8) -> bool
+        ensures { result ≡ ends self byte };
+}
+
+/// Where a part of a URI ends.
 #[derive(Clone, Copy)]
 pub(crate) enum End {
     Scheme,
@@ -16,7 +25,15 @@ pub(crate) enum End {
 }
 
 /// The part before the end, and the rest from there on.
-pub(crate) fn cut(text: &str, end: End) -> (&str, &str)
+pub fn cut<E: Ends>(text: &[u8], end: E) -> (&[u8], &[u8])
+    ensures front { result.0.now ≡ before (E.ends end) text.now }
+    ensures rest { result.1.now ≡ from (E.ends end) text.now }
+{
+    text.split_at(end_in(text, end))
+}
+
+/// The part before the end, and the rest from there on.
+pub(crate) fn cut_text(text: &str, end: End) -> (&str, &str)
     ensures front { result.0.now ≡ before (ends end) text.now }
     ensures rest { result.1.now ≡ from (ends end) text.now }
 {
@@ -24,26 +41,28 @@ pub(crate) fn cut(text: &str, end: End) -> (&str, &str)
 }
 
 /// The number of bytes before the end.
-pub(crate) fn end_in(bytes: &[u8], end: End) -> usize
-    ensures { result ≡ length (before (ends end) bytes.now) }
+pub(crate) fn end_in<E: Ends>(bytes: &[u8], end: E) -> usize
+    ensures { result ≡ length (before (E.ends end) bytes.now) }
 {
     for (i, byte) in bytes.iter().enumerate() {
-        if ends(end, *byte) {
+        if end.ends(*byte) {
             return i;
         }
     }
     bytes.len()
 }
 
-fn ends(end: End, byte: u8) -> bool
-    ensures { result ≡ ends end byte }
-{
-    match end {
-        End::Scheme => byte == b':' || byte == b'/' || byte == b'?' || byte == b'#',
-        End::Authority => byte == b'/' || byte == b'?' || byte == b'#',
-        End::Path => byte == b'?' || byte == b'#',
-        End::Query => byte == b'#',
-        End::Segment => byte == b'/',
+impl Ends for End {
+    ghost ends = { ends };
+
+    fn ends(self, byte: u8) -> bool {
+        match self {
+            End::Scheme => byte == b':' || byte == b'/' || byte == b'?' || byte == b'#',
+            End::Authority => byte == b'/' || byte == b'?' || byte == b'#',
+            End::Path => byte == b'?' || byte == b'#',
+            End::Query => byte == b'#',
+            End::Segment => byte == b'/',
+        }
     }
 }
 

@@ -13,6 +13,7 @@ mod parts;
 mod relative;
 mod resolving;
 
+pub use cutting::{Ends, cut};
 pub use laws::{fragment_of_parts, text_of_parts};
 pub use relative::relative_reference;
 pub use resolving::{fragment, resolve, without_fragment};

@@ -7,7 +7,7 @@ ghost use Rattle.text_uri.specs.Parts.{is_scheme_letter, are_scheme_letters};
 ghost use Rattle.text_uri.specs.Parts.{marked, scheme_text};
 ghost use Rattle.text_uri.specs.Splitting.{ends, now, cut_now, parts_of};
 
-use crate::cutting::{End, after, cut};
+use crate::cutting::{End, after, cut_text};
 use std::alloc::{AllocError, Global};
 
 /// The parts of a reference.
@@ -26,7 +26,7 @@ pub(crate) fn split(text: &str) -> Reference<'_>
 {
     let (scheme, rest) = cut_scheme(text);
     let (authority, rest) = cut_marked("//", rest, End::Authority);
-    let (path, rest) = cut(rest, End::Path);
+    let (path, rest) = cut_text(rest, End::Path);
     let (query, rest) = cut_marked("?", rest, End::Query);
     let fragment = after("#", rest);
     Reference {
@@ -41,7 +41,7 @@ pub(crate) fn split(text: &str) -> Reference<'_>
 fn cut_scheme(text: &str) -> (Option<&str>, &str)
     ensures { cut_now result ≡ cut_scheme text.now }
 {
-    let (front, rest) = cut(text, End::Scheme);
+    let (front, rest) = cut_text(text, End::Scheme);
     match after(":", rest) {
         Some(rest) if is_scheme(front.as_bytes()) => (Some(front), rest),
         _ => (None, text),
@@ -87,7 +87,7 @@ fn cut_marked<'t>(mark: &str, text: &'t str, end: End) -> (Option<&'t str>, &'t 
 {
     match after(mark, text) {
         Some(rest) => {
-            let (part, rest) = cut(rest, end);
+            let (part, rest) = cut_text(rest, end);
             (Some(part), rest)
         }
         None => (None, text),
@@ -95,7 +95,7 @@ fn cut_marked<'t>(mark: &str, text: &'t str, end: End) -> (Option<&'t str>, &'t 
 }
 
 /// The text of the parts (RFC 3986, section 5.3).
-pub(crate) fn composed(
+pub(crate) fn compose(
     alloc: Global,
     scheme: Option<&str>,
     authority: Option<&str>,

@@ -5,9 +5,9 @@ ghost use Rattle.text_uri.specs.Resolving.{resolved, without_fragment, fragment_
 ghost use Rattle.text_uri.specs.Resolving.{merged, path_from};
 ghost use Rattle.text_uri.specs.Splitting.{parts_of};
 
-use crate::cutting::{End, after, cut, through_last_slash};
+use crate::cutting::{End, after, cut_text, through_last_slash};
 use crate::dots::without_dots;
-use crate::parts::{Reference, composed, split};
+use crate::parts::{Reference, compose, split};
 use std::alloc::{AllocError, Global};
 
 /// Resolves the reference against the base (RFC 3986, section 5.2, strict). The result keeps the fragment of
@@ -28,7 +28,7 @@ pub fn resolve(alloc: Global, base: &str, reference: &str) -> Result<String, All
     let scheme = reference.scheme.or(base.scheme);
     if reference.scheme.is_some() || reference.authority.is_some() {
         let path = without_dots(alloc, reference.path)?;
-        return composed(
+        return compose(
             alloc,
             scheme,
             reference.authority,
@@ -39,7 +39,7 @@ pub fn resolve(alloc: Global, base: &str, reference: &str) -> Result<String, All
     }
     if reference.path.is_empty() {
         let query = reference.query.or(base.query);
-        return composed(
+        return compose(
             alloc,
             scheme,
             base.authority,
@@ -49,7 +49,7 @@ pub fn resolve(alloc: Global, base: &str, reference: &str) -> Result<String, All
         );
     }
     let path = path_from(alloc, base, reference.path)?;
-    composed(
+    compose(
         alloc,
         scheme,
         base.authority,
@@ -66,12 +66,12 @@ fn path_from(alloc: Global, base: Reference<'_>, path: &str) -> Result<String, A
     if after("/", path).is_some() {
         return without_dots(alloc, path);
     }
-    let merged = merged(alloc, base, path)?;
+    let merged = merge(alloc, base, path)?;
     without_dots(alloc, merged.as_str())
 }
 
 /// The path after the base's, which is cut after its last `/` (section 5.2.3).
-fn merged(alloc: Global, base: Reference<'_>, path: &str) -> Result<String, AllocError>
+fn merge(alloc: Global, base: Reference<'_>, path: &str) -> Result<String, AllocError>
     ensures { IfOk result (λ s. string_bytes s ≡ merged (parts_of base.entry) path.now) }
 {
     let front = if base.authority.is_some() && base.path.is_empty() {
@@ -92,7 +92,7 @@ fn merged(alloc: Global, base: Reference<'_>, path: &str) -> Result<String, Allo
 pub fn without_fragment(text: &str) -> &str
     ensures { result.now ≡ without_fragment text.now }
 {
-    cut(text, End::Query).0
+    cut_text(text, End::Query).0
 }
 
 /// The text after the first `#`, or `None` if there is none.
@@ -104,5 +104,5 @@ pub fn without_fragment(text: &str) -> &str
 pub fn fragment(text: &str) -> Option<&str>
     ensures { option_map (λ x. x.now) result ≡ fragment_of text.now }
 {
-    after("#", cut(text, End::Query).1)
+    after("#", cut_text(text, End::Query).1)
 }
