@@ -9,10 +9,12 @@ use Rattle.text_regexp.specs.declared.expression.Expression.{Expression}
 use Rattle.text_iregexp.specs.declared.reader.Level.{Level as CodeLevel}
 use Rattle.text_regexp.specs.Forms.{Form, assertion, concat, alternation, repetition}
 use Rattle.text_regexp.specs.Building.{Means, AllMean, sequence, choice, choice_from}
-use Rattle.text_iregexp.specs.Grammar.{Token, closed, quantifier, Branch, Piece, once, times, asserts, Atom, group, regexp_form, branch_form}
+use Rattle.text_iregexp.specs.Grammar.{Token, closed, quantifier, Branch, Piece, once, times, asserts, Atom, group, regexp_form}
+use Rattle.text_iregexp.specs.Grammar.{branch_form}
 use Rattle.text_iregexp.specs.Grammar.{piece_form}
 use Rattle.text_iregexp.specs.Grammar.{atom_form}
-use Rattle.text_iregexp.specs.Levels.{Level, level, State, settled, settle, with_atom, branch_of, regexp_from, barred, regexp_of, quantified}
+use Rattle.text_iregexp.specs.Levels.{Level, level, State, settled, settle, with_atom, branch_of, regexp_from, barred, regexp_of}
+use Rattle.text_iregexp.specs.Levels.{quantified}
 use Rattle.text_iregexp.specs.Levels.{in_state, close, advance, MeansEnd, StandsAt, IsSized, Outer, Agrees, Quantifies, Takes, level_size}
 use Rattle.text_iregexp.specs.Levels.{outer_size, state_size, with_assertion}
 use Rattle.text_iregexp.specs.Limits.{size_limit, repeated, regexp_size}

@@ -12,14 +12,17 @@ use Rattle.text_categories.specs.declared.Category.{Category}
 use Rattle.text_regexp.specs.declared.class.Item.{Item}
 use Rattle.text_regexp.specs.declared.class.Item.TheVariants.{Range, In, NotIn}
 use Rattle.text_iregexp.specs.Grammar as is
-use Rattle.text_iregexp.specs.Grammar.{Token, characters, opened, closed, bar, quantifier, one, any, is_one_of, is_normal, is_plain, is_digit}
+use Rattle.text_iregexp.specs.Grammar.{Token, characters, opened, closed, bar, quantifier, one, any, is_one_of, is_normal}
+use Rattle.text_iregexp.specs.Grammar.{is_plain, is_digit}
 use Rattle.text_iregexp.specs.Grammar.{NameText, CategoryText, are_digits, number_on, escape_of, MemberText, ItemText, ItemsText, FirstText}
 use Rattle.text_iregexp.specs.Grammar.{LastText}
 use Rattle.text_iregexp.specs.Grammar.{CaretText}
 use Rattle.text_iregexp.specs.Grammar.{begins_with_caret, Spells}
-use Rattle.text_iregexp.specs.Fronts.{escape_front, member_front, up_to, range_end, range_front, item_front, closing, tail_front, class_front}
+use Rattle.text_iregexp.specs.Fronts.{escape_front, member_front, up_to, range_end, range_front, item_front, closing, tail_front}
+use Rattle.text_iregexp.specs.Fronts.{class_front}
 use Rattle.text_iregexp.specs.Fronts.{first_front, bracket_front, digits_front, number_front, most_end, most_front, least_end, counts_front}
-use Rattle.text_iregexp.specs.Fronts.{characters_front, named_front, second_front, name_front, signed_front, category_front, is_category_letter}
+use Rattle.text_iregexp.specs.Fronts.{characters_front, named_front, second_front, name_front, signed_front, category_front}
+use Rattle.text_iregexp.specs.Fronts.{is_category_letter}
 use Rattle.text_iregexp.specs.Fronts.{begins_category, item_token, escape_token, one_front, token_front}
 use Rattle.text_iregexp.specs.Levels.{IsFit}
 use Rattle.text_iregexp.specs.Limits.{size_limit, LargeNumber, are_counts, LargeCount}

@@ -14,7 +14,8 @@ use Rattle.text_iregexp.specs.Patterns.{Mark, look, token, Look, Case, has_looks
 use Rattle.text_iregexp.specs.PatternFronts.{mark_of}
 use Rattle.text_iregexp.specs.PatternMachine.{PartsState, initial, no_levels, is_before, part_in, advance_mark, form_at, disjunction_form}
 use Rattle.text_iregexp.specs.PatternMachine.{disjunction_in, MeansWhole, AgreesAt, Finishes, TakesMark}
-use Rattle.text_iregexp.specs.PatternCases.{CasesState, no_cases, is_closed, case_in, opened_look, look_in, closed_look, next_case, with_here}
+use Rattle.text_iregexp.specs.PatternCases.{CasesState, no_cases, is_closed, case_in, opened_look, look_in, closed_look}
+use Rattle.text_iregexp.specs.PatternCases.{next_case, with_here}
 use Rattle.text_iregexp.specs.PatternCases.{is_last, ended, may_look, advance_other, advance_case, is_other}
 use Rattle.text_iregexp.specs.PatternCases.{LookMeans, LooksMean, CaseMeans, CasesMean, StandsFor, TakesOther, TakesCase}
 use Rattle.text_iregexp.specs.PatternCases.{FinishesCases, Stands, StandsOut}

@@ -13,7 +13,8 @@ use Rattle.text_iregexp.specs.Grammar.{Token, regexp_form, branch_form}
 use Rattle.text_iregexp.specs.Levels.{Level, level, State, fresh, regexp_of, advance, StandsAt, Takes}
 use Rattle.text_iregexp.specs.Patterns.{token}
 use Rattle.text_iregexp.specs.PatternMachine.{PartsState, initial, no_levels, is_blank, is_unread, is_single, is_bar, is_start_token}
-use Rattle.text_iregexp.specs.PatternMachine.{is_end_token, starts_at, starts_in, ends_in, ends_at, is_before, branch_in, part_in, next_part}
+use Rattle.text_iregexp.specs.PatternMachine.{is_end_token, starts_at, starts_in, ends_in, ends_at, is_before, branch_in, part_in}
+use Rattle.text_iregexp.specs.PatternMachine.{next_part}
 use Rattle.text_iregexp.specs.PatternMachine.{outermost as outer_level, with_state, advance_mark, no_done, is_bare, open_form, form_at}
 use Rattle.text_iregexp.specs.PatternMachine.{AgreesAt, without_first, without_last, AllMeanWhole, TakesMark, EndsPart, Finishes}
 use Rattle.text_iregexp.proofs.Levels.{outer_none}

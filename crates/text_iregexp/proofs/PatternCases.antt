@@ -13,7 +13,8 @@ use Rattle.text_iregexp.specs.Patterns.{disjunction_marks, looks_marks, guard_ma
 use Rattle.text_iregexp.specs.Patterns.{AreSmall, AreSmallLooks, AreSmallCases, IsSmall}
 use Rattle.text_iregexp.specs.PatternMachine.{PartsState, initial, no_levels, is_blank, is_single, starts_at, is_before, is_bar, branch_in}
 use Rattle.text_iregexp.specs.PatternMachine.{part_in, disjunction_in, next_part, with_state, advance_mark, run_marks, is_bare}
-use Rattle.text_iregexp.specs.PatternCases.{CasesState, no_cases, is_closed, case_in, pattern_in, opened_look, look_in, closed_look, next_case}
+use Rattle.text_iregexp.specs.PatternCases.{CasesState, no_cases, is_closed, case_in, pattern_in, opened_look, look_in}
+use Rattle.text_iregexp.specs.PatternCases.{closed_look, next_case}
 use Rattle.text_iregexp.specs.PatternCases.{with_here, is_parting, is_close, is_closing, is_last, ended, may_look, advance_other}
 use Rattle.text_iregexp.specs.PatternCases.{advance_case, run_cases}
 use Rattle.text_iregexp.proofs.Lexing.{cond_cases, map_cases, none_some, some_same}

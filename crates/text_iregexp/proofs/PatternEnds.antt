@@ -5,9 +5,11 @@ use Rattle.text_regexp.specs.declared.assertion.Assertion.{Assertion}
 use Rattle.text_regexp.specs.declared.assertion.Assertion.TheVariants.{Start, End, WordBoundary, NotWordBoundary}
 use Rattle.text_iregexp.specs.Grammar as regexp
 use Rattle.text_iregexp.specs.Grammar.{Token, characters, opened, closed, bar, quantifier, asserted, Piece, once, times, asserts, Atom}
-use Rattle.text_iregexp.specs.Levels.{Level, level, State, fresh, settled, with_atom, with_assertion, regexp_of, quantified, in_state, advance}
+use Rattle.text_iregexp.specs.Levels.{Level, level, State, fresh, settled, with_atom, with_assertion, regexp_of, quantified}
+use Rattle.text_iregexp.specs.Levels.{in_state, advance}
 use Rattle.text_iregexp.specs.PatternMachine.{no_levels, is_blank, is_single, is_bar, is_start, is_end, is_start_token, is_end_token}
-use Rattle.text_iregexp.specs.PatternMachine.{is_start_piece, is_end_piece, first_starts, last_ends, starts_at, ends_at, outermost, starts_in}
+use Rattle.text_iregexp.specs.PatternMachine.{is_start_piece, is_end_piece, first_starts, last_ends, starts_at, ends_at}
+use Rattle.text_iregexp.specs.PatternMachine.{outermost, starts_in}
 use Rattle.text_iregexp.specs.PatternMachine.{ends_in, is_unread}
 use Rattle.text_iregexp.proofs.Lexing.{none_some, some_same}
 

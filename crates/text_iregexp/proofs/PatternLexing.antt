@@ -22,8 +22,10 @@ use Rattle.text_iregexp.specs.Patterns.{pair_of, control_of, LetterText, begins_
 use Rattle.text_iregexp.specs.Patterns.{class_items, Mark, look, token, dot, is_normal, Spells, begins_with_question, fits}
 use Rattle.text_iregexp.specs.PatternFronts.{literal_front, byte_front, four_front, low_front, half_front, value_front, braced_front}
 use Rattle.text_iregexp.specs.PatternFronts.{unit_front}
-use Rattle.text_iregexp.specs.PatternFronts.{control_front, null_front, property_front, escape_front, letter_front, letters_step, letters_front}
-use Rattle.text_iregexp.specs.PatternFronts.{caret_front, class_of, class_from, class_front, special, opening, eager, repeat_front, letter_mark}
+use Rattle.text_iregexp.specs.PatternFronts.{control_front, null_front, property_front, escape_front, letter_front, letters_step}
+use Rattle.text_iregexp.specs.PatternFronts.{letters_front}
+use Rattle.text_iregexp.specs.PatternFronts.{caret_front, class_of, class_from, class_front, special, opening, eager}
+use Rattle.text_iregexp.specs.PatternFronts.{repeat_front, letter_mark}
 use Rattle.text_iregexp.specs.PatternFronts.{token_mark, escape_mark}
 use Rattle.text_iregexp.specs.PatternFronts.{sign_front, fitting, mark_front}
 use Rattle.text_iregexp.proofs.Lexing.{cond_cases, then_cases, map_cases, none_some, some_same, not_equal, no_caret, front_sound}

@@ -16,7 +16,8 @@ use Rattle.text_iregexp.specs.Fronts.{Fronts}
 use Rattle.text_iregexp.specs.Grammar.{opened, is_digit}
 use Rattle.text_iregexp.specs.Limits.{LargeCount}
 use Rattle.text_iregexp.specs.Patterns as is
-use Rattle.text_iregexp.specs.Patterns.{Mark, token, Spells, fits, follows, Spelled, is_name_part, begins_name, are_name_parts, is_group_name}
+use Rattle.text_iregexp.specs.Patterns.{Mark, token, Spells, fits, follows, Spelled, is_name_part, begins_name, are_name_parts}
+use Rattle.text_iregexp.specs.Patterns.{is_group_name}
 use Rattle.text_iregexp.specs.Patterns.{is_same, is_among, are_distinct}
 use Rattle.text_iregexp.specs.PatternFronts.{mark_of, mark_front, name_front, naming, named_front, without_name, with_name, next_front}
 use Rattle.text_iregexp.specs.PatternFronts.{Takes, TakesName, names_of}

@@ -10,7 +10,8 @@ use Rattle.text_regexp.specs.Forms.{AtMost}
 use Rattle.text_regexp.specs.Building.{Means, AllMean}
 use Rattle.text_iregexp.specs.Limits.{depth_limit, size_limit, branch_size, piece_size, atom_size}
 use Rattle.text_iregexp.specs.Grammar.{Token, characters, opened, closed, bar, quantifier, asserted, Regexp, last, branches, Branch}
-use Rattle.text_iregexp.specs.Grammar.{nothing, pieces, Piece, once, times, asserts, Atom, character, group, branch_form, piece_form, atom_form}
+use Rattle.text_iregexp.specs.Grammar.{nothing, pieces, Piece, once, times, asserts, Atom, character, group, branch_form}
+use Rattle.text_iregexp.specs.Grammar.{piece_form, atom_form}
 
 -- what was parsed of a group: the branches that have ended, the pieces of the last one, and the
 -- atom after these

@@ -8,7 +8,8 @@ use Rattle.std.specs.declared.alloc.Global.{Global}
 use Rattle.std.specs.declared.vec.Vec.{Vec}
 use Rattle.text_iregexp.specs.declared.error.IRegexpErrorKind.{IRegexpErrorKind}
 use Rattle.text_iregexp.specs.declared.error.IRegexpErrorKind.TheVariants as kind
-use Rattle.text_iregexp.specs.Characters.{left_parenthesis, right_parenthesis, vertical_bar, question_mark, full_stop, left_bracket, circumflex}
+use Rattle.text_iregexp.specs.Characters.{left_parenthesis, right_parenthesis, vertical_bar, question_mark, full_stop}
+use Rattle.text_iregexp.specs.Characters.{left_bracket, circumflex}
 use Rattle.text_iregexp.specs.Characters.{reverse_solidus, left_brace, right_brace, digit_zero, letter_p, capital_p}
 use Rattle.text_categories.specs.Names.{value_named}
 use Rattle.text_regexp.specs.declared.assertion.Assertion.TheVariants.{Start, End, WordBoundary, NotWordBoundary}

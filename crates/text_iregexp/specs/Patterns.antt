@@ -5,7 +5,8 @@ use Rattle.std.specs.Prelude.{Option, Some, None, option_map, option_and_then, m
 use Rattle.text_categories.specs.Names.{value_named}
 use Rattle.text_categories.specs.declared.Category.{Category}
 use Rattle.text_iregexp.specs.Characters.{left_parenthesis, right_parenthesis, vertical_bar, asterisk, plus_sign, question_mark, left_brace}
-use Rattle.text_iregexp.specs.Characters.{right_brace, full_stop, left_bracket, circumflex, hyphen, right_bracket, reverse_solidus, line_feed}
+use Rattle.text_iregexp.specs.Characters.{right_brace, full_stop, left_bracket, circumflex, hyphen, right_bracket}
+use Rattle.text_iregexp.specs.Characters.{reverse_solidus, line_feed}
 use Rattle.text_iregexp.specs.Characters.{carriage_return, letter_n, letter_r, letter_t, letter_p, capital_p, horizontal_tab, digit_zero}
 use Rattle.text_regexp.specs.declared.assertion.Assertion.TheVariants.{Start, End, WordBoundary, NotWordBoundary}
 use Rattle.text_regexp.specs.declared.class.Item.{Item}

@@ -12,7 +12,7 @@ ghost use Rattle.text_iregexp.specs.PatternMachine.{is_start_token, is_end_token
 
 use crate::error::IRegexpErrorKind;
 use crate::mark::Mark;
-use crate::reader::{Level, take};
+use crate::reader::{Level, accept_token};
 use crate::token::Token;
 use std::alloc::{AllocError, Global};
 use std::mem;
@@ -89,7 +89,7 @@ impl Branches {
         let first = self.here.is_blank() & out;
         self.starts = self.starts | (first & is_start(&taken));
         self.ends = out & is_end(&taken);
-        take(alloc, &mut self.outer, &mut self.here, taken)
+        accept_token(alloc, &mut self.outer, &mut self.here, taken)
     }
 
     /// Accepts a mark.

@@ -83,7 +83,7 @@ fn sign<'t>(alloc: Global, text: &'t [char]) -> Result<(Mark, &'t [char]), IRege
                 let one = Class::single(alloc, Item::Range(c, c))?;
                 return Ok((Mark::Token(Token::Characters(one)), rest));
             }
-            repeated(alloc, text)
+            read_quantifier(alloc, text)
         }
     }
 }
@@ -148,12 +148,12 @@ fn behind_backslash<'t>(
             Mark::Token(Token::Assertion(Assertion::NotWordBoundary)),
             rest,
         )),
-        _ => escaped(alloc, text),
+        _ => read_escape(alloc, text),
     }
 }
 
 /// The characters of the escape after a backslash.
-fn escaped<'t>(alloc: Global, text: &'t [char]) -> Result<(Mark, &'t [char]), IRegexpErrorKind>
+fn read_escape<'t>(alloc: Global, text: &'t [char]) -> Result<(Mark, &'t [char]), IRegexpErrorKind>
     ensures { Fronts ⊥ mark_of (option_map letter_mark (escape_front text.now)) result }
 {
     let (letter, after) = escape(text)?;
@@ -167,7 +167,10 @@ fn escaped<'t>(alloc: Global, text: &'t [char]) -> Result<(Mark, &'t [char]), IR
 }
 
 /// A quantifier, with the `?` after it that makes it lazy.
-fn repeated<'t>(alloc: Global, text: &'t [char]) -> Result<(Mark, &'t [char]), IRegexpErrorKind>
+fn read_quantifier<'t>(
+    alloc: Global,
+    text: &'t [char],
+) -> Result<(Mark, &'t [char]), IRegexpErrorKind>
     ensures { Fronts (LargeCount text.now) mark_of
         (option_and_then repeat_front (token_front text.now)) result }
 {

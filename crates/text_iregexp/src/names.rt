@@ -96,7 +96,7 @@ fn is_among(names: &[Vec<char>], wanted: &[char]) -> bool
 }
 
 /// A copy of the text.
-fn copied(alloc: Global, text: &[char]) -> Result<Vec<char>, AllocError>
+fn copy(alloc: Global, text: &[char]) -> Result<Vec<char>, AllocError>
     ensures { IfOk result (λ v. v.items ≡ text.now) }
 {
     let mut all = Vec::new(alloc);
@@ -119,7 +119,7 @@ pub(crate) fn next_named<'t>(
     if is_among(names.as_slice(), found) {
         return Err(IRegexpErrorKind::Invalid);
     }
-    let kept = copied(alloc, found)?;
+    let kept = copy(alloc, found)?;
     names.push(kept)?;
     Ok((Mark::Token(Token::Open), after))
 }

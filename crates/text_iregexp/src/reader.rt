@@ -209,7 +209,7 @@ fn size(class: &Class) -> usize
 }
 
 /// Accepts a token. `here` is the innermost group, and `outer` has those around it.
-pub(crate) fn take(
+pub(crate) fn accept_token(
     alloc: Global,
     outer: &mut Vec<Level>,
     here: &mut Level,
@@ -279,7 +279,7 @@ pub(crate) fn read(alloc: Global, text: &[char]) -> Result<Expression, IRegexpEr
             Ok(pair) => pair,
             Err(kind) => return Err(IRegexpError { kind, place }),
         };
-        if let Err(kind) = take(alloc, &mut outer, &mut here, token) {
+        if let Err(kind) = accept_token(alloc, &mut outer, &mut here, token) {
             return Err(IRegexpError { kind, place });
         }
         rest = after;

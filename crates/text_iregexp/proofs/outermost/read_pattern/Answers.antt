@@ -2,7 +2,8 @@ use Rattle.std.proofs.Common.{arith, length, ap, sym, subst, ◌≡◌, []}
 use Rattle.text_iregexp.specs.PatternFronts.{mark_of, names_of}
 use Rattle.text_iregexp.proofs.PatternNames.{next_sound}
 use Rattle.text_iregexp.proofs.Reading.{some_left, none_left}
-use Rattle.text_iregexp.proofs.PatternReading.{Reading, reading_init, reading_on, reading_end, refused, says_no_mark, says_no_take, says_no_end}
+use Rattle.text_iregexp.proofs.PatternReading.{Reading, reading_init, reading_on, reading_end, refused, says_no_mark}
+use Rattle.text_iregexp.proofs.PatternReading.{says_no_take, says_no_end}
 use Rattle.text_iregexp.proofs.outermost.read_pattern.Goals as goal
 
 pub loop-rest-init : goal.loop-rest-init

@@ -16,13 +16,13 @@ returns-in-Err c =
     (λ front p. says_no_token _ _ _ _ c.in-Err.kind c.loop-rest.invariant
     (some_left _ _ c.is_empty.ensures c.loop-rest-test.true) c.in-Err.ensures front)
 
-pub take-requires : goal.take-requires
-take-requires c = (front_sound c.loop-rest.rest.now (token_of c.in-Ok.pair.0) c.in-Ok.pair.1.now c.in-Ok.ensures).fit
+pub accept_token-requires : goal.accept_token-requires
+accept_token-requires c = (front_sound c.loop-rest.rest.now (token_of c.in-Ok.pair.0) c.in-Ok.pair.1.now c.in-Ok.ensures).fit
 
-pub returns-in-Err-take : goal.returns-in-Err-take
-returns-in-Err-take c =
+pub returns-in-Err-accept_token : goal.returns-in-Err-accept_token
+returns-in-Err-accept_token c =
     refused _ _ _ _ _ c.loop-rest.invariant (omega (arith, c.saturating_sub-place.ensures))
-    (λ front p. says_no_take _ _ _ _ _ _ _ _ c.in-Err-take.kind c.loop-rest.invariant c.in-Ok.ensures c.in-Err-take.ensures front p)
+    (λ front p. says_no_take _ _ _ _ _ _ _ _ c.in-Err-accept_token.kind c.loop-rest.invariant c.in-Ok.ensures c.in-Err-accept_token.ensures front p)
 
 pub loop-rest-smaller : goal.loop-rest-smaller
 loop-rest-smaller c = front_shorter _ _ _ c.in-Ok.ensures
