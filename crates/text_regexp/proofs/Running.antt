@@ -1,5 +1,5 @@
 -- Reading a text over the marks.
-use Rattle.std.proofs.Common.{Option, None, Some, ◌≡◌, ◌↔◌, ℕ, Bool, true, false, ◌&&◌, ◌||◌, IsTrue, List, [], ◌∷◌, ◌++◌, ◌⊎◌}
+use Rattle.std.proofs.Common.{Option, not, None, Some, ◌≡◌, ◌↔◌, ℕ, Bool, true, false, ◌&&◌, ◌||◌, IsTrue, List, [], ◌∷◌, ◌++◌, ◌⊎◌}
 use Rattle.std.proofs.Common.{inl, inr, refl, sym, ap, ◌∙◌}
 use Rattle.std.proofs.Common.{subst, true≢false}
 use Rattle.std.proofs.lemmas.Bool.{and_parts, and_from, or_cases, or_left, or_right, or_from, or_parts}
@@ -663,3 +663,8 @@ empty_part n text plain h = record {
   split = refl;
   matched = skips_sound n None (next_of text None) (plain_stands n None (next_of text None) plain) h;
 }
+
+-- where no mark is left
+pub no_mark : (b : Bool) → not b ≡ true → b ≡ false
+no_mark true e = absurd (true≢false (sym e))
+no_mark false e = refl

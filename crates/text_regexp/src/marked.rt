@@ -54,6 +54,24 @@ pub(crate) enum Node {
     },
 }
 
+/// Where the text read so far is in a regular expression.
+#[derive(Clone, Copy)]
+pub(crate) struct Edges {
+    /// Whether it can end here.
+    pub(crate) ends: bool,
+    /// Whether it can go on from here, as there is a mark.
+    pub(crate) marked: bool,
+}
+
+/// What a regular expression matches at a place of the text.
+#[derive(Clone, Copy)]
+pub(crate) struct Placed {
+    /// Whether it matches the empty text here.
+    pub(crate) skips: bool,
+    /// Whether the text read so far can end here.
+    pub(crate) ends: bool,
+}
+
 impl Node {
     /// Whether it is the tree that matches only the empty text.
     pub(crate) fn is_empty(&self) -> bool
@@ -233,22 +251,34 @@ impl Node {
         Ok(())
     }
 
-    /// Sets the marks of a list in a tree that has none. Returns the rest of the list, whether the
-    /// text can end here, and whether there is a mark.
-    pub(crate) fn set_marks<'a>(&mut self, list: &'a [u16]) -> (&'a [u16], bool, bool)
+    /// Sets the marks of a list in a tree that has none. Returns the rest of the list, and where
+    /// the text is then.
+    pub(crate) fn set_marks<'a>(&mut self, list: &'a [u16]) -> (&'a [u16], Edges)
         requires kept { IsKept self.old }
         requires unmarked { is_marked self.old ≡ false }
         ensures marks { self.new ≡ placed self.old list.now }
         ensures rest { result.0.now ≡ behind self.old list.now }
-        ensures ends { result.1 ≡ ends_here self.new }
-        ensures marked { result.2 ≡ is_marked self.new }
+        ensures ends { result.1.ends ≡ ends_here self.new }
+        ensures marked { result.1.marked ≡ is_marked self.new }
     {
         match self {
-            Node::Empty | Node::Assert { .. } => (list, false, false),
+            Node::Empty | Node::Assert { .. } => (
+                list,
+                Edges {
+                    ends: false,
+                    marked: false,
+                },
+            ),
             Node::Class { mark, .. } => {
                 let (first, rest) = split(list);
                 *mark = first > 0;
-                (rest, *mark, *mark)
+                (
+                    rest,
+                    Edges {
+                        ends: *mark,
+                        marked: *mark,
+                    },
+                )
             }
             Node::Concat {
                 left,
@@ -261,14 +291,26 @@ impl Node {
             } => {
                 let (first, rest) = split(list);
                 if first == 0 {
-                    return (rest, false, false);
+                    return (
+                        rest,
+                        Edges {
+                            ends: false,
+                            marked: false,
+                        },
+                    );
                 }
-                let (rest, ends, goes_left) = left.set_marks(rest);
-                *left_ends = ends;
-                *left_marked = goes_left;
-                let (rest, found, goes_right) = right.set_marks(rest);
-                *right_marked = goes_right;
-                (rest, found | (ends & *right_empty), goes_left | goes_right)
+                let (rest, on_left) = left.set_marks(rest);
+                *left_ends = on_left.ends;
+                *left_marked = on_left.marked;
+                let (rest, on_right) = right.set_marks(rest);
+                *right_marked = on_right.marked;
+                (
+                    rest,
+                    Edges {
+                        ends: on_right.ends | (on_left.ends & *right_empty),
+                        marked: on_left.marked | on_right.marked,
+                    },
+                )
             }
             Node::Alternation {
                 left,
@@ -278,28 +320,52 @@ impl Node {
             } => {
                 let (first, rest) = split(list);
                 if first == 0 {
-                    return (rest, false, false);
+                    return (
+                        rest,
+                        Edges {
+                            ends: false,
+                            marked: false,
+                        },
+                    );
                 }
-                let (rest, left_ends, goes_left) = left.set_marks(rest);
-                *left_marked = goes_left;
-                let (rest, right_ends, goes_right) = right.set_marks(rest);
-                *right_marked = goes_right;
-                (rest, left_ends | right_ends, goes_left | goes_right)
+                let (rest, on_left) = left.set_marks(rest);
+                *left_marked = on_left.marked;
+                let (rest, on_right) = right.set_marks(rest);
+                *right_marked = on_right.marked;
+                (
+                    rest,
+                    Edges {
+                        ends: on_left.ends | on_right.ends,
+                        marked: on_left.marked | on_right.marked,
+                    },
+                )
             }
             Node::Star { body, body_ends } => {
-                let (rest, ends, marked) = body.set_marks(list);
-                *body_ends = ends;
-                (rest, ends, marked)
+                let (rest, in_body) = body.set_marks(list);
+                *body_ends = in_body.ends;
+                (rest, in_body)
             }
             Node::UpTo { most, left, .. } => {
                 let (first, rest) = split(list);
                 if first == 0 {
-                    return (rest, false, false);
+                    return (
+                        rest,
+                        Edges {
+                            ends: false,
+                            marked: false,
+                        },
+                    );
                 }
                 let (count, rest) = split(rest);
                 let count = count as usize;
                 *left = (count <= *most).then_some(count);
-                (rest, left.is_some(), left.is_some())
+                (
+                    rest,
+                    Edges {
+                        ends: left.is_some(),
+                        marked: left.is_some(),
+                    },
+                )
             }
         }
     }
@@ -359,25 +425,34 @@ impl Node {
         }
     }
 
-    /// Places the assertions, and what the tree keeps, between the two characters. Returns whether
-    /// the empty text is matched here, and whether the text can end here. Counts what is looked at.
-    pub(crate) fn stand(
+    /// Places the assertions, and what the tree keeps, between the two characters. Returns what is
+    /// matched there. Counts what is looked at.
+    pub(crate) fn place_assertions(
         &mut self,
         before: Option<char>,
         after: Option<char>,
         seen: &mut usize,
-    ) -> (bool, bool)
+    ) -> Placed
         ensures stood { self.new ≡ standing before after self.old }
-        ensures skips { result.0 ≡ skips self.new }
-        ensures ends { result.1 ≡ ends_here self.new }
+        ensures skips { result.skips ≡ skips self.new }
+        ensures ends { result.ends ≡ ends_here self.new }
     {
         look(seen, 1);
         match self {
-            Node::Empty => (true, false),
-            Node::Class { mark, .. } => (false, *mark),
+            Node::Empty => Placed {
+                skips: true,
+                ends: false,
+            },
+            Node::Class { mark, .. } => Placed {
+                skips: false,
+                ends: *mark,
+            },
             Node::Assert { assertion, holds } => {
                 *holds = assertion.holds(before, after);
-                (*holds, false)
+                Placed {
+                    skips: *holds,
+                    ends: false,
+                }
             }
             Node::Concat {
                 left,
@@ -387,60 +462,81 @@ impl Node {
                 left_ends,
                 ..
             } => {
-                let (skips, ends) = left.stand(before, after, seen);
-                *left_empty = skips;
-                *left_ends = ends;
-                let (ends_empty, found) = right.stand(before, after, seen);
-                *right_empty = ends_empty;
-                (skips & ends_empty, found | (ends & ends_empty))
+                let on_left = left.place_assertions(before, after, seen);
+                *left_empty = on_left.skips;
+                *left_ends = on_left.ends;
+                let on_right = right.place_assertions(before, after, seen);
+                *right_empty = on_right.skips;
+                Placed {
+                    skips: on_left.skips & on_right.skips,
+                    ends: on_right.ends | (on_left.ends & on_right.skips),
+                }
             }
             Node::Alternation { left, right, .. } => {
-                let (left_empty, left_ends) = left.stand(before, after, seen);
-                let (right_empty, right_ends) = right.stand(before, after, seen);
-                (left_empty | right_empty, left_ends | right_ends)
+                let on_left = left.place_assertions(before, after, seen);
+                let on_right = right.place_assertions(before, after, seen);
+                Placed {
+                    skips: on_left.skips | on_right.skips,
+                    ends: on_left.ends | on_right.ends,
+                }
             }
             Node::Star { body, body_ends } => {
-                let (_skips, ends) = body.stand(before, after, seen);
-                *body_ends = ends;
-                (true, ends)
+                let in_body = body.place_assertions(before, after, seen);
+                *body_ends = in_body.ends;
+                Placed {
+                    skips: true,
+                    ends: in_body.ends,
+                }
             }
-            Node::UpTo { left, .. } => (true, left.is_some()),
+            Node::UpTo { left, .. } => Placed {
+                skips: true,
+                ends: left.is_some(),
+            },
         }
     }
 
     /// Moves the marks over a character, as `shift` does. Where the text does not begin here and
     /// there is no mark, nothing is done.
     #[cycle(shift)]
-    fn step(&mut self, marked: bool, start: bool, c: char, seen: &mut usize) -> (bool, bool)
+    fn step(&mut self, marked: bool, start: bool, c: char, seen: &mut usize) -> Edges
         requires kept { IsKept self.old }
         requires marked { marked ≡ is_marked self.old }
         ensures marks { self.new ≡ shifted start c self.old }
-        ensures ends { result.0 ≡ ends_here self.new }
-        ensures marked { result.1 ≡ is_marked self.new }
+        ensures ends { result.ends ≡ ends_here self.new }
+        ensures marked { result.marked ≡ is_marked self.new }
     {
         if !(start | marked) {
-            return (false, false);
+            return Edges {
+                ends: false,
+                marked: false,
+            };
         }
         self.shift(start, c, seen)
     }
 
     /// Moves the marks over a character, each to the classes that may follow. With `start`, the
-    /// text may also begin with this character. Returns whether the text can end after it, and
-    /// whether there is a mark. Counts the parts, and the items of classes, that are looked at.
+    /// text may also begin with this character. Returns where the
+    /// text is after it. Counts the parts, and the items of classes, that are looked at.
     #[cycle(shift)]
-    pub(crate) fn shift(&mut self, start: bool, c: char, seen: &mut usize) -> (bool, bool)
+    pub(crate) fn shift(&mut self, start: bool, c: char, seen: &mut usize) -> Edges
         requires { IsKept self.old }
         ensures marks { self.new ≡ shifted start c self.old }
-        ensures ends { result.0 ≡ ends_here self.new }
-        ensures marked { result.1 ≡ is_marked self.new }
+        ensures ends { result.ends ≡ ends_here self.new }
+        ensures marked { result.marked ≡ is_marked self.new }
     {
         look(seen, 1);
         match self {
-            Node::Empty | Node::Assert { .. } => (false, false),
+            Node::Empty | Node::Assert { .. } => Edges {
+                ends: false,
+                marked: false,
+            },
             Node::Class { class, mark } => {
                 look(seen, if start { class.items.len() } else { 0 });
                 *mark = start && class.contains(c);
-                (*mark, *mark)
+                Edges {
+                    ends: *mark,
+                    marked: *mark,
+                }
             }
             Node::Concat {
                 left,
@@ -452,12 +548,15 @@ impl Node {
                 right_marked,
             } => {
                 let enters = *left_ends | (start & *left_empty);
-                let (ends, goes_left) = left.step(*left_marked, start, c, seen);
-                *left_ends = ends;
-                *left_marked = goes_left;
-                let (found, goes_right) = right.step(*right_marked, enters, c, seen);
-                *right_marked = goes_right;
-                (found | (ends & *right_empty), goes_left | goes_right)
+                let on_left = left.step(*left_marked, start, c, seen);
+                *left_ends = on_left.ends;
+                *left_marked = on_left.marked;
+                let on_right = right.step(*right_marked, enters, c, seen);
+                *right_marked = on_right.marked;
+                Edges {
+                    ends: on_right.ends | (on_left.ends & *right_empty),
+                    marked: on_left.marked | on_right.marked,
+                }
             }
             Node::Alternation {
                 left,
@@ -465,21 +564,27 @@ impl Node {
                 left_marked,
                 right_marked,
             } => {
-                let (left_ends, goes_left) = left.step(*left_marked, start, c, seen);
-                *left_marked = goes_left;
-                let (right_ends, goes_right) = right.step(*right_marked, start, c, seen);
-                *right_marked = goes_right;
-                (left_ends | right_ends, goes_left | goes_right)
+                let on_left = left.step(*left_marked, start, c, seen);
+                *left_marked = on_left.marked;
+                let on_right = right.step(*right_marked, start, c, seen);
+                *right_marked = on_right.marked;
+                Edges {
+                    ends: on_left.ends | on_right.ends,
+                    marked: on_left.marked | on_right.marked,
+                }
             }
             Node::Star { body, body_ends } => {
-                let (ends, marked) = body.shift(start | *body_ends, c, seen);
-                *body_ends = ends;
-                (ends, marked)
+                let in_body = body.shift(start | *body_ends, c, seen);
+                *body_ends = in_body.ends;
+                in_body
             }
             Node::UpTo { class, most, left } => {
                 look(seen, class.items.len());
                 *left = fewer(class, if start { Some(*most) } else { *left }, c);
-                (left.is_some(), left.is_some())
+                Edges {
+                    ends: left.is_some(),
+                    marked: left.is_some(),
+                }
             }
         }
     }

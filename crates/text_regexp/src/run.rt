@@ -31,7 +31,7 @@ pub(crate) fn matches_whole(
     }
     let found = run_between(root, text, work);
     root.clear();
-    root.stand(None, None, &mut 0);
+    root.place_assertions(None, None, &mut 0);
     found
 }
 
@@ -54,14 +54,14 @@ fn run(root: &mut Node, text: &str, work: &mut Work) -> Option<bool>
             return None;
         }
         seen = 0;
-        let (found, marked) = root.shift(start, c, &mut seen);
-        if !marked {
+        let edges = root.shift(start, c, &mut seen);
+        if !edges.marked {
             return Some(false);
         }
-        if found && root.is_settled() {
+        if edges.ends && root.is_settled() {
             return Some(true);
         }
-        ends = found;
+        ends = edges.ends;
         start = false;
     }
     Some(ends)
@@ -85,16 +85,16 @@ fn run_between(root: &mut Node, text: &str, work: &mut Work) -> Option<bool>
             return None;
         }
         seen = 0;
-        root.stand(before, Some(c), &mut seen);
-        let (_ends, marked) = root.shift(start, c, &mut seen);
-        if !marked {
+        root.place_assertions(before, Some(c), &mut seen);
+        let edges = root.shift(start, c, &mut seen);
+        if !edges.marked {
             return Some(false);
         }
         start = false;
         before = Some(c);
     }
-    let (skips, ends) = root.stand(before, None, &mut 0);
-    Some(ends | (start & skips))
+    let here = root.place_assertions(before, None, &mut 0);
+    Some(here.ends | (start & here.skips))
 }
 
 /// Whether the tree matches a part of the text. It has no marks before and afterwards.
@@ -113,7 +113,7 @@ pub(crate) fn matches_part(root: &mut Node, plain: bool, text: &str) -> bool
     }
     let found = search_between(root, text);
     root.clear();
-    root.stand(None, None, &mut 0);
+    root.place_assertions(None, None, &mut 0);
     found
 }
 
@@ -131,7 +131,7 @@ fn search(root: &mut Node, text: &str) -> bool
         return true;
     }
     for c in text.chars() {
-        if root.shift(true, c, &mut 0).0 {
+        if root.shift(true, c, &mut 0).ends {
             return true;
         }
     }
@@ -149,13 +149,13 @@ fn search_between(root: &mut Node, text: &str) -> bool
 {
     let mut before = None;
     for c in text.chars() {
-        let (skips, ends) = root.stand(before, Some(c), &mut 0);
-        if skips | ends {
+        let here = root.place_assertions(before, Some(c), &mut 0);
+        if here.skips | here.ends {
             return true;
         }
         root.shift(true, c, &mut 0);
         before = Some(c);
     }
-    let (skips, ends) = root.stand(before, None, &mut 0);
-    skips | ends
+    let here = root.place_assertions(before, None, &mut 0);
+    here.skips | here.ends
 }

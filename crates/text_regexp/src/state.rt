@@ -35,8 +35,8 @@ impl State {
             ≡ reads start (placed tree.old marks.now) (c ∷ cs)) }
     {
         let _rest = tree.set_marks(marks);
-        let (ends, marked) = tree.shift(start, c, &mut 0);
-        let verdict = verdict_of(tree, marked);
+        let edges = tree.shift(start, c, &mut 0);
+        let verdict = verdict_of(tree, edges.marked);
         let mut marks = Vec::new(alloc);
         let listed = tree.list_marks(&mut marks);
         tree.clear();
@@ -45,7 +45,7 @@ impl State {
         };
         Some(State {
             marks,
-            ends,
+            ends: edges.ends,
             verdict,
         })
     }

@@ -4,7 +4,7 @@ use Rattle.std.proofs.StrCases.{chars_of_empty}
 use Rattle.std.specs.Str.{chars, IsUtf8}
 use Rattle.std.specs.Str.Iter.{chars_rest}
 use Rattle.text_regexp.specs.Marked.{cleared}
-use Rattle.text_regexp.proofs.Running.{whole_init, whole_step, whole_end, whole_settled, whole_unmarked, cleared_unmarked}
+use Rattle.text_regexp.proofs.Running.{whole_init, whole_step, whole_end, whole_settled, whole_unmarked, cleared_unmarked, no_mark}
 use Rattle.text_regexp.proofs.Placing.{cleared_shifted}
 use Rattle.text_regexp.proofs.Works.{spends_none, spends_some, stays_less}
 use Rattle.text_regexp.proofs.run.run.Goals as goal
@@ -28,42 +28,42 @@ loop-c-preserved c =
     let parts = c.in-Some.ensures.steps.0 in record {
       utf8 = IsUtf8-past_char _ _ c.in-Some.c held.utf8 parts;
       whole = whole_step _ _ _ _ _ _ c.in-Some.c _ _ _ held.whole
-          (chars_past_char _ _ c.in-Some.c held.utf8 parts) c.shift-found.ensures.marks c.shift-found.ensures.ends;
-      same = ap cleared c.shift-found.ensures.marks ∙ (cleared_shifted c.loop-c.root _ _ ∙ held.same);
+          (chars_past_char _ _ c.in-Some.c held.utf8 parts) c.shift-edges.ensures.marks c.shift-edges.ensures.ends;
+      same = ap cleared c.shift-edges.ensures.marks ∙ (cleared_shifted c.loop-c.root _ _ ∙ held.same);
       work = stays_less _ _ _ _ c.loop-c.invariant.work c.take.ensures.rest;
     }
 
-pub returns-then-not-marked-clause-kept : goal.returns-then-not-marked-clause-kept
-returns-then-not-marked-clause-kept c =
+pub returns-then-not-edges-clause-kept : goal.returns-then-not-edges-clause-kept
+returns-then-not-edges-clause-kept c =
     (whole_step _ _ _ _ _ _ c.in-Some.c _ _ _ c.loop-c.invariant.whole
     (chars_past_char _ _ c.in-Some.c c.loop-c.invariant.utf8 c.in-Some.ensures.steps.0)
-    c.shift-found.ensures.marks c.shift-found.ensures.ends).kept
+    c.shift-edges.ensures.marks c.shift-edges.ensures.ends).kept
 
-pub returns-then-not-marked-clause-same : goal.returns-then-not-marked-clause-same
-returns-then-not-marked-clause-same c =
-    ap cleared c.shift-found.ensures.marks ∙ (cleared_shifted c.loop-c.root _ _ ∙ c.loop-c.invariant.same)
+pub returns-then-not-edges-clause-same : goal.returns-then-not-edges-clause-same
+returns-then-not-edges-clause-same c =
+    ap cleared c.shift-edges.ensures.marks ∙ (cleared_shifted c.loop-c.root _ _ ∙ c.loop-c.invariant.same)
 
-pub returns-then-not-marked-clause-matched : goal.returns-then-not-marked-clause-matched
-returns-then-not-marked-clause-matched c =
+pub returns-then-not-edges-clause-matched : goal.returns-then-not-edges-clause-matched
+returns-then-not-edges-clause-matched c =
     whole_unmarked _ _ _ _ _ (whole_step _ _ _ _ _ _ c.in-Some.c _ _ _ c.loop-c.invariant.whole
     (chars_past_char _ _ c.in-Some.c c.loop-c.invariant.utf8 c.in-Some.ensures.steps.0)
-    c.shift-found.ensures.marks c.shift-found.ensures.ends) (sym c.shift-found.ensures.marked ∙ c.if-not-marked.true)
+    c.shift-edges.ensures.marks c.shift-edges.ensures.ends) (sym c.shift-edges.ensures.marked ∙ no_mark _ c.if-not-edges.true)
 
 pub returns-then-is_settled-clause-kept : goal.returns-then-is_settled-clause-kept
 returns-then-is_settled-clause-kept c =
     (whole_step _ _ _ _ _ _ c.in-Some.c _ _ _ c.loop-c.invariant.whole
     (chars_past_char _ _ c.in-Some.c c.loop-c.invariant.utf8 c.in-Some.ensures.steps.0)
-    c.shift-found.ensures.marks c.shift-found.ensures.ends).kept
+    c.shift-edges.ensures.marks c.shift-edges.ensures.ends).kept
 
 pub returns-then-is_settled-clause-same : goal.returns-then-is_settled-clause-same
 returns-then-is_settled-clause-same c =
-    ap cleared c.shift-found.ensures.marks ∙ (cleared_shifted c.loop-c.root _ _ ∙ c.loop-c.invariant.same)
+    ap cleared c.shift-edges.ensures.marks ∙ (cleared_shifted c.loop-c.root _ _ ∙ c.loop-c.invariant.same)
 
 pub returns-then-is_settled-clause-matched : goal.returns-then-is_settled-clause-matched
 returns-then-is_settled-clause-matched c =
     whole_settled _ _ _ _ _ _ (whole_step _ _ _ _ _ _ c.in-Some.c _ _ _ c.loop-c.invariant.whole
     (chars_past_char _ _ c.in-Some.c c.loop-c.invariant.utf8 c.in-Some.ensures.steps.0)
-    c.shift-found.ensures.marks c.shift-found.ensures.ends) (sym c.is_settled.ensures ∙ c.if-is_settled.true)
+    c.shift-edges.ensures.marks c.shift-edges.ensures.ends) (sym c.is_settled.ensures ∙ c.if-is_settled.true)
 
 pub returns-clause-kept : goal.returns-clause-kept
 returns-clause-kept c = c.loop-c.invariant.whole.kept
@@ -75,8 +75,8 @@ pub returns-clause-matched : goal.returns-clause-matched
 returns-clause-matched c =
     whole_end _ _ _ _ _ _ c.loop-c.invariant.whole (chars_of_empty (chars_rest c.loop-c.c-iterator) c.in-None.ensures.steps.0.0)
 
-pub returns-then-not-marked-clause-work : goal.returns-then-not-marked-clause-work
-returns-then-not-marked-clause-work c = spends_some _ _ false (stays_less _ _ _ _ c.loop-c.invariant.work c.take.ensures.rest)
+pub returns-then-not-edges-clause-work : goal.returns-then-not-edges-clause-work
+returns-then-not-edges-clause-work c = spends_some _ _ false (stays_less _ _ _ _ c.loop-c.invariant.work c.take.ensures.rest)
 
 pub returns-then-is_settled-clause-work : goal.returns-then-is_settled-clause-work
 returns-then-is_settled-clause-work c = spends_some _ _ true (stays_less _ _ _ _ c.loop-c.invariant.work c.take.ensures.rest)

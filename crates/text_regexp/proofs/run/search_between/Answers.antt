@@ -20,45 +20,45 @@ loop-c-init c =
     }
 
 pub shift-requires : goal.shift-requires
-shift-requires c = subst IsKept (sym c.stand-skips.ensures.stood) (kept_standing _ _ _ c.loop-c.invariant.parting.kept)
+shift-requires c = subst IsKept (sym c.place_assertions-here.ensures.stood) (kept_standing _ _ _ c.loop-c.invariant.parting.kept)
 
-pub returns-then-skips-ends-clause-kept : goal.returns-then-skips-ends-clause-kept
-returns-then-skips-ends-clause-kept c =
-    subst IsKept (sym c.stand-skips.ensures.stood) (kept_standing _ _ _ c.loop-c.invariant.parting.kept)
+pub returns-then-here-clause-kept : goal.returns-then-here-clause-kept
+returns-then-here-clause-kept c =
+    subst IsKept (sym c.place_assertions-here.ensures.stood) (kept_standing _ _ _ c.loop-c.invariant.parting.kept)
 
-pub returns-then-skips-ends-clause-same : goal.returns-then-skips-ends-clause-same
-returns-then-skips-ends-clause-same c = stood_on _ _ _ _ _ c.stand-skips.ensures.stood c.loop-c.invariant.same
+pub returns-then-here-clause-same : goal.returns-then-here-clause-same
+returns-then-here-clause-same c = stood_on _ _ _ _ _ c.place_assertions-here.ensures.stood c.loop-c.invariant.same
 
-pub returns-then-skips-ends-clause-matched : goal.returns-then-skips-ends-clause-matched
-returns-then-skips-ends-clause-matched c =
+pub returns-then-here-clause-matched : goal.returns-then-here-clause-matched
+returns-then-here-clause-matched c =
     let held = c.loop-c.invariant in
     let found = parting_here _ _ _ _ c.in-Some.c _ _ _ _ _ held.parting
-    (chars_past_char _ _ c.in-Some.c held.utf8 c.in-Some.ensures.steps.0) c.stand-skips.ensures.stood c.stand-skips.ensures.skips
-    c.stand-skips.ensures.ends c.if-skips-ends.true in
+    (chars_past_char _ _ c.in-Some.c held.utf8 c.in-Some.ensures.steps.0) c.place_assertions-here.ensures.stood c.place_assertions-here.ensures.skips
+    c.place_assertions-here.ensures.ends c.if-here.true in
     (λ _. found, λ _. refl)
 
 pub loop-c-preserved : goal.loop-c-preserved
 loop-c-preserved c =
     let held = c.loop-c.invariant in
     let parts = c.in-Some.ensures.steps.0 in
-    let none = or_parts c.stand-skips.result.0 c.stand-skips.result.1 c.if-skips-ends.false in
-    let stood = c.stand-skips.ensures.stood in record {
+    let none = or_parts c.place_assertions-here.result.skips c.place_assertions-here.result.ends c.if-here.false in
+    let stood = c.place_assertions-here.ensures.stood in record {
       utf8 = IsUtf8-past_char _ _ c.in-Some.c held.utf8 parts;
       parting = parting_step _ _ _ _ c.in-Some.c _ _ _ held.parting (chars_past_char _ _ c.in-Some.c held.utf8 parts)
-          (ap skips (sym stood) ∙ (sym c.stand-skips.ensures.skips ∙ none.0))
-          (ap ends_here (sym stood) ∙ (sym c.stand-skips.ensures.ends ∙ none.1))
+          (ap skips (sym stood) ∙ (sym c.place_assertions-here.ensures.skips ∙ none.0))
+          (ap ends_here (sym stood) ∙ (sym c.place_assertions-here.ensures.ends ∙ none.1))
           (c.shift.ensures.marks ∙ ap (shifted true c.in-Some.c) stood);
       same = moved_on _ _ _ _ _ c.shift.ensures.marks (stood_on _ _ _ _ _ stood held.same);
     }
 
 pub returns-clause-kept : goal.returns-clause-kept
-returns-clause-kept c = subst IsKept (sym c.stand-skips-2.ensures.stood) (kept_standing _ _ _ c.loop-c.invariant.parting.kept)
+returns-clause-kept c = subst IsKept (sym c.place_assertions-here-2.ensures.stood) (kept_standing _ _ _ c.loop-c.invariant.parting.kept)
 
 pub returns-clause-same : goal.returns-clause-same
-returns-clause-same c = stood_on _ _ _ _ _ c.stand-skips-2.ensures.stood c.loop-c.invariant.same
+returns-clause-same c = stood_on _ _ _ _ _ c.place_assertions-here-2.ensures.stood c.loop-c.invariant.same
 
 pub returns-clause-matched : goal.returns-clause-matched
 returns-clause-matched c =
     parting_done _ _ _ _ _ _ _ _ c.loop-c.invariant.parting
-    (chars_of_empty (chars_rest c.loop-c.c-iterator) c.in-None.ensures.steps.0.0) c.stand-skips-2.ensures.stood
-    c.stand-skips-2.ensures.skips c.stand-skips-2.ensures.ends
+    (chars_of_empty (chars_rest c.loop-c.c-iterator) c.in-None.ensures.steps.0.0) c.place_assertions-here-2.ensures.stood
+    c.place_assertions-here-2.ensures.skips c.place_assertions-here-2.ensures.ends

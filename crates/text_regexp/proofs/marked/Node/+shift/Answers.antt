@@ -14,16 +14,16 @@ step-returns-then-not-start-marked-clause-ends t c =
 
 pub shift-returns-in-Concat-clause-marks : goal.shift-returns-in-Concat-clause-marks
 shift-returns-in-Concat-clause-marks t c =
-    let l = c.step-ends.ensures in
-    let r = c.step-found.ensures in
+    let l = c.step-on_left.ensures in
+    let r = c.step-on_right.ensures in
     let goes = c.args.start in
     shifted_concat goes c.args.c c.args.self.now _ _ _ _ _ _ _ _ _ _ _ _ c.in-Concat.is (l.marks ∙ ap (shifted goes c.args.c) c.deref_mut.ensures.value)
     (r.marks ∙ ap (shifted _ c.args.c) c.deref_mut-in-Concat.ensures.value) l.ends l.marked r.marked
 
 pub shift-returns-in-Alternation-clause-marks : goal.shift-returns-in-Alternation-clause-marks
 shift-returns-in-Alternation-clause-marks t c =
-    let l = c.step-left_ends.ensures in
-    let r = c.step-right_ends.ensures in
+    let l = c.step-on_left-in-Alternation.ensures in
+    let r = c.step-on_right-in-Alternation.ensures in
     let goes = c.args.start in
     shifted_alternation goes c.args.c c.args.self.now _ _ _ _ _ _ _ _ c.in-Alternation.is
     (l.marks ∙ ap (shifted goes c.args.c) c.deref_mut-in-Alternation.ensures.value)
@@ -31,7 +31,7 @@ shift-returns-in-Alternation-clause-marks t c =
 
 pub shift-returns-in-Star-clause-marks : goal.shift-returns-in-Star-clause-marks
 shift-returns-in-Star-clause-marks t c =
-    let b = c.shift-ends.ensures in
+    let b = c.shift-in_body.ensures in
     shifted_star c.args.start c.args.c c.args.self.now _ _ _ _ c.in-Star.is (b.marks ∙ ap (shifted _ c.args.c) c.deref_mut-in-Star.ensures.value) b.ends
 
 pub shift-returns-in-Concat-clause-marked : goal.shift-returns-in-Concat-clause-marked
