@@ -200,7 +200,7 @@ def check_events(calls):
             calls.add(row, "parse_events", text, limit, gives=["events", digits(events), ""])
     for row in rows.REFUSED_EVENTS:
         text, answers = row
-        words = [refusal(*it) if isinstance(it, tuple) else ["events", digits(it)] for it in answers]
+        words = [["number"] if it is None else refusal(*it) if isinstance(it, tuple) else ["events", digits(it)] for it in answers]
         calls.add(row, "read_events", text, "", "refused", gives=words[0])
         calls.add(
             row, "parse_events", text, "", str(len(answers)), "refused", gives=lambda found, words=words: is_told(found, words)

@@ -95,10 +95,11 @@ EVENTS = [
     ),
 ]
 
-# A text, and what one call after the other returns where each number is refused: events, or a refusal.
+# A text, and what one call after the other returns where each number is refused: events, a refusal, or None for the
+# error of the events.
 REFUSED_EVENTS = [
-    ("[null, 1] true", [(1, 8, "OutOfMemory"), (1, 8, "InvalidCharacter", "]")]),
-    ("1 true", [(1, 1, "OutOfMemory"), "true ", (1, 6, "UnexpectedEof")]),
+    ("[null, 1] true", [None, (1, 8, "InvalidCharacter", "]")]),
+    ("1 true", [None, "true ", (1, 6, "UnexpectedEof")]),
     ("trux {}", [(1, 4, "UnexpectedInLiteral", "x"), "{ } "]),
 ]
 

@@ -20,7 +20,7 @@ WORDS = {
     "docs/DECISIONS.md": 2_100,
     "docs/DEFINITIONS.md": 2_600,
     "docs/DIFFERENCES.md": 1_000,
-    "docs/GUARANTEES.md": 4_700,
+    "docs/GUARANTEES.md": 4_750,
     "docs/RECIPES.md": 700,
     "docs/SCHEMA.md": 1_400,
     "docs/TESTING.md": 900,

@@ -1,13 +1,13 @@
 //! Calls that agree on a text: whatever reads it has one answer, and its value is copied and written in each way.
 
 use crate::inputs::Inputs;
-use crate::record::Record;
+use crate::record::{Record, Stop};
 use crate::reply::Reply;
-use std::alloc::Global;
+use std::alloc::{AllocError, Global};
 use std::io;
 use tinyjson::{
-    JsonGenerator, JsonNumber, JsonParseError, JsonParseResult, JsonParser, JsonValue, check,
-    read_events,
+    JsonGenerator, JsonNumber, JsonParseError, JsonParseResult, JsonParser, JsonValue, ReadError,
+    check, read_events,
 };
 
 /// The first input is a text. With a second one the value is not indented, which takes the square of the depth.
@@ -75,10 +75,11 @@ fn is_answer_without_value(alloc: Global, text: &str, answer: Result<(), JsonPar
         && without_record(parser.parse_events(record)) == answer
 }
 
-fn without_record(answer: Result<Record, (JsonParseError, Record)>) -> Result<(), JsonParseError> {
+fn without_record(answer: Result<Record, (ReadError<Stop>, Record)>) -> Result<(), JsonParseError> {
     match answer {
         Ok(_) => Ok(()),
-        Err((error, _)) => Err(error),
+        Err((ReadError::Parse(error), _)) => Err(error),
+        Err((ReadError::Events(_), _)) => Err(JsonParseError::from(AllocError)),
     }
 }
 

@@ -2,13 +2,13 @@
 ghost use Rattle.std.specs.Iterator.{IsFinite};
 
 use crate::inputs::Inputs;
-use crate::record::Record;
+use crate::record::{Record, Stop};
 use crate::reply::Reply;
-use std::alloc::Global;
+use std::alloc::{AllocError, Global};
 use std::io;
 use tinyjson::{
     JsonKind, JsonParseError, JsonParseErrorKind as Kind, JsonParseResult, JsonParser, JsonValue,
-    check, check_with_depth_limit, read_events, read_events_with_depth_limit,
+    ReadError, check, check_with_depth_limit, read_events, read_events_with_depth_limit,
 };
 
 /// The inputs are a text, a limit on depth, and for a parser how often it is called.
@@ -84,7 +84,7 @@ fn nth_record<I: Iterator<Item = char> + Drop>(
     mut parser: JsonParser<I>,
     call: usize,
     record: Record,
-) -> Result<Record, (JsonParseError, Record)> {
+) -> Result<Record, (ReadError<Stop>, Record)> {
     for _ in 1..call {
         let _ = parser.parse_events(record.begun());
     }
@@ -110,7 +110,7 @@ fn events_of(
     text: &str,
     limit: Option<usize>,
     refuses_numbers: bool,
-) -> Result<Record, (JsonParseError, Record)> {
+) -> Result<Record, (ReadError<Stop>, Record)> {
     let record = Record::new(alloc, refuses_numbers);
     match limit {
         None => read_events(alloc, text, record),
@@ -143,13 +143,15 @@ fn checked(reply: &mut Reply, answer: Result<(), JsonParseError>) -> io::Result<
 }
 
 /// The events, or an error.
-fn told(reply: &mut Reply, answer: &Result<Record, (JsonParseError, Record)>) -> io::Result<()> {
+fn told(reply: &mut Reply, answer: &Result<Record, (ReadError<Stop>, Record)>) -> io::Result<()> {
     match answer {
         Ok(record) => {
             reply.word("events")?;
             reply.text(record.told.as_str())
         }
-        Err((error, _)) => error_of(reply, *error),
+        Err((ReadError::Parse(error), _)) => error_of(reply, *error),
+        Err((ReadError::Events(Stop::Number), _)) => reply.word("number"),
+        Err((ReadError::Events(Stop::Memory), _)) => error_of(reply, AllocError.into()),
     }
 }
 

@@ -60,6 +60,8 @@ fn one_more(count: u64) -> Result<u64, AllocError>
 }
 
 impl Events for Counts {
+    type Error = AllocError;
+
     ghost use Rattle.std.specs.Prelude.{◌+◌, ◌≤◌, ℕ};
     ghost use Rattle.tinyjson.specs.JsonKind.{JsonKind};
     ghost use Rattle.example_count.specs.Counts.{Adds, counted, open_count};
@@ -128,6 +130,6 @@ pub fn add_values(alloc: Global, text: &str, counts: Counts) -> Result<Counts, J
 {
     match read_events(alloc, text, counts) {
         Ok(counts) => Ok(counts),
-        Err((error, _)) => Err(error),
+        Err((error, _)) => Err(JsonParseError::from(error)),
     }
 }

@@ -91,6 +91,8 @@ impl<W: Wanted> Picking<W> {
 }
 
 impl<W: Wanted> Events for Picking<W> {
+    type Error = AllocError;
+
     ghost use Rattle.std.specs.Prelude.{option_map};
     ghost use Rattle.tinyjson.specs.View.{members_view, text};
     ghost use Rattle.example_pick.specs.Picking.{Holds, members_of, Picks};
@@ -163,6 +165,6 @@ pub fn pick_members<W: Wanted>(
     };
     match read_events(alloc, text, start) {
         Ok(picking) => Ok(picking.members),
-        Err((error, _)) => Err(error),
+        Err((error, _)) => Err(JsonParseError::from(error)),
     }
 }

@@ -2,6 +2,7 @@
 pub mod Laws
 pub use Rattle.std.proofs.lemmas.Str.{scalars-chars, IsUtf8-string_bytes}
 pub use Rattle.tinyjson.proofs.Reading.Parse.{all_are_scalars, parses_text}
+pub use Rattle.tinyjson.proofs.Reading.Becoming.{told_text, told_error}
 pub use Rattle.tinyjson_grammar.proofs.Callers.Laws.{only_tree}
 pub use Rattle.tinyjson.proofs.Values.Entries.{same_text, text_eq}
 pub use Rattle.tinyjson.proofs.Values.Depths.{item_less_deep, member_less_deep, item_count_view, nth_past}

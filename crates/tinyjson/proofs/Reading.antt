@@ -10,3 +10,4 @@ pub mod Loop
 pub mod Check
 pub mod Events
 pub mod Left
+pub mod Becoming

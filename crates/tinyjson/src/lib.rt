@@ -62,7 +62,7 @@ pub mod value;
 pub use generator::{JsonGenerateError, JsonGenerateResult, JsonGenerator, format, stringify};
 pub use number::{JsonNumber, JsonNumberError};
 pub use parser::{
-    Events, JsonParseError, JsonParseErrorKind, JsonParseResult, JsonParser, check,
+    Events, JsonParseError, JsonParseErrorKind, JsonParseResult, JsonParser, ReadError, check,
     check_with_depth_limit, read_events, read_events_with_depth_limit,
 };
 pub use value::{

@@ -2,7 +2,7 @@
 ghost use Rattle.std.specs.Prelude.{◌≡◌, ℕ, List, [], Option, None, Some};
 ghost use Rattle.std.specs.Iterator.{IsFinite};
 ghost use Rattle.std.specs.Str.{chars};
-ghost use Rattle.tinyjson.specs.Events.{GivesBack, TellsRest, TellsText, without_events};
+ghost use Rattle.tinyjson.specs.Events.{GivesBack, TellsEvents, TellsRest, without_events};
 ghost use Rattle.tinyjson.specs.Parser.{ChecksText, Provides, Remains, Parses, ParsesText};
 ghost use Rattle.tinyjson_grammar.specs.Position.{origin};
 
@@ -14,7 +14,7 @@ mod reader;
 mod stack;
 
 use crate::value::JsonValue;
-pub use error::{JsonParseError, JsonParseErrorKind};
+pub use error::{JsonParseError, JsonParseErrorKind, ReadError};
 pub use events::Events;
 use reader::Reader;
 use std::alloc::Global;
@@ -142,16 +142,16 @@ impl<I: Iterator<Item = char>> JsonParser<I> {
     /// Reads all characters that are left as one text into events, without building a value: so a text
     /// larger than memory is read. The events are given back, beside the error too.
     ///
-    /// An error is that of [`JsonParser::parse`], or out of memory, also for an event that was refused.
-    /// Unless it is out of memory, the line, the column and what is left are those after `parse`, and the
-    /// events still `hold` some open containers, or are those of some value.
+    /// An error is that of [`JsonParser::parse`], or out of memory, or the one that an event returned. Unless
+    /// an event returned it, the events still `hold` some open containers, or are those of some value. If it is
+    /// one of `parse`, the line, the column and what is left are those after `parse`.
     ///
     /// ```
     /// let mut parser = JsonParser::new(alloc, "[1, {\"a\": 2.5}]".chars());
     /// let numbers = parser.parse_events(Numbers { count: 0 })?;
     /// assert_eq!(rt; numbers.count, 2);
     /// ```
-    pub fn parse_events<E: Events>(&mut self, events: E) -> Result<E, (JsonParseError, E)>
+    pub fn parse_events<E: Events>(&mut self, events: E) -> Result<E, (ReadError<E::Error>, E)>
         requires { E.holds events events [] }
         ensures parses { (xs : List ℕ) → Remains I.next_gives self.old xs →
             TellsRest I.next_gives (E.is events) self.old xs (without_events result) self.new }
@@ -235,8 +235,8 @@ fn check_text(alloc: Global, text: &str, limit: Option<usize>) -> Result<(), Jso
 }
 
 /// Reads a text into events, which are given back, beside an error too. The error is that of
-/// [`JsonValue::from_str`], or out of memory, also for an event that was refused. Unless it is out of
-/// memory, the events still `hold` some open containers, or are those of some value.
+/// [`JsonValue::from_str`], or out of memory, or the one that an event returned. Unless an event returned it,
+/// the events still `hold` some open containers, or are those of some value.
 ///
 /// ```
 /// let numbers = read_events(alloc, "[1, {\"a\": 2.5}]", Numbers { count: 0 })?;
@@ -245,7 +245,7 @@ fn check_text(alloc: Global, text: &str, limit: Option<usize>) -> Result<(), Jso
 /// let refused = read_events(alloc, "[1, 2,]", Numbers { count: 0 });
 /// assert!(rt;
 ///     refused.is_err_and(|(error, numbers)| {
-///         error.kind() == JsonParseErrorKind::InvalidCharacter(']') && numbers.count == 2
+///         matches!(error, ReadError::Parse(error) if error.column() == 6) && numbers.count == 2
 ///     })
 /// );
 /// ```
@@ -253,31 +253,33 @@ pub fn read_events<E: Events>(
     alloc: Global,
     text: &str,
     events: E,
-) -> Result<E, (JsonParseError, E)>
+) -> Result<E, (ReadError<E::Error>, E)>
     requires { E.holds events events [] }
-    ensures tells { TellsText (E.is events) None (chars text.now) (without_events result) }
+    ensures tells { TellsEvents (E.is events) None (chars text.now) (without_events result) }
     ensures back { GivesBack (E.holds events) (E.is events) result }
 {
     tell_text(alloc, text, None, events)
 }
 
 /// Reads a text into events as [`read_events`] does, if at most `limit` containers are open at once in it.
-/// An error is that of [`JsonValue::from_str_with_depth_limit`], or out of memory.
+/// An error is that of [`JsonValue::from_str_with_depth_limit`], or out of memory, or one of the events.
 ///
 /// ```
 /// let numbers = read_events_with_depth_limit(alloc, "[1, [2]]", 2, Numbers { count: 0 })?;
 /// assert_eq!(rt; numbers.count, 2);
 /// let result = read_events_with_depth_limit(alloc, "[1, [2]]", 1, Numbers { count: 0 });
-/// assert!(rt; result.is_err_and(|(error, _)| error.kind() == JsonParseErrorKind::TooDeep('[')));
+/// let result = result.map_err(|(error, _)| JsonParseError::from(error));
+/// assert!(rt; result.is_err_and(|error| error.kind() == JsonParseErrorKind::TooDeep('[')));
 /// ```
 pub fn read_events_with_depth_limit<E: Events>(
     alloc: Global,
     text: &str,
     limit: usize,
     events: E,
-) -> Result<E, (JsonParseError, E)>
+) -> Result<E, (ReadError<E::Error>, E)>
     requires { E.holds events events [] }
-    ensures tells { TellsText (E.is events) (Some limit) (chars text.now) (without_events result) }
+    ensures tells { TellsEvents (E.is events) (Some limit) (chars text.now)
+        (without_events result) }
     ensures back { GivesBack (E.holds events) (E.is events) result }
 {
     tell_text(alloc, text, Some(limit), events)
@@ -289,9 +291,9 @@ fn tell_text<E: Events>(
     text: &str,
     limit: Option<usize>,
     events: E,
-) -> Result<E, (JsonParseError, E)>
+) -> Result<E, (ReadError<E::Error>, E)>
     requires { E.holds events events [] }
-    ensures tells { TellsText (E.is events) limit (chars text.now) (without_events result) }
+    ensures tells { TellsEvents (E.is events) limit (chars text.now) (without_events result) }
     ensures back { GivesBack (E.holds events) (E.is events) result }
 {
     Reader::new(alloc, TextBytes::new(text)).told(limit, events)

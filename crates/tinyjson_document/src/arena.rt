@@ -134,6 +134,8 @@ impl<'t> Arena<'t> {
 }
 
 impl Events for Arena<'_> {
+    type Error = AllocError;
+
     ghost use Rattle.tinyjson_document.specs.Holding.{HoldsOver, IsTreeOver};
 
     ghost holds = { HoldsOver };

@@ -3,8 +3,9 @@ ghost use Rattle.tinyjson_document.specs.Known.{Known, Known_prop};
 
 use crate::arena::{Arena, Built};
 use crate::node::Node;
-use std::alloc::Global;
-use tinyjson::{JsonParseError, read_events, read_events_with_depth_limit};
+use std::alloc::{AllocError, Global};
+use std::fmt;
+use tinyjson::{JsonParseError, JsonValue, read_events, read_events_with_depth_limit};
 use tinyjson_cells::store::{Cell, Store};
 use tinyjson_cells::texts::Source;
 
@@ -26,9 +27,10 @@ pub struct Document {
 }
 
 impl Document {
-    ghost use Rattle.std.specs.Prelude.{◌≡◌, None, Some, string_bytes};
+    ghost use Rattle.std.specs.Prelude.{◌≡◌, IfOk, None, Some, string_bytes};
     ghost use Rattle.std.specs.Str.{chars};
     ghost use Rattle.tinyjson.specs.Events.{TellsText};
+    ghost use Rattle.tinyjson.specs.View.{view};
     ghost use Rattle.tinyjson_grammar.specs.Soundness as sound;
     ghost use Rattle.tinyjson_grammar.specs.Tree.{Tree};
     ghost use Rattle.tinyjson_document.specs.Document.{document_tree, HasTree, tree};
@@ -49,7 +51,7 @@ impl Document {
     {
         match read_events(alloc, text, Arena::new(alloc)) {
             Ok(arena) => Ok(Document::of_arena(arena)),
-            Err((error, _)) => Err(error),
+            Err((error, _)) => Err(JsonParseError::from(error)),
         }
     }
 
@@ -69,7 +71,7 @@ impl Document {
     {
         match read_events_with_depth_limit(alloc, text, limit, Arena::new(alloc)) {
             Ok(arena) => Ok(Document::of_arena(arena)),
-            Err((error, _)) => Err(error),
+            Err((error, _)) => Err(JsonParseError::from(error)),
         }
     }
 
@@ -86,9 +88,30 @@ impl Document {
         let arena = Arena::over(alloc, text.as_str());
         let (built, _) = match read_events(alloc, text.as_str(), arena) {
             Ok(arena) => arena.built(),
-            Err((error, _)) => return Err(error),
+            Err((error, _)) => return Err(JsonParseError::from(error)),
         };
         Ok(Document::over(built, text))
+    }
+
+    /// A document of its own for a value. Equal values have equal documents.
+    ///
+    /// The only error is out of memory, or that the value has more than a document may.
+    ///
+    /// ```
+    /// let value = JsonValue::from_str(alloc, r#"{"b": 2, "a": [1.50]}"#)?;
+    /// let document = Document::of_value(alloc, &value)?;
+    /// assert!(rt; document.root().equals_value(&value));
+    /// ```
+    pub fn of_value(alloc: Global, value: &JsonValue) -> Result<Document, AllocError>
+        ensures { IfOk result (λ d. document_tree d ≡ view value.now) }
+    {
+        let Ok(text) = value.stringify(alloc) else {
+            return Err(AllocError);
+        };
+        match Document::read(alloc, text.as_str()) {
+            Ok(document) => Ok(document),
+            Err(_) => Err(AllocError),
+        }
     }
 
     /// The document of what was built over this text.
@@ -135,5 +158,12 @@ impl Document {
             root,
             deepest: arena.deepest,
         }
+    }
+}
+
+/// It shows the type alone. [`Node::to_string`] gives the text.
+impl fmt::Debug for Document {
+    fn fmt<W: fmt::Write>(&self, f: &mut fmt::Formatter<W>) -> fmt::Result {
+        f.write_str("Document")
     }
 }

@@ -1,16 +1,16 @@
 //! Reads texts one after another into documents.
 ghost use Rattle.std.specs.Prelude.{◌≡◌, []};
 ghost use Rattle.std.specs.Str.{chars};
-ghost use Rattle.tinyjson.specs.Events.{TellsText, without_events};
+ghost use Rattle.tinyjson.specs.Events.{TellsEvents, TellsText, without_events};
 ghost use Rattle.tinyjson_cells.specs.Texts.{source_bytes};
 ghost use Rattle.tinyjson_document.specs.Document.{HasTree};
 ghost use Rattle.tinyjson_document.specs.Holding.{Holds, HoldsOver, IsBuilt, IsTreeOver};
 
 use crate::arena::{Arena, Built, Pending};
 use crate::document::Document;
-use std::alloc::Global;
+use std::alloc::{AllocError, Global};
 use std::mem;
-use tinyjson::{JsonParseError, read_events, read_events_with_depth_limit};
+use tinyjson::{JsonParseError, ReadError, read_events, read_events_with_depth_limit};
 use tinyjson_cells::store::Store;
 use tinyjson_cells::texts::Source;
 
@@ -125,7 +125,7 @@ impl DocumentReader {
             }
             Err((error, arena)) => {
                 self.take(arena);
-                Err(error)
+                Err(JsonParseError::from(error))
             }
         }
     }
@@ -172,9 +172,9 @@ fn read_into<'t>(
     text: &str,
     limit: Option<usize>,
     arena: Arena<'t>,
-) -> Result<Arena<'t>, (JsonParseError, Arena<'t>)>
+) -> Result<Arena<'t>, (ReadError<AllocError>, Arena<'t>)>
     requires { HoldsOver arena arena [] }
-    ensures { TellsText (IsTreeOver arena.entry) limit (chars text.now) (without_events result) }
+    ensures { TellsEvents (IsTreeOver arena.entry) limit (chars text.now) (without_events result) }
 {
     match limit {
         None => read_events(alloc, text, arena),

@@ -1,5 +1,5 @@
 //! Passes a value to events, without recursion: what is left of the open containers is on a stack.
-ghost use Rattle.std.specs.Prelude.{◌≡◌, ◌<◌, ◌+◌, ◌∷◌, List, IfOk, OnOk, reverse};
+ghost use Rattle.std.specs.Prelude.{◌≡◌, ◌<◌, ◌+◌, [], ◌∷◌, ◌++◌, List, IfOk, OnOk, reverse};
 ghost use Rattle.tinyjson.specs.Events.{Open, Puts};
 ghost use Rattle.tinyjson_grammar.specs.Kind.{kind_of};
 ghost use Rattle.tinyjson_grammar.specs.Tree.{Tree};
@@ -25,14 +25,14 @@ pub(crate) enum Left<'d> {
 /// Passes a value of a document to events: those of its compact text, so that members come in the order of their
 /// keys.
 ///
-/// The only error is out of memory: an event returned it, or there is no memory for the open containers. Then nothing
-/// is known of the events. It does not recurse.
+/// An error is the one that an event returned, or out of memory, where there is none for the open containers. Then
+/// nothing is known of the events. It does not recurse.
 ///
 /// ```
 /// let numbers = Numbers { count: 0 };
 /// replay(alloc, document.root(), &mut numbers)?; // of [1, {"a": 2.5}]: counts 2
 /// ```
-pub fn replay<E: Events>(alloc: Global, node: Node<'_>, events: &mut E) -> Result<(), AllocError>
+pub fn replay<E: Events>(alloc: Global, node: Node<'_>, events: &mut E) -> Result<(), E::Error>
     requires { (start : E) × (os : List Open) × E.holds start events.old os }
     ensures { (start : E) (os : List Open) → E.holds start events.old os →
         OnOk result (Puts (E.holds start) (E.is start) os (tree node.entry) events.new) }
@@ -68,7 +68,7 @@ fn begin<'d, E: Events>(
     node: Node<'d>,
     events: &mut E,
     stack: &mut Vec<Left<'d>>,
-) -> Result<(), AllocError>
+) -> Result<(), E::Error>
     ensures waits { (start : E) (os fs : List Open) (t : Tree) → E.holds start events.old fs
         → Encloses (reverse stack.old.items) fs os (tree node.entry) t
         → OnOk result (Waits (E.holds start) (E.is start) os t (reverse stack.new.items)
@@ -79,12 +79,12 @@ fn begin<'d, E: Events>(
     match node.kind() {
         JsonKind::Array => {
             events.open_array()?;
-            stack.push(Left::Items(node.items()))?;
+            push(stack, Left::Items(node.items()))?;
             Ok(())
         }
         JsonKind::Object => {
             events.open_object()?;
-            stack.push(Left::Members(node.members()))?;
+            push(stack, Left::Members(node.members()))?;
             Ok(())
         }
         _ => put_scalar(alloc, node, events),
@@ -92,7 +92,7 @@ fn begin<'d, E: Events>(
 }
 
 /// Passes a scalar.
-fn put_scalar<E: Events>(alloc: Global, node: Node<'_>, events: &mut E) -> Result<(), AllocError>
+fn put_scalar<E: Events>(alloc: Global, node: Node<'_>, events: &mut E) -> Result<(), E::Error>
     ensures { (start : E) (fs : List Open) → E.holds start events.old fs →
         OnOk result (Puts (E.holds start) (E.is start) fs (tree node.entry) events.new) }
 {
@@ -104,13 +104,13 @@ fn put_scalar<E: Events>(alloc: Global, node: Node<'_>, events: &mut E) -> Resul
                 let number = number.try_clone(alloc)?;
                 events.number(number)
             }
-            None => Err(AllocError),
+            None => Err(E::Error::from(AllocError)),
         },
         JsonKind::String => match node.string() {
             Some(string) => events.string(string),
-            None => Err(AllocError),
+            None => Err(E::Error::from(AllocError)),
         },
-        _ => Err(AllocError),
+        _ => Err(E::Error::from(AllocError)),
     }
 }
 
@@ -120,7 +120,7 @@ fn resume<'d, E: Events>(
     rest: Left<'d>,
     events: &mut E,
     stack: &mut Vec<Left<'d>>,
-) -> Result<(), AllocError>
+) -> Result<(), E::Error>
     requires { (start : E) × (os : List Open) × (t : Tree) ×
         Waits (E.holds start) (E.is start) os t (rest ∷ reverse stack.old.items) events.old }
     ensures waits { (start : E) (os : List Open) (t : Tree) →
@@ -135,7 +135,7 @@ fn resume<'d, E: Events>(
             let Some(item) = items.next() else {
                 return events.close_array();
             };
-            stack.push(Left::Items(items))?;
+            push(stack, Left::Items(items))?;
             begin(alloc, item, events, stack)
         }
         Left::Members(mut members) => {
@@ -143,8 +143,16 @@ fn resume<'d, E: Events>(
                 return events.close_object();
             };
             events.key(key)?;
-            stack.push(Left::Members(members))?;
+            push(stack, Left::Members(members))?;
             begin(alloc, member, events, stack)
         }
     }
+}
+
+/// Puts what is left of a container on the stack.
+fn push<'d>(stack: &mut Vec<Left<'d>>, rest: Left<'d>) -> Result<(), AllocError>
+    ensures items { OnOk result (stack.new.items ≡ stack.old.items ++ rest.entry ∷ []) }
+{
+    stack.push(rest)?;
+    Ok(())
 }

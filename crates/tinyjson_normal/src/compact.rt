@@ -179,6 +179,8 @@ impl Compact {
 }
 
 impl Events for Compact {
+    type Error = AllocError;
+
     ghost use Rattle.tinyjson_normal.specs.Compacting.{Holds, IsOf};
 
     ghost holds = { λ _. Holds };

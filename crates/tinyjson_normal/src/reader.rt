@@ -1,7 +1,7 @@
 //! Normalizes many texts, one after the other.
-ghost use Rattle.std.specs.Prelude.{[], IfOk};
+ghost use Rattle.std.specs.Prelude.{[], IfOk, List, Option, ℕ};
 ghost use Rattle.std.specs.Str.{chars};
-ghost use Rattle.tinyjson.specs.Events.{TellsText, without_events};
+ghost use Rattle.tinyjson.specs.Events.{TellsEvents, TellsText, without_events};
 ghost use Rattle.tinyjson.specs.Tree.{Tree};
 ghost use Rattle.tinyjson_grammar.specs.Soundness.{IsTree};
 ghost use Rattle.tinyjson_normal.specs.Compacting.{Holds, IsOf};
@@ -11,7 +11,7 @@ use crate::compact::Compact;
 use crate::normal::{Content, NormalText};
 use std::alloc::{AllocError, Global};
 use std::mem;
-use tinyjson::{Events, JsonParseError, read_events, read_events_with_depth_limit};
+use tinyjson::{Events, JsonParseError, ReadError, read_events, read_events_with_depth_limit};
 use tinyjson_document::Arena;
 
 /// Up to this many times the text's length is moved to put members in order.
@@ -139,8 +139,8 @@ fn of_nodes(alloc: Global, text: &str, limit: Option<usize>) -> Result<NormalTex
     }
 }
 
-/// Parses the text, and sends its events.
-fn read_into<E: Events>(
+/// Parses the text, and sends its events. They fail by memory alone.
+fn read_into<E: Events<Error = AllocError>>(
     alloc: Global,
     text: &str,
     limit: Option<usize>,
@@ -148,6 +148,22 @@ fn read_into<E: Events>(
 ) -> Result<E, (JsonParseError, E)>
     requires { E.holds events events [] }
     ensures { TellsText (E.is events) limit (chars text.now) (without_events result) }
+{
+    match read_limited(alloc, text, limit, events) {
+        Ok(events) => Ok(events),
+        Err((error, events)) => Err((JsonParseError::from(error), events)),
+    }
+}
+
+/// Parses the text, and sends its events. There may be a limit on nested containers.
+fn read_limited<E: Events>(
+    alloc: Global,
+    text: &str,
+    limit: Option<usize>,
+    events: E,
+) -> Result<E, (ReadError<E::Error>, E)>
+    requires { E.holds events events [] }
+    ensures { TellsEvents (E.is events) limit (chars text.now) (without_events result) }
 {
     match limit {
         None => read_events(alloc, text, events),

@@ -1,5 +1,5 @@
 //! Merges a patch into a document, without recursion: what is left of the open objects is on a stack.
-ghost use Rattle.std.specs.Prelude.{◌≡◌, ◌<◌, ◌+◌, ◌∷◌, true, List};
+ghost use Rattle.std.specs.Prelude.{◌≡◌, ◌<◌, ◌+◌, [], ◌∷◌, ◌++◌, true, List};
 ghost use Rattle.std.specs.Prelude.{IfOk, OnOk, option_map, reverse, unwrap_or};
 ghost use Rattle.std.specs.Str.{chars};
 ghost use Rattle.tinyjson.specs.Access.{is_object};
@@ -45,8 +45,8 @@ pub fn merge_documents(
 
 /// Passes the merged value to events: those of its compact text, so that members come in the order of their keys.
 ///
-/// The only error is out of memory: an event returned it, or there is no memory for the open objects. Then nothing is
-/// known of the events. It does not recurse.
+/// An error is the one that an event returned, or out of memory, where there is none for the open objects. Then
+/// nothing is known of the events. It does not recurse.
 ///
 /// ```
 /// merge_into(alloc, target.root(), patch.root(), &mut text)?;
@@ -56,7 +56,7 @@ pub fn merge_into<E: NodeEvents>(
     target: Node<'_>,
     patch: Node<'_>,
     events: &mut E,
-) -> Result<(), AllocError>
+) -> Result<(), E::Error>
     requires { (start : E) × (os : List Open) × E.holds start events.old os }
     ensures { (start : E) (os : List Open) → E.holds start events.old os →
         OnOk result (Puts (E.holds start) (E.is start) os
@@ -79,7 +79,7 @@ fn open<'t, 'p, E: NodeEvents>(
     patch: Node<'p>,
     events: &mut E,
     stack: &mut Vec<Left<'t, 'p>>,
-) -> Result<(), AllocError>
+) -> Result<(), E::Error>
     requires object { is_object (tree patch) ≡ true }
     ensures waits { (start : E) (os fs : List Open) (t : Tree) → E.holds start events.old fs
         → Encloses (reverse stack.old.items) fs os
@@ -90,10 +90,19 @@ fn open<'t, 'p, E: NodeEvents>(
         (left_weight stack.new.items < weight (tree patch.entry) + left_weight stack.old.items) }
 {
     events.open_object()?;
-    stack.push(Left {
+    let left = Left {
         target: members_of(target),
         patch: patch.members(),
-    })?;
+    };
+    push(stack, left)?;
+    Ok(())
+}
+
+/// Puts what is left of an object on the stack.
+fn push<'t, 'p>(stack: &mut Vec<Left<'t, 'p>>, left: Left<'t, 'p>) -> Result<(), AllocError>
+    ensures items { OnOk result (stack.new.items ≡ stack.old.items ++ left.entry ∷ []) }
+{
+    stack.push(left)?;
     Ok(())
 }
 
@@ -113,7 +122,7 @@ fn resume<'t, 'p, E: NodeEvents>(
     left: Left<'t, 'p>,
     events: &mut E,
     stack: &mut Vec<Left<'t, 'p>>,
-) -> Result<(), AllocError>
+) -> Result<(), E::Error>
     requires { (start : E) × (os : List Open) × (t : Tree) ×
         Waits (E.holds start) (E.is start) os t (left ∷ reverse stack.old.items) events.old }
     ensures waits { (start : E) (os : List Open) (t : Tree) →
@@ -131,7 +140,7 @@ fn resume<'t, 'p, E: NodeEvents>(
         }
         events.key(key)?;
         if change.is_object() {
-            stack.push(left)?;
+            push(stack, left)?;
             return open(old, change, events, stack);
         }
         events.replay(alloc, change)?;
@@ -146,7 +155,7 @@ fn pass_below<'t, E: NodeEvents>(
     target: &mut Option<Members<'t>>,
     key: &str,
     events: &mut E,
-) -> Result<Option<Node<'t>>, AllocError>
+) -> Result<Option<Node<'t>>, E::Error>
     requires { (start : E) × (ns : TreeMembers) × (fs : List Open) ×
         E.holds start events.old (at_key ns ∷ fs) }
     ensures { (start : E) (ns : TreeMembers) (fs : List Open) →
@@ -191,7 +200,7 @@ fn pass_all<E: NodeEvents>(
     alloc: Global,
     target: Option<Members<'_>>,
     events: &mut E,
-) -> Result<(), AllocError>
+) -> Result<(), E::Error>
     requires { (start : E) × (ns : TreeMembers) × (fs : List Open) ×
         E.holds start events.old (at_key ns ∷ fs) }
     ensures { (start : E) (ns : TreeMembers) (fs : List Open) →

@@ -4,6 +4,8 @@ use Rattle.std.specs.Prelude.{Option, Some, None, Result, Ok, Err, OnOk, IfSome}
 use Rattle.std.specs.List.{AllByRecursion}
 use Rattle.tinyjson_grammar.specs.Characters.{is_white, quotation_mark}
 use Rattle.tinyjson_grammar.specs.Position.{Position, advance}
+use Rattle.tinyjson_tokens.specs.declared.source.Lent.{Lent}
+use Rattle.tinyjson_tokens.specs.declared.source.Lent.TheVariants.{All, Nothing}
 
 -- How a source is seen: the list that it still gives, the first character of that list, or none, and its position.
 pub record Sight (S : Type 0) : Type 1 where
@@ -15,6 +17,11 @@ pub record Sight (S : Type 0) : Type 1 where
   pub one : (p : S) (o u : Option ℕ) → shows p o → shows p u → o ≡ u
   pub first : (p : S) (zs : List ℕ) (c : ℕ) → shows p (Some c) → gives p zs → (cs : List ℕ) × (zs ≡ c ∷ cs)
   pub none : (p : S) (zs : List ℕ) → shows p None → gives p zs → zs ≡ []
+
+-- the characters of a string: those that are lent, or those in the buffer
+abbrev pub characters : Lent → List ℕ → List ℕ → List ℕ
+characters All lent held = lent
+characters Nothing lent held = held
 
 -- what was shown is still shown
 abbrev pub Still : {S : Type 0} → Sight S → S → S → Type 0
@@ -44,8 +51,8 @@ module _ {S : Type 0} (sight : Sight S) where
   Stops test q = (o : Option ℕ) × sight.shows q o × IfSome o (λ c. test c ≡ false)
 
   -- A call took a run, which it lends, and the quote after it; or it took a run alone, as above.
-  abbrev pub TakesQuoted : (test : ℕ → Bool) → (S → List ℕ) → {E : Type 0} → S → List ℕ → Result Bool E → List ℕ → S → Type 0
-  TakesQuoted test lent p old (Ok true) new q = AllByRecursion (λ c. test c ≡ true) (lent q)
+  abbrev pub TakesQuoted : (test : ℕ → Bool) → (S → List ℕ) → {E : Type 0} → S → List ℕ → Result Lent E → List ℕ → S → Type 0
+  TakesQuoted test lent p old (Ok All) new q = AllByRecursion (λ c. test c ≡ true) (lent q)
       × Takes p (lent q ++ quotation_mark ∷ []) q
-  TakesQuoted test lent p old (Ok false) new q = TakesRun test {E = Unit {0}} p old (Ok tt) new q
+  TakesQuoted test lent p old (Ok Nothing) new q = TakesRun test {E = Unit {0}} p old (Ok tt) new q
   TakesQuoted test lent p old (Err e) new q = TakesRun test p old (Err e) new q

@@ -1,5 +1,5 @@
 -- What a part of the parser did, in the words of the machine. For contracts inside the parser.
-use Rattle.std.specs.Prelude.{◌≡◌, ℕ, Bool, true, false, List, [], ◌∷◌, ◌++◌, Option, None, Some, Result}
+use Rattle.std.specs.Prelude.{◌≡◌, ℕ, Bool, true, false, List, [], ◌∷◌, ◌++◌, Option, Result}
 use Rattle.std.specs.Prelude.{IfErr, MatchResult, IfSome, String, cond, ◌⊎◌, ⊤}
 use Rattle.std.specs.Char.{is_ascii_digit}
 use Rattle.std.specs.declared.alloc.Global.{Global}

@@ -21,7 +21,7 @@ pub use cursor::Characters;
 #[doc(hidden)]
 pub use reader::TokenReader;
 #[doc(hidden)]
-pub use source::Source;
+pub use source::{Lent, Source};
 #[doc(hidden)]
 pub use text::TextBytes;
 #[doc(hidden)]

@@ -1,18 +1,19 @@
 //! The reader of tokens, each read by one call, and by the shortest way where the source has its characters in memory.
 ghost use Rattle.std.specs.Prelude.{◌≡◌, ℕ, ◌<◌, ◌≤◌, List, [], ◌∷◌, true, false, OnOk, IfSome};
-ghost use Rattle.std.specs.Prelude.{Option, Some, cond};
+ghost use Rattle.std.specs.Prelude.{Option, Some};
 ghost use Rattle.std.specs.Str.{chars};
 ghost use Rattle.tinyjson_grammar.specs.Characters.{is_white, quotation_mark, text};
 ghost use Rattle.tinyjson_grammar.specs.Machine.{Frame, awaited, complete, next, plain, quoted};
 ghost use Rattle.tinyjson_grammar.specs.Position.{position_at};
 ghost use Rattle.tinyjson_grammar.specs.Tree.{Tree, number, string};
 ghost use Rattle.tinyjson_tokens.specs.NumberSteps.{BeginsNumber};
-ghost use Rattle.tinyjson_tokens.specs.Source.{Takes, Whites};
+ghost use Rattle.tinyjson_tokens.specs.Source.{Takes, Whites, characters};
 ghost use Rattle.tinyjson_tokens.specs.Numerals.{ReadsNumber};
 ghost use Rattle.tinyjson_tokens.specs.Steps.{NeedsNone, Reads, letters_left};
 ghost use Rattle.tinyjson_grammar.specs.Characters.{BeginsLiteral};
 ghost use Rattle.tinyjson_grammar.specs.Tree.{literal_tree};
 
+use crate::source::Lent;
 use crate::tokens::Tokens;
 use std::alloc::Global;
 use tinyjson_grammar::JsonParseErrorKind;
@@ -79,15 +80,15 @@ impl<S: Tokens> TokenReader<S> {
         self.source.position()
     }
 
-    /// Reads the string whose opening quote comes next, in place of what the buffer holds; `true` where the source
-    /// lends its characters.
+    /// Reads the string whose opening quote comes next, in place of what the buffer holds, and returns where its
+    /// characters are.
     #[inline(always)]
-    pub fn string(&mut self, buffer: &mut String) -> Result<bool, JsonParseErrorKind>
+    pub fn string(&mut self, buffer: &mut String) -> Result<Lent, JsonParseErrorKind>
         requires shown { S.sight.shows self.old.source (Some quotation_mark) }
         ensures reads { (limit : Option ℕ) (fs : List Frame) →
             Reads S.sight limit self.old.source (next fs awaited) result
             (λ lent. complete true fs
-            (string (cond lent (S.lent self.new.source) (text buffer.new))) true)
+            (string (characters lent (S.lent self.new.source) (text buffer.new))) true)
             self.new.source }
         ensures left { OnOk result (S.left self.new.source < S.left self.old.source) }
     {
@@ -97,20 +98,20 @@ impl<S: Tokens> TokenReader<S> {
 
     /// Reads the rest of a string, after its opening quote.
     #[inline(always)]
-    fn after_quote(&mut self, buffer: &mut String) -> Result<bool, JsonParseErrorKind>
+    fn after_quote(&mut self, buffer: &mut String) -> Result<Lent, JsonParseErrorKind>
         ensures reads { (limit : Option ℕ) (fs : List Frame) →
             Reads S.sight limit self.old.source (next fs (quoted plain [] [])) result
             (λ lent. complete true fs
-            (string (cond lent (S.lent self.new.source) (text buffer.new))) true)
+            (string (characters lent (S.lent self.new.source) (text buffer.new))) true)
             self.new.source }
         ensures left { S.left self.new.source ≤ S.left self.old.source }
     {
         buffer.clear();
         match self.source.quoted(buffer) {
-            Ok(true) => Ok(true),
-            Ok(false) => {
+            Ok(Lent::All) => Ok(Lent::All),
+            Ok(Lent::Nothing) => {
                 self.escaped(buffer)?;
-                Ok(false)
+                Ok(Lent::Nothing)
             }
             Err(_) => Err(JsonParseErrorKind::OutOfMemory),
         }
@@ -118,13 +119,12 @@ impl<S: Tokens> TokenReader<S> {
 
     /// The characters of the string that was read last, which the source lends, or which are in the buffer.
     #[inline(always)]
-    pub fn characters<'b>(&'b self, lent: bool, buffer: &'b String) -> &'b str
-        ensures { chars result.now ≡ cond lent (S.lent self.now.source) (text buffer.now) }
+    pub fn characters<'b>(&'b self, lent: Lent, buffer: &'b String) -> &'b str
+        ensures { chars result.now ≡ characters lent (S.lent self.now.source) (text buffer.now) }
     {
-        if lent {
-            self.source.lent()
-        } else {
-            buffer.as_str()
+        match lent {
+            Lent::All => self.source.lent(),
+            Lent::Nothing => buffer.as_str(),
         }
     }
 

@@ -14,6 +14,15 @@ ghost use Rattle.tinyjson_tokens.specs.Source.{Whites};
 
 use std::alloc::AllocError;
 
+/// Where the characters of a string are.
+#[derive(Clone, Copy)]
+pub enum Lent {
+    /// The source lends them.
+    All,
+    /// The source lends nothing: they are in a buffer.
+    Nothing,
+}
+
 /// A source of characters, of which the next one can be looked at.
 ///
 /// `sight` is what the source still gives and its position, `left` goes down with each character, and `lent`
@@ -73,14 +82,14 @@ pub trait Source: Drop {
     }
 
     /// Takes the plain characters of a string that come next, and the quote that closes it, if the source finds at
-    /// once that it is next: then it says `true`, and lends the characters. Otherwise it adds them to the string.
-    fn quoted(&mut self, string: &mut String) -> Result<bool, AllocError>
+    /// once that it is next: then it lends the characters. Otherwise it adds them to the string.
+    fn quoted(&mut self, string: &mut String) -> Result<Lent, AllocError>
         ensures quoted { TakesQuoted sight is_plain lent self.old (text string.old) result
             (text string.new) self.new }
         ensures left { left self.new ≤ left self.old }
     {
         self.plain(string)?;
-        Ok(false)
+        Ok(Lent::Nothing)
     }
 
     /// The characters that were lent last.

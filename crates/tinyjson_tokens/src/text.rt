@@ -10,7 +10,7 @@ ghost use Rattle.tinyjson_tokens.specs.Slice.Laws.{shown_first, nothing_left};
 
 use crate::escape::escapes;
 use crate::place::place_after;
-use crate::source::Source;
+use crate::source::{Lent, Source};
 use crate::tokens::Tokens;
 use crate::utf16::push;
 use std::alloc::{AllocError, Global};
@@ -155,18 +155,18 @@ impl<'a> Source for TextBytes<'a> {
     }
 
     #[inline(always)]
-    fn quoted(&mut self, string: &mut String) -> Result<bool, AllocError> {
+    fn quoted(&mut self, string: &mut String) -> Result<Lent, AllocError> {
         let bytes = self.text.as_bytes();
         let end = plain_end(bytes, self.at);
         let run = &self.text[self.at..end];
         if end == bytes.len() || bytes[end] != b'"' {
             string.push_str(run)?;
             self.at = end;
-            return Ok(false);
+            return Ok(Lent::Nothing);
         }
         self.lent = run;
         self.at = end + 1;
-        Ok(true)
+        Ok(Lent::All)
     }
 
     #[inline(always)]

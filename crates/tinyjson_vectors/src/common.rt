@@ -65,6 +65,8 @@ fn is_refusal(error: JsonParseError, expected: Answer) -> bool {
 pub(crate) struct Forget;
 
 impl Events for Forget {
+    type Error = AllocError;
+
     ghost holds = { λ _ _ _. ⊤ };
 
     ghost is = { λ _ _ _. ⊤ };
@@ -106,7 +108,7 @@ impl Events for Forget {
 pub(crate) fn told(alloc: Global, text: &str) -> Result<(), JsonParseError> {
     match read_events(alloc, text, Forget) {
         Ok(_) => Ok(()),
-        Err((error, _)) => Err(error),
+        Err((error, _)) => Err(JsonParseError::from(error)),
     }
 }
 

@@ -1,19 +1,19 @@
 -- Open containers, and what the events hold meanwhile.
 use Rattle.std.proofs.Common.{◌≡◌, ℕ, ◌+◌, ◌-◌, List, [], ◌∷◌, ◌++◌, length, reverse, slice_set, suc}
-use Rattle.std.proofs.Common.{refl, sym, ap, ap₂, ◌∙◌, subst, arith, Bool, true, false, true≢false, Option, Some, None, IsSome, Result, Ok, Err, inr, MatchResult}
+use Rattle.std.proofs.Common.{refl, sym, ap, ap₂, ◌∙◌, subst, arith, Bool, true, false, true≢false, Option, Some, None, IsSome}
+use Rattle.std.proofs.Common.{Result, Ok, Err, inr}
 use Rattle.std.specs.Prelude.{OnOk, ◌↔◌, ◌<◌}
 use Rattle.std.specs.Option.{option_to_list}
 use Rattle.std.proofs.Math.Seq.{set-append_seam}
 use Rattle.std.proofs.lemmas.List.{length-append, reverse-append, reverse-reverse}
-use Rattle.tinyjson_grammar.specs.Machine.{Frame, in_array, at_key, at_value, complete, stop}
+use Rattle.tinyjson_grammar.specs.Machine.{Frame, in_array, at_key, at_value, complete}
 use Rattle.tinyjson_grammar.specs.Tree.{Tree, is_string, literal_tree}
 use Rattle.tinyjson_grammar.specs.declared.error.JsonParseErrorKind.{JsonParseErrorKind}
-use Rattle.tinyjson_grammar.specs.declared.error.JsonParseErrorKind.TheVariants.{OutOfMemory}
 use Rattle.tinyjson_tokens.specs.Steps.{IsNext}
 use Rattle.tinyjson.specs.Events.{Puts}
-use Rattle.tinyjson.specs.private.Building.{Agree, AgreeAround, Completes, IsOpen, IsWithin, Joins, TakesValue, awaited_of}
+use Rattle.tinyjson.specs.private.Building.{Agree, AgreeAround, Completed, Completes, IsOpen, IsWithin, Joins, Stands, TakesValue}
+use Rattle.tinyjson.specs.private.Building.{awaited_of}
 use Rattle.tinyjson.specs.declared.parser.nest.Progress.{Progress}
-use Rattle.tinyjson.specs.declared.parser.nest.Progress.TheVariants.{Complete}
 use Rattle.tinyjson.specs.declared.parser.nest.Awaited.{Awaited}
 use Rattle.tinyjson.specs.declared.parser.nest.Awaited.TheVariants.{Item, Key, Value}
 use Rattle.tinyjson.specs.declared.parser.nest.Nest.{Nest}
@@ -66,21 +66,21 @@ last_set n xs o a os l e =
     ap reverse (ap₂ (λ ys i. slice_set ys i a) whole at ∙ set-append_seam (reverse os) o [] a) ∙ reverse-append (reverse os) (a ∷ [])
     ∙ ap (λ ys. a ∷ ys) (reverse-reverse os)
 
-module _ {B : Type 0} (holds : B → List Frame → Type 0) where
-  pub within : (s : Nest B) (f : Frame) (fs : List Frame) → IsOpen holds s (f ∷ fs) → IsWithin holds s f fs
-  within s f fs h = (h.0, agree_around (awaited_of s) f fs h.1)
+module _ {B X : Type 0} (holds : B → List Frame → Type 0) where
+  pub within : (s : Nest B X) (f : Frame) (fs : List Frame) → IsOpen holds s (f ∷ fs) → IsWithin holds s f fs
+  within s f fs h = (h.0, agree_around (awaited_of s) f fs h.1, h.2)
 
   -- the innermost container awaits something else
-  pub renewed : (old new : Nest B) (a : Awaited) (f : Frame) (fs : List Frame) → holds new.events (f ∷ fs)
-      → AgreeAround (awaited_of old) fs
+  pub renewed : (old new : Nest B X) (a : Awaited) (f : Frame) (fs : List Frame) → holds new.events (f ∷ fs)
+      → AgreeAround (awaited_of old) fs → new.stopped ≡ None
       → ((o : Awaited) (os : List Awaited) → awaited_of old ≡ o ∷ os → awaited_of new ≡ a ∷ os)
       → ((os : List Awaited) → Agree os fs → Agree (a ∷ os) (f ∷ fs)) → IsOpen holds new (f ∷ fs)
-  renewed old new a f fs h around k same = by (awaited_of old) around k
+  renewed old new a f fs h around n k same = by (awaited_of old) around k
     where
       by : (ps : List Awaited) → AgreeAround ps fs → ((o : Awaited) (os : List Awaited) → ps ≡ o ∷ os → awaited_of new ≡ a ∷ os)
           → IsOpen holds new (f ∷ fs)
       by [] w go = absurd w
-      by (o ∷ os) w go = (h, subst (λ ps. Agree ps (f ∷ fs)) (sym (go o os refl)) (same os w))
+      by (o ∷ os) w go = (h, subst (λ ps. Agree ps (f ∷ fs)) (sym (go o os refl)) (same os w), n)
 
 pub literal_no_string : (o : Option Bool) → is_string (literal_tree o) ≡ false
 literal_no_string None = refl
@@ -108,16 +108,18 @@ module _ {B : Type 0} (holds : B → List Frame → Type 0) (is : B → Tree →
   put_completes b (Value ∷ os) (at_key ms ∷ fs) t a v p = absurd a
   put_completes b (Value ∷ os) (at_value ms k ∷ fs) t a v p = (_, fs, refl, p, a)
 
-  goes_on : (fs : List Frame) (t : Tree) → TakesValue fs → IsNext (complete true fs t true)
-  goes_on [] t v = tt
-  goes_on (in_array ts ∷ fs) t v = tt
-  goes_on (at_key ms ∷ fs) t v = absurd v
-  goes_on (at_value ms k ∷ fs) t v = tt
+goes_on : (fs : List Frame) (t : Tree) → TakesValue fs → IsNext (complete true fs t true)
+goes_on [] t v = tt
+goes_on (in_array ts ∷ fs) t v = tt
+goes_on (at_key ms ∷ fs) t v = absurd v
+goes_on (at_value ms k ∷ fs) t v = tt
 
-  pub put_joins : {A F : Type 0} (s : Nest B) (fs : List Frame) (t : Tree) (put : Result A F) (r : Result Progress JsonParseErrorKind)
-      → Agree (awaited_of s) fs → TakesValue fs → OnOk put (Puts holds is fs t s.events)
-      → MatchResult put (λ _. r ≡ Ok Complete) (λ _. r ≡ Err OutOfMemory) → Joins holds is (complete true fs t true) r s
-  put_joins s fs t (Ok u) r a v p e =
-      subst (λ q. Joins holds is (complete true fs t true) q s) (sym e) (put_completes s.events (awaited_of s) fs t a v p)
-  put_joins s fs t (Err u) r a v p e =
-      subst (λ q. Joins holds is (complete true fs t true) q s) (sym e) (inr (refl, goes_on fs t v))
+module _ {B X : Type 0} (holds : B → List Frame → Type 0) (is : B → Tree → Type 0) where
+  pub put_joins : (s new : Nest B X) (fs : List Frame) (t : Tree) (put : Result (Unit {0}) X) (r : Result Progress JsonParseErrorKind)
+      → Agree (awaited_of s) fs → s.stopped ≡ None → TakesValue fs → OnOk put (Puts holds is fs t s.events) → Completed put r s new
+      → Joins holds is (complete true fs t true) r new
+  put_joins s new fs t put (Ok u) a n v p e =
+      let told : Puts holds is fs t s.events = subst (λ o. OnOk o (Puts holds is fs t s.events)) e.1 p in
+      subst (λ z. Stands holds is z u (complete true fs t true)) (sym e.2) (subst (λ w. Stands holds is s w (complete true fs t true)) (sym e.0)
+      (put_completes holds is s.events (awaited_of s) fs t a v told, n))
+  put_joins s new fs t put (Err k) a n v p e = inr (e.0, goes_on fs t v)

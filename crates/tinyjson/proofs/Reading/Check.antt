@@ -18,8 +18,8 @@ module _ {S : Type 0} (sight : Sight S) (limit : Option ℕ) (p q z : S) {n : Ne
   finds_end t (Err k) l w = Refuses_after sight limit p q z k l w
 
   -- the rest, whatever was built of it
-  pub finds_built : {B : Type 0} {m : Next} (holds : B → List Frame → Type 0) (is : B → Tree → Type 0)
-      (r : Result (Unit {0}) JsonParseErrorKind) (b : Nest B) → Leads sight limit p n q m → Builds holds is sight limit q m r b z
+  pub finds_built : {B X : Type 0} {m : Next} (holds : B → List Frame → Type 0) (is : B → Tree → Type 0)
+      (r : Result (Unit {0}) JsonParseErrorKind) (b : Nest B X) → Leads sight limit p n q m → Builds holds is sight limit q m r b z
       → Finds sight limit p n r z
   finds_built holds is (Ok v) b l w = (w.0, Leads_trans sight limit p q z l w.1)
   finds_built holds is (Err k) b l w = Refuses_after sight limit p q z k l w

@@ -1,12 +1,14 @@
 -- What is returned where a text is told to events, from what the reader did.
 use Rattle.std.proofs.Common.{◌≡◌, IsTrue, ℕ, true, List, [], ◌++◌, Result, Ok, Err, OnOk, IfErr, Option, Some, None, MatchResult}
-use Rattle.std.proofs.Common.{◌⊎◌, inl, inr, sym, ap, ◌∙◌, subst, ⊎_elim}
+use Rattle.std.proofs.Common.{◌⊎◌, inl, inr, refl, sym, ap, ◌∙◌, subst}
 use Rattle.std.specs.Prelude.{All}
 use Rattle.std.specs.Char.{IsScalar}
 use Rattle.tinyjson.specs.Error.{error_position}
-use Rattle.tinyjson.specs.Events.{IsBrokenOff, MeetsLiteral, TellsText, without_events}
-use Rattle.tinyjson.specs.private.Building.{Meets, Tells, TellsAll}
+use Rattle.tinyjson.specs.Events.{BreaksOff, IsBrokenOff, MeetsLiteral, OnParse, TellsEvents, without_events}
+use Rattle.tinyjson.specs.private.Building.{Meets, Tells, TellsAll, break_kind}
 use Rattle.tinyjson.specs.declared.parser.error.JsonParseError.{JsonParseError}
+use Rattle.tinyjson.specs.declared.parser.error.ReadError.{ReadError}
+use Rattle.tinyjson.specs.declared.parser.error.ReadError.TheVariants.{Parse, Events}
 use Rattle.tinyjson_grammar.proofs.Callers.{refuses}
 use Rattle.tinyjson_grammar.specs.Grammar.{IsText, IsAccepted}
 use Rattle.tinyjson_grammar.specs.Machine.{awaited, Next, next, stop, refused, run, strictly}
@@ -17,15 +19,15 @@ use Rattle.tinyjson_grammar.specs.declared.error.JsonParseErrorKind.{JsonParseEr
 use Rattle.tinyjson_grammar.specs.declared.error.JsonParseErrorKind.TheVariants.{OutOfMemory}
 use Rattle.tinyjson_tokens.proofs.Callers.{Comes_outcome, Leads_trans, Refuses_after}
 use Rattle.tinyjson_tokens.specs.Source.{Sight, Whites}
-use Rattle.tinyjson_tokens.specs.Steps.{Leads, Refuses}
+use Rattle.tinyjson_tokens.specs.Steps.{Halts, Leads, Refuses}
 use Rattle.tinyjson_grammar.specs.Characters.{BeginsLiteral}
 use Rattle.tinyjson.proofs.Reading.Memory.{grows_at, white_list}
 use Rattle.tinyjson.proofs.Reading.Parse.{all_front, answered_value, held_interrupted, refusal_says, refused_list}
 
 -- ---- what the source gives begins with a value
 
-module _ {S T : Type 0} (sight : Sight S) (p q : S) (c : ℕ) where
-  pub literal_meets : (r : Result T (JsonParseErrorKind × T)) → Whites sight p q → sight.shows q (Some c) → BeginsLiteral c
+module _ {S T X : Type 0} (sight : Sight S) (p q : S) (c : ℕ) where
+  pub literal_meets : (r : Result T (JsonParseErrorKind × Option X × T)) → Whites sight p q → sight.shows q (Some c) → BeginsLiteral c
       → IfErr r (λ k. k.0 ≡ OutOfMemory → Meets sight p)
   literal_meets (Ok v) w s h = tt
   literal_meets (Err k) w s h = λ o zs g.
@@ -40,22 +42,22 @@ module _ {S T : Type 0} (sight : Sight S) (p q : S) (c : ℕ) where
         begins = h;
       })
 
-  pub grows_meets : (r : Result T (JsonParseErrorKind × T)) → Whites sight p q → sight.shows q (Some c)
+  pub grows_meets : (r : Result T (JsonParseErrorKind × Option X × T)) → Whites sight p q → sight.shows q (Some c)
       → IfErr r (λ k. k.0 ≡ OutOfMemory → IsTrue (begins_growth c)) → IfErr r (λ k. k.0 ≡ OutOfMemory → Meets sight p)
   grows_meets (Ok v) w s h = tt
   grows_meets (Err k) w s h = λ o zs g. inl (grows_at sight p q c w s (h o) zs g)
 
 -- the rest of a text
-pub Tells_after : {S E : Type 0} (sight : Sight S) (limit : Option ℕ) (is : E → Tree → Type 0) (p q z : S) {n m : Next}
-    (r : Result E (JsonParseErrorKind × E)) → Leads sight limit p n q m → Tells is sight limit q m r z → Tells is sight limit p n r z
+pub Tells_after : {S E X : Type 0} (sight : Sight S) (limit : Option ℕ) (is : E → Tree → Type 0) (p q z : S) {n m : Next}
+    (r : Result E (JsonParseErrorKind × Option X × E)) → Leads sight limit p n q m → Tells is sight limit q m r z → Tells is sight limit p n r z
 Tells_after sight limit is p q z (Ok e) l h = (h.0, Leads_trans sight limit p q z l h.1, h.2)
 Tells_after sight limit is p q z (Err w) l h = Refuses_after sight limit p q z w.0 l h
 
 -- ---- the whole call
 
-module _ {S E : Type 0} (sight : Sight S) (limit : Option ℕ) (is : E → Tree → Type 0) where
+module _ {S E X : Type 0} (sight : Sight S) (limit : Option ℕ) (is : E → Tree → Type 0) where
   -- What a reader that stood at p took of xs, and what it returned.
-  pub record Heard (xs : List ℕ) (p : S) (r : Result E JsonParseError) (q : S) : Type 0 where
+  pub record Heard (xs : List ℕ) (p : S) (r : Result E (ReadError X)) (q : S) : Type 0 where
     pub consumed : List ℕ
     pub rest : List ℕ
     pub whole : xs ≡ consumed ++ rest
@@ -63,45 +65,81 @@ module _ {S E : Type 0} (sight : Sight S) (limit : Option ℕ) (is : E → Tree 
     pub moves : sight.place q ≡ advance (sight.place p) consumed
     pub answer : MatchResult r
         (λ e. (rest ≡ []) × (t : Tree) × IsText limit xs t × is e t)
-        (λ e. (error_position e ≡ sight.place q) × (¬ (e.kind ≡ OutOfMemory) → RefusalSays limit e.kind consumed rest))
-    pub refused : IfErr r (λ e. ¬ (e.kind ≡ OutOfMemory) → ¬ IsAccepted limit xs)
-    pub broken_off : IfErr r (λ e. e.kind ≡ OutOfMemory → IsBrokenOff limit consumed rest)
+        (λ w. OnParse w (λ e. (error_position e ≡ sight.place q) × (¬ (e.kind ≡ OutOfMemory) → RefusalSays limit e.kind consumed rest)))
+    pub refused : IfErr r (λ w. OnParse w (λ e. ¬ (e.kind ≡ OutOfMemory) → ¬ IsAccepted limit xs))
+    pub broken_off : IfErr r (λ w. BreaksOff w → IsBrokenOff limit consumed rest)
 
-  heard_error : (p q : S) (e : JsonParseError) (xs : List ℕ) → sight.gives p xs → All IsScalar xs → error_position e ≡ sight.place q
-      → Refuses sight limit p (next [] awaited) e.kind q → (e.kind ≡ OutOfMemory → Meets sight p) → Heard xs p (Err e) q
-  heard_error p q e xs g a h r m = ⊎_elim (λ l.
+  -- the machine refuses the text
+  heard_refusal : (p q : S) (w : ReadError X) (xs : List ℕ) → sight.gives p xs → All IsScalar xs
+      → OnParse w (λ e. error_position e ≡ sight.place q) → Leads sight limit p (next [] awaited) q (stop (break_kind w) true)
+      → Heard xs p (Err w) q
+  heard_refusal p q w xs g a h l =
       let x = l.gives xs g in
-      let ran : run (strictly limit) [] awaited (l.taken ++ x.0) ≡ refused e.kind x.0 =
-      Comes_outcome limit (next [] awaited) (stop e.kind true) l.taken x.0 x.3 in
-      let s = refuses limit l.taken x.0 (subst (All IsScalar) x.1 a) e.kind ran in
-      let n = refusal_says limit e.kind l.taken x.0 s in
+      let ran : run (strictly limit) [] awaited (l.taken ++ x.0) ≡ refused (break_kind w) x.0 =
+      Comes_outcome limit (next [] awaited) (stop (break_kind w) true) l.taken x.0 x.3 in
+      let s = refuses limit l.taken x.0 (subst (All IsScalar) x.1 a) (break_kind w) ran in
+      let n = refusal_says limit (break_kind w) l.taken x.0 s in
       record {
         consumed = l.taken;
         rest = x.0;
         whole = x.1;
         gives = x.2;
         moves = l.moves;
-        answer = (h, λ f. n);
-        refused = λ f. subst (λ ys. ¬ IsAccepted limit ys) (sym x.1) (refused_list limit e.kind l.taken x.0 f n);
-        broken_off = λ o. let z = subst (λ k. IsRefusal limit k l.taken x.0) o s in absurd z.says;
-      }) (λ w.
-      let x = w.1.gives xs g in
+        answer = answer (λ k. RefusalSays limit k l.taken x.0) w h n;
+        refused = turned_away w (λ f. subst (λ ys. ¬ IsAccepted limit ys) (sym x.1) (refused_list limit (break_kind w) l.taken x.0 f n));
+        broken_off = λ o. let z = subst (λ k. IsRefusal limit k l.taken x.0) (broken w o) s in absurd z.says;
+      }
+    where
+      broken : (w : ReadError X) → BreaksOff w → break_kind w ≡ OutOfMemory
+      broken (Parse e) o = o
+      broken (Events x) o = refl
+
+      answer : (P : JsonParseErrorKind → Type 0) (w : ReadError X) → OnParse w (λ e. error_position e ≡ sight.place q) → P (break_kind w)
+          → OnParse w (λ e. (error_position e ≡ sight.place q) × (¬ (e.kind ≡ OutOfMemory) → P e.kind))
+      answer P (Parse e) h n = (h, λ f. n)
+      answer P (Events x) h n = tt
+
+      turned_away : {Q : Type 0} (w : ReadError X) → (¬ (break_kind w ≡ OutOfMemory) → Q) → OnParse w (λ e. ¬ (e.kind ≡ OutOfMemory) → Q)
+      turned_away (Parse e) f = f
+      turned_away (Events x) f = tt
+
+  -- memory ran out, or an event returned an error
+  heard_break : (p q : S) (w : ReadError X) (xs : List ℕ) → sight.gives p xs → All IsScalar xs
+      → OnParse w (λ e. error_position e ≡ sight.place q) → break_kind w ≡ OutOfMemory → Halts sight limit p (next [] awaited) q
+      → Meets sight p → Heard xs p (Err w) q
+  heard_break p q w xs g a h o l m =
+      let x = l.gives xs g in
       record {
-        consumed = w.1.taken;
+        consumed = l.taken;
         rest = x.0;
         whole = x.1;
         gives = x.2;
-        moves = w.1.moves;
-        answer = (h, λ n. absurd (n w.0));
-        refused = λ n. absurd (n w.0);
-        broken_off = λ o. record {
-          place = held_interrupted limit w.1.taken (all_front w.1.taken x.0 (subst (All IsScalar) x.1 a)) x.3;
-          begun = subst (λ ys. MayGrow ys ⊎ MeetsLiteral ys) x.1 (m o xs g);
+        moves = l.moves;
+        answer = answer (λ e. RefusalSays limit e.kind l.taken x.0) w h o;
+        refused = turned_away (¬ IsAccepted limit xs) w o;
+        broken_off = λ _. record {
+          place = held_interrupted limit l.taken (all_front l.taken x.0 (subst (All IsScalar) x.1 a)) x.3;
+          begun = subst (λ ys. MayGrow ys ⊎ MeetsLiteral ys) x.1 (m xs g);
         };
-      }) r
+      }
+    where
+      answer : (Q : JsonParseError → Type 0) (w : ReadError X) → OnParse w (λ e. error_position e ≡ sight.place q) → break_kind w ≡ OutOfMemory
+          → OnParse w (λ e. (error_position e ≡ sight.place q) × (¬ (e.kind ≡ OutOfMemory) → Q e))
+      answer Q (Parse e) h o = (h, λ n. absurd (n o))
+      answer Q (Events x) h o = tt
 
-  pub heard : (p q : S) (r : Result E (JsonParseError × E)) → TellsAll is sight limit p r q → OnOk r (sight.shows q None)
-      → IfErr r (λ w. w.0.kind ≡ OutOfMemory → Meets sight p) → (xs : List ℕ) → sight.gives p xs → All IsScalar xs
+      turned_away : (Q : Type 0) (w : ReadError X) → break_kind w ≡ OutOfMemory → OnParse w (λ e. ¬ (e.kind ≡ OutOfMemory) → Q)
+      turned_away Q (Parse e) o = λ n. absurd (n o)
+      turned_away Q (Events x) o = tt
+
+  heard_error : (p q : S) (w : ReadError X) (xs : List ℕ) → sight.gives p xs → All IsScalar xs
+      → OnParse w (λ e. error_position e ≡ sight.place q) → Refuses sight limit p (next [] awaited) (break_kind w) q
+      → (break_kind w ≡ OutOfMemory → Meets sight p) → Heard xs p (Err w) q
+  heard_error p q w xs g a h (inl l) m = heard_refusal p q w xs g a h l
+  heard_error p q w xs g a h (inr l) m = heard_break p q w xs g a h l.0 l.1 (m l.0)
+
+  pub heard : (p q : S) (r : Result E (ReadError X × E)) → TellsAll is sight limit p r q → OnOk r (sight.shows q None)
+      → IfErr r (λ w. break_kind w.0 ≡ OutOfMemory → Meets sight p) → (xs : List ℕ) → sight.gives p xs → All IsScalar xs
       → Heard xs p (without_events r) q
   heard p q (Ok v) l s m xs g a =
       let w = answered_value sight limit xs (λ e. (t : Tree) × IsText limit xs t × is e t) p q v l.0 (λ i. (l.0, i, l.2)) l.1 s g a in
@@ -118,7 +156,7 @@ module _ {S E : Type 0} (sight : Sight S) (limit : Option ℕ) (is : E → Tree 
   heard p q (Err w) l s m xs g a = heard_error p q w.0 xs g a l.0 l.1 m
 
   -- of a source that stands at the origin
-  pub heard_text : (p q : S) (xs : List ℕ) (r : Result E JsonParseError) → sight.place p ≡ origin → Heard xs p r q → TellsText is limit xs r
+  pub heard_text : (p q : S) (xs : List ℕ) (r : Result E (ReadError X)) → sight.place p ≡ origin → Heard xs p r q → TellsEvents is limit xs r
   heard_text p q xs (Ok v) o h = record {
     consumed = h.consumed;
     rest = h.rest;
@@ -127,11 +165,16 @@ module _ {S E : Type 0} (sight : Sight S) (limit : Option ℕ) (is : E → Tree 
     refused = tt;
     broken_off = tt;
   }
-  heard_text p q xs (Err e) o h = record {
+  heard_text p q xs (Err w) o h = record {
     consumed = h.consumed;
     rest = h.rest;
     whole = h.whole;
-    answer = (h.answer.0 ∙ h.moves ∙ ap (λ x. advance x h.consumed) o, h.answer.1);
+    answer = answer (λ e. ¬ (e.kind ≡ OutOfMemory) → RefusalSays limit e.kind h.consumed h.rest) w h.answer;
     refused = h.refused;
     broken_off = h.broken_off;
   }
+    where
+      answer : (Q : JsonParseError → Type 0) (w : ReadError X) → OnParse w (λ e. (error_position e ≡ sight.place q) × Q e)
+          → OnParse w (λ e. (error_position e ≡ advance origin h.consumed) × Q e)
+      answer Q (Parse e) a = (a.0 ∙ h.moves ∙ ap (λ x. advance x h.consumed) o, a.1)
+      answer Q (Events x) a = tt

@@ -17,6 +17,8 @@ use tinyjson_tokens::Tokens;
 struct Nothing;
 
 impl Events for Nothing {
+    type Error = AllocError;
+
     ghost holds = { λ s b fs. ⊤ };
 
     ghost is = { λ s b t. ⊤ };

@@ -1,7 +1,10 @@
 //! Why a text was refused, and where.
 ghost use Rattle.std.specs.Prelude.{◌≡◌, ◌↔◌, IsTrue, Some};
 ghost use Rattle.tinyjson.specs.Error.{error_kind, error_position, error_message};
+ghost use Rattle.tinyjson.specs.Events.{Becomes};
+ghost use Rattle.tinyjson_grammar.specs.Position.{origin};
 
+use std::alloc::AllocError;
 use std::error::Error;
 use std::fmt;
 use std::io::{self, ErrorKind};
@@ -29,6 +32,20 @@ pub struct JsonParseError {
     pub(crate) kind: JsonParseErrorKind,
     pub(crate) line: usize,
     pub(crate) column: usize,
+}
+
+/// Why a text was not read into events.
+///
+/// ```
+/// let refused = read_events(alloc, "[1, 2,]", Numbers { count: 0 });
+/// assert!(rt; matches!(&refused, Err((ReadError::Parse(error), _)) if error.column() == 6));
+/// ```
+#[derive(Drop, Debug)]
+pub enum ReadError<X> {
+    /// The text was refused, or memory for reading it ran out.
+    Parse(JsonParseError),
+    /// An event returned this error.
+    Events(X),
 }
 
 impl JsonParseError {
@@ -108,6 +125,51 @@ impl fmt::Display for JsonParseError {
 }
 
 impl Error for JsonParseError {}
+
+/// Out of memory, at the beginning.
+///
+/// ```
+/// let error = JsonParseError::from(AllocError);
+/// assert!(rt; error.is_out_of_memory() && error.line() == 1 && error.column() == 0);
+/// ```
+impl From<AllocError> for JsonParseError {
+    ghost use Rattle.tinyjson_grammar.specs.declared.error.JsonParseErrorKind.TheVariants as refusal;
+
+    ghost from_gives = { λ _ e. (error_kind e ≡ refusal.OutOfMemory) × (error_position e ≡ origin) };
+
+    fn from(_: AllocError) -> JsonParseError {
+        JsonParseError {
+            kind: JsonParseErrorKind::OutOfMemory,
+            line: 1,
+            column: 0,
+        }
+    }
+}
+
+/// Of events that fail by memory alone: the error of the parser, or out of memory, at the beginning.
+///
+/// ```
+/// fn count(alloc: Global, text: &str) -> Result<usize, JsonParseError> {
+///     match read_events(alloc, text, Numbers { count: 0 }) {
+///         Ok(numbers) => Ok(numbers.count),
+///         Err((error, _)) => Err(error.into()),
+///     }
+/// }
+/// ```
+///
+/// ```
+/// assert!(rt; count(alloc, "[1, 2.5]").is_ok_and(|count| count == 2));
+/// ```
+impl From<ReadError<AllocError>> for JsonParseError {
+    ghost from_gives = { λ w e. Becomes w e };
+
+    fn from(error: ReadError<AllocError>) -> JsonParseError {
+        match error {
+            ReadError::Parse(error) => error,
+            ReadError::Events(error) => JsonParseError::from(error),
+        }
+    }
+}
 
 /// An error of kind `OutOfMemory` if memory ran out, and otherwise of kind `InvalidData`.
 ///

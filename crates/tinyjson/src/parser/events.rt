@@ -9,12 +9,12 @@ ghost use Rattle.tinyjson_grammar.specs.Machine.{awaited, next};
 ghost use Rattle.tinyjson_grammar.specs.Refusal.{begins_growth};
 ghost use Rattle.tinyjson_grammar.specs.Tree.{Tree, Members, no_members, items_of};
 ghost use Rattle.tinyjson_grammar.specs.Tree.{array, object, string, number};
-ghost use Rattle.tinyjson.specs.Events.{Open, in_array, at_key, at_value, Puts, GivesBack, HoldsSome, literal_tree};
+ghost use Rattle.tinyjson.specs.Events.{Open, in_array, at_key, at_value, Puts, GivesBack, literal_tree};
 ghost use Rattle.tinyjson_grammar.specs.declared.error.JsonParseErrorKind.TheVariants.{OutOfMemory};
 ghost use Rattle.tinyjson_grammar.specs.Characters.{BeginsLiteral};
-ghost use Rattle.tinyjson.specs.private.Building.{Meets, Tells, TellsAll};
+ghost use Rattle.tinyjson.specs.private.Building.{Leaves, Meets, Tells, TellsAll, break_kind};
 
-use super::error::{JsonParseError, JsonParseErrorKind};
+use super::error::{JsonParseError, JsonParseErrorKind, ReadError};
 use super::nest::Nest;
 use super::reader::Reader;
 use std::alloc::AllocError;
@@ -27,8 +27,8 @@ use tinyjson_tokens::Tokens;
 /// `holds start now` is what the events hold of the open containers, the innermost first, and `is start now`
 /// of the value, once all are closed. Here `start` is the events that were given to the reading, as a counter
 /// that is not at 0. What is proved of each event is so proved of the text. An event that returns an error ends
-/// the reading, with out of memory. Of what an event left that returned an error nothing is known. A key or a
-/// string is lent for the call, so what keeps it makes a copy.
+/// the reading, which returns this error. Of what such an event left nothing is known. A key or a string is
+/// lent for the call, so what keeps it makes a copy.
 ///
 /// ```
 /// #[derive(Drop, Debug)]
@@ -37,6 +37,8 @@ use tinyjson_tokens::Tokens;
 /// }
 ///
 /// impl Events for Numbers {
+///     type Error = AllocError;
+///
 ///     ghost holds = { λ _ _ _. ⊤ };
 ///
 ///     ghost is = { λ _ _ _. ⊤ };
@@ -76,17 +78,20 @@ use tinyjson_tokens::Tokens;
 /// }
 /// ```
 pub trait Events: Drop {
+    /// Why an event ends the reading: no memory, or what else the events may fail by.
+    type Error: Drop + From<AllocError>;
+
     ghost holds: { Self → Self → List Open → Type 0 };
 
     ghost is: { Self → Self → Tree → Type 0 };
 
     /// An array is opened.
-    fn open_array(&mut self) -> Result<(), AllocError>
+    fn open_array(&mut self) -> Result<(), Self::Error>
         ensures { (start : Self) (os : List Open) → holds start self.old os →
             OnOk result (holds start self.new (in_array [] ∷ os)) };
 
     /// The innermost container, an array, is closed.
-    fn close_array(&mut self) -> Result<(), AllocError>
+    fn close_array(&mut self) -> Result<(), Self::Error>
         requires { (start : Self) × (ts : List Tree) × (os : List Open) ×
             holds start self.old (in_array ts ∷ os) }
         ensures { (start : Self) (ts : List Tree) (os : List Open) →
@@ -95,7 +100,7 @@ pub trait Events: Drop {
 
     /// An array that has no items: opened and closed.
     #[inline(always)]
-    fn empty_array(&mut self) -> Result<(), AllocError>
+    fn empty_array(&mut self) -> Result<(), Self::Error>
         requires { (start : Self) × (os : List Open) × holds start self.old os }
         ensures { (start : Self) (os : List Open) → holds start self.old os →
             OnOk result (Puts (holds start) (is start) os (array (items_of [])) self.new) }
@@ -105,12 +110,12 @@ pub trait Events: Drop {
     }
 
     /// An object is opened.
-    fn open_object(&mut self) -> Result<(), AllocError>
+    fn open_object(&mut self) -> Result<(), Self::Error>
         ensures { (start : Self) (os : List Open) → holds start self.old os →
             OnOk result (holds start self.new (at_key no_members ∷ os)) };
 
     /// The innermost container, an object, is closed.
-    fn close_object(&mut self) -> Result<(), AllocError>
+    fn close_object(&mut self) -> Result<(), Self::Error>
         requires { (start : Self) × (ms : Members) × (os : List Open) ×
             holds start self.old (at_key ms ∷ os) }
         ensures { (start : Self) (ms : Members) (os : List Open) →
@@ -119,7 +124,7 @@ pub trait Events: Drop {
 
     /// An object that has no members: opened and closed.
     #[inline(always)]
-    fn empty_object(&mut self) -> Result<(), AllocError>
+    fn empty_object(&mut self) -> Result<(), Self::Error>
         requires { (start : Self) × (os : List Open) × holds start self.old os }
         ensures { (start : Self) (os : List Open) → holds start self.old os →
             OnOk result (Puts (holds start) (is start) os (object no_members) self.new) }
@@ -129,7 +134,7 @@ pub trait Events: Drop {
     }
 
     /// The innermost container, an object, is given a key.
-    fn key(&mut self, key: &str) -> Result<(), AllocError>
+    fn key(&mut self, key: &str) -> Result<(), Self::Error>
         requires { (start : Self) × (ms : Members) × (os : List Open) ×
             holds start self.old (at_key ms ∷ os) }
         ensures { (start : Self) (ms : Members) (os : List Open) →
@@ -139,7 +144,7 @@ pub trait Events: Drop {
     /// As [`Events::key`], of a key that may be found again in the text: its characters end one byte before `end`,
     /// unless they have escapes, or the text is not in memory.
     #[inline(always)]
-    fn key_before(&mut self, key: &str, end: usize) -> Result<(), AllocError>
+    fn key_before(&mut self, key: &str, end: usize) -> Result<(), Self::Error>
         requires { (start : Self) × (ms : Members) × (os : List Open) ×
             holds start self.old (at_key ms ∷ os) }
         ensures { (start : Self) (ms : Members) (os : List Open) →
@@ -150,13 +155,13 @@ pub trait Events: Drop {
     }
 
     /// A string is complete.
-    fn string(&mut self, value: &str) -> Result<(), AllocError>
+    fn string(&mut self, value: &str) -> Result<(), Self::Error>
         ensures { (start : Self) (os : List Open) → holds start self.old os →
             OnOk result (Puts (holds start) (is start) os (string (chars value.now)) self.new) };
 
     /// As [`Events::string`], of a string that may be found again in the text, as in [`Events::key_before`].
     #[inline(always)]
-    fn string_before(&mut self, value: &str, end: usize) -> Result<(), AllocError>
+    fn string_before(&mut self, value: &str, end: usize) -> Result<(), Self::Error>
         ensures { (start : Self) (os : List Open) → holds start self.old os →
             OnOk result (Puts (holds start) (is start) os (string (chars value.now)) self.new) }
     {
@@ -164,13 +169,13 @@ pub trait Events: Drop {
     }
 
     /// A number is complete.
-    fn number(&mut self, value: JsonNumber) -> Result<(), AllocError>
+    fn number(&mut self, value: JsonNumber) -> Result<(), Self::Error>
         ensures { (start : Self) (os : List Open) → holds start self.old os →
             OnOk result (Puts (holds start) (is start) os (number value.decimal) self.new) };
 
     /// As [`Events::number`], of a number whose text may be found again: it ends at `end`, if the text is in memory.
     #[inline(always)]
-    fn number_before(&mut self, value: JsonNumber, end: usize) -> Result<(), AllocError>
+    fn number_before(&mut self, value: JsonNumber, end: usize) -> Result<(), Self::Error>
         ensures { (start : Self) (os : List Open) → holds start self.old os →
             OnOk result (Puts (holds start) (is start) os (number value.decimal) self.new) }
     {
@@ -186,70 +191,72 @@ pub trait Events: Drop {
     /// As [`Events::number_before`], of a number whose text is normal and has at most 24 characters. It is called only
     /// where the text is in memory, of events that take texts: these have to write it.
     #[inline(always)]
-    fn number_text(&mut self, text: &str, end: usize) -> Result<(), AllocError>
+    fn number_text(&mut self, text: &str, end: usize) -> Result<(), Self::Error>
         ensures { (start : Self) (os : List Open) (n : Canonical) → chars text.now ≡ decimal_text n.decimal →
             length (chars text.now) ≤ 24 → holds start self.old os →
             OnOk result (Puts (holds start) (is start) os (number n.decimal) self.new) }
     {
-        Err(AllocError)
+        Err(Self::Error::from(AllocError))
     }
 
     /// A boolean is complete, or `null`.
-    fn literal(&mut self, value: Option<bool>) -> Result<(), AllocError>
+    fn literal(&mut self, value: Option<bool>) -> Result<(), Self::Error>
         ensures { (start : Self) (os : List Open) → holds start self.old os →
             OnOk result (Puts (holds start) (is start) os (literal_tree value) self.new) };
 }
 
 impl<E: Events> Events for Box<E> {
+    type Error = E::Error;
+
     ghost holds = { λ s b os. E.holds s.value b.value os };
 
     ghost is = { λ s b t. E.is s.value b.value t };
 
-    fn open_array(&mut self) -> Result<(), AllocError> {
+    fn open_array(&mut self) -> Result<(), E::Error> {
         E::open_array(&mut **self)
     }
 
-    fn close_array(&mut self) -> Result<(), AllocError> {
+    fn close_array(&mut self) -> Result<(), E::Error> {
         E::close_array(&mut **self)
     }
 
-    fn empty_array(&mut self) -> Result<(), AllocError> {
+    fn empty_array(&mut self) -> Result<(), E::Error> {
         E::empty_array(&mut **self)
     }
 
-    fn open_object(&mut self) -> Result<(), AllocError> {
+    fn open_object(&mut self) -> Result<(), E::Error> {
         E::open_object(&mut **self)
     }
 
-    fn close_object(&mut self) -> Result<(), AllocError> {
+    fn close_object(&mut self) -> Result<(), E::Error> {
         E::close_object(&mut **self)
     }
 
-    fn empty_object(&mut self) -> Result<(), AllocError> {
+    fn empty_object(&mut self) -> Result<(), E::Error> {
         E::empty_object(&mut **self)
     }
 
-    fn key(&mut self, key: &str) -> Result<(), AllocError> {
+    fn key(&mut self, key: &str) -> Result<(), E::Error> {
         E::key(&mut **self, key)
     }
 
-    fn key_before(&mut self, key: &str, end: usize) -> Result<(), AllocError> {
+    fn key_before(&mut self, key: &str, end: usize) -> Result<(), E::Error> {
         E::key_before(&mut **self, key, end)
     }
 
-    fn string(&mut self, value: &str) -> Result<(), AllocError> {
+    fn string(&mut self, value: &str) -> Result<(), E::Error> {
         E::string(&mut **self, value)
     }
 
-    fn string_before(&mut self, value: &str, end: usize) -> Result<(), AllocError> {
+    fn string_before(&mut self, value: &str, end: usize) -> Result<(), E::Error> {
         E::string_before(&mut **self, value, end)
     }
 
-    fn number(&mut self, value: JsonNumber) -> Result<(), AllocError> {
+    fn number(&mut self, value: JsonNumber) -> Result<(), E::Error> {
         E::number(&mut **self, value)
     }
 
-    fn number_before(&mut self, value: JsonNumber, end: usize) -> Result<(), AllocError> {
+    fn number_before(&mut self, value: JsonNumber, end: usize) -> Result<(), E::Error> {
         E::number_before(&mut **self, value, end)
     }
 
@@ -258,59 +265,62 @@ impl<E: Events> Events for Box<E> {
         E::takes_texts(&**self)
     }
 
-    fn number_text(&mut self, text: &str, end: usize) -> Result<(), AllocError> {
+    fn number_text(&mut self, text: &str, end: usize) -> Result<(), E::Error> {
         E::number_text(&mut **self, text, end)
     }
 
-    fn literal(&mut self, value: Option<bool>) -> Result<(), AllocError> {
+    fn literal(&mut self, value: Option<bool>) -> Result<(), E::Error> {
         E::literal(&mut **self, value)
     }
 }
 
 impl<S: Tokens> Reader<S> {
-    /// Reads a whole text into events, which it returns, beside an error too. An error has the place that
-    /// was reached. For a literal alone it is out of memory only where its event was refused.
+    /// Reads a whole text into events, which it returns, beside an error too. An error of the text has the
+    /// place that was reached. A literal alone takes no memory.
     pub(super) fn told<E: Events>(
         &mut self,
         limit: Option<usize>,
         events: E,
-    ) -> Result<E, (JsonParseError, E)>
+    ) -> Result<E, (ReadError<E::Error>, E)>
         requires { E.holds events events [] }
         ensures reads { TellsAll (E.is events) S.sight limit self.old.tokens.source result
             self.new.tokens.source }
         ensures end { OnOk result (S.sight.shows self.new.tokens.source None) }
         ensures memory { IfErr result (λ w.
-            w.0.kind ≡ OutOfMemory → Meets S.sight self.old.tokens.source) }
+            break_kind w.0 ≡ OutOfMemory → Meets S.sight self.old.tokens.source) }
         ensures back { GivesBack (E.holds events) (E.is events) result }
     {
         match self.tell(limit, events) {
             Ok(events) => Ok(events),
-            Err((kind, events)) => {
-                let (line, column) = self.tokens.position();
-                Err((JsonParseError { kind, line, column }, events))
-            }
+            Err((kind, stopped, events)) => match stopped {
+                Some(error) => Err((ReadError::Events(error), events)),
+                None => {
+                    let (line, column) = self.tokens.position();
+                    let error = JsonParseError { kind, line, column };
+                    Err((ReadError::Parse(error), events))
+                }
+            },
         }
     }
 
-    /// Reads the value of a whole text, and the end after it.
+    /// Reads the value of a whole text, and the end after it. An error of an event is beside out of memory.
     fn tell<E: Events>(
         &mut self,
         limit: Option<usize>,
         events: E,
-    ) -> Result<E, (JsonParseErrorKind, E)>
+    ) -> Result<E, (JsonParseErrorKind, Option<E::Error>, E)>
         requires { E.holds events events [] }
         ensures reads { Tells (E.is events) S.sight limit self.old.tokens.source
             (next [] awaited) result self.new.tokens.source }
         ensures end { OnOk result (S.sight.shows self.new.tokens.source None) }
         ensures memory { IfErr result (λ w.
             w.0 ≡ OutOfMemory → Meets S.sight self.old.tokens.source) }
-        ensures some { IfErr result (λ w. ¬ (w.0 ≡ OutOfMemory) →
-            HoldsSome (E.holds events) (E.is events) w.1) }
+        ensures some { IfErr result (λ w. Leaves (E.holds events) (E.is events) w.0 w.1 w.2) }
     {
         match self.tokens.skip_white() {
             Some(first @ ('n' | 't' | 'f')) => self.tell_literal(first, events),
             Some(first) => self.tell_value(limit, first, events),
-            None => Err((JsonParseErrorKind::UnexpectedEof, events)),
+            None => Err((JsonParseErrorKind::UnexpectedEof, None, events)),
         }
     }
 
@@ -319,7 +329,7 @@ impl<S: Tokens> Reader<S> {
         &mut self,
         first: char,
         events: E,
-    ) -> Result<E, (JsonParseErrorKind, E)>
+    ) -> Result<E, (JsonParseErrorKind, Option<E::Error>, E)>
         requires shown { S.sight.shows self.old.tokens.source (Some first) }
         requires begins { BeginsLiteral first }
         requires holds { E.holds events events [] }
@@ -327,20 +337,19 @@ impl<S: Tokens> Reader<S> {
             Tells (E.is events) S.sight limit self.old.tokens.source
             (next [] awaited) result self.new.tokens.source }
         ensures end { OnOk result (S.sight.shows self.new.tokens.source None) }
-        ensures some { IfErr result (λ w. ¬ (w.0 ≡ OutOfMemory) →
-            HoldsSome (E.holds events) (E.is events) w.1) }
+        ensures some { IfErr result (λ w. Leaves (E.holds events) (E.is events) w.0 w.1 w.2) }
     {
         let mut events = events;
         let literal = match self.tokens.literal(first) {
             Ok(literal) => literal,
-            Err(kind) => return Err((kind, events)),
+            Err(kind) => return Err((kind, None, events)),
         };
-        if events.literal(literal).is_err() {
-            return Err((JsonParseErrorKind::OutOfMemory, events));
+        if let Err(error) = events.literal(literal) {
+            return Err((JsonParseErrorKind::OutOfMemory, Some(error), events));
         }
         match self.end() {
             Ok(()) => Ok(events),
-            Err(kind) => Err((kind, events)),
+            Err(kind) => Err((kind, None, events)),
         }
     }
 
@@ -350,7 +359,7 @@ impl<S: Tokens> Reader<S> {
         limit: Option<usize>,
         first: char,
         events: E,
-    ) -> Result<E, (JsonParseErrorKind, E)>
+    ) -> Result<E, (JsonParseErrorKind, Option<E::Error>, E)>
         requires shown { S.sight.shows self.old.tokens.source (Some first) }
         requires no_white { is_white first ≡ false }
         requires no_literal { ¬ (BeginsLiteral first) }
@@ -359,13 +368,12 @@ impl<S: Tokens> Reader<S> {
             (next [] awaited) result self.new.tokens.source }
         ensures end { OnOk result (S.sight.shows self.new.tokens.source None) }
         ensures memory { IfErr result (λ w. w.0 ≡ OutOfMemory → IsTrue (begins_growth first)) }
-        ensures some { IfErr result (λ w. ¬ (w.0 ≡ OutOfMemory) →
-            HoldsSome (E.holds events) (E.is events) w.1) }
+        ensures some { IfErr result (λ w. Leaves (E.holds events) (E.is events) w.0 w.1 w.2) }
     {
         let mut nest = Nest::new(self.alloc, events);
         match self.build(limit, &mut nest, first) {
             Ok(()) => Ok(nest.events),
-            Err(kind) => Err((kind, nest.events)),
+            Err(kind) => Err((kind, nest.stopped, nest.events)),
         }
     }
 }

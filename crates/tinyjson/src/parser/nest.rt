@@ -1,5 +1,5 @@
 //! Events with what each open container awaits.
-ghost use Rattle.std.specs.Prelude.{◌≡◌, ◌≤◌, ◌∷◌, List, [], length, true, false, Ok, Err, OnOk};
+ghost use Rattle.std.specs.Prelude.{◌≡◌, ◌≤◌, ◌∷◌, List, [], length, true, false, Ok, IfErr, IsSome, None, OnOk};
 ghost use Rattle.std.specs.Prelude.{MatchOption, MatchResult};
 ghost use Rattle.std.specs.Bool.{MatchBool};
 ghost use Rattle.std.specs.Str.{chars};
@@ -13,9 +13,8 @@ ghost use Rattle.tinyjson_grammar.specs.Tree.{array, object, string, number};
 ghost use Rattle.tinyjson_grammar.specs.declared.error.JsonParseErrorKind.TheVariants.{OutOfMemory};
 ghost use Rattle.tinyjson_grammar.specs.Tree.{literal_tree};
 ghost use Rattle.tinyjson.specs.private.Building.{Agree, awaited_of, IsOpen, IsWithin, Joins};
-ghost use Rattle.tinyjson.specs.private.Building.{KeepsEvents, TakesValue};
+ghost use Rattle.tinyjson.specs.private.Building.{Completed, KeepsEvents, Leaves, TakesValue};
 ghost use Rattle.tinyjson.specs.declared.parser.nest.Awaited.{Awaited};
-ghost use Rattle.tinyjson.specs.declared.parser.nest.Progress.TheVariants.{Complete};
 
 use super::error::JsonParseErrorKind;
 use super::events::Events;
@@ -43,19 +42,26 @@ pub(super) enum Progress {
 
 /// The events that a text is read into, and what each open container awaits, the innermost last.
 #[derive(Drop)]
-pub(super) struct Nest<E> {
+pub(super) struct Nest<E>
+where
+    E: Events,
+{
     pub(super) events: E,
     awaited: Vec<Awaited>,
+    /// The error of the event that ended the reading.
+    pub(super) stopped: Option<E::Error>,
 }
 
 impl<E: Events> Nest<E> {
     pub(super) fn new(alloc: Global, events: E) -> Self
         ensures events { result.events ≡ events }
         ensures none { awaited_of result ≡ [] }
+        ensures goes_on { result.stopped ≡ None }
     {
         Nest {
             events,
             awaited: Vec::new(alloc),
+            stopped: None,
         }
     }
 
@@ -103,6 +109,7 @@ impl<E: Events> Nest<E> {
         ensures awaited { (o : Awaited) (os : List Awaited) → awaited_of self.old ≡ o ∷ os →
             awaited_of self.new ≡ awaited ∷ os }
         ensures events { self.new.events ≡ self.old.events }
+        ensures stopped { self.new.stopped ≡ self.old.stopped }
     {
         if let Some(innermost) = self.awaited.last_mut() {
             *innermost = awaited;
@@ -124,11 +131,13 @@ impl<E: Events> Nest<E> {
     pub(super) fn key(&mut self, key: &str, end: usize) -> Result<(), AllocError>
         requires { (start : E) × (ms : Members) × (fs : List Frame) ×
             E.holds start self.old.events (at_key ms ∷ fs) }
-        ensures { (start : E) (ms : Members) (fs : List Frame) →
+        ensures opens { (start : E) (ms : Members) (fs : List Frame) →
             IsWithin (E.holds start) self.old (at_key ms) fs →
             OnOk result (IsOpen (E.holds start) self.new (at_value ms (chars key.now) ∷ fs)) }
+        ensures stops { IfErr result (λ _. IsSome self.new.stopped) }
     {
-        self.events.key_before(key, end)?;
+        let told = self.events.key_before(key, end);
+        self.keep(told)?;
         self.set_innermost(Awaited::Value);
         Ok(())
     }
@@ -136,10 +145,14 @@ impl<E: Events> Nest<E> {
     /// Opens an array.
     #[inline(always)]
     pub(super) fn open_array(&mut self) -> Result<(), AllocError>
-        ensures { (start : E) (fs : List Frame) → IsOpen (E.holds start) self.old fs →
+        ensures opens { (start : E) (fs : List Frame) → IsOpen (E.holds start) self.old fs →
             OnOk result (IsOpen (E.holds start) self.new (in_array [] ∷ fs)) }
+        ensures some { (start : E) (fs : List Frame) → IsOpen (E.holds start) self.old fs →
+            IfErr result (λ _. Leaves (E.holds start) (E.is start) OutOfMemory self.new.stopped
+            self.new.events) }
     {
-        self.events.open_array()?;
+        let told = self.events.open_array();
+        self.keep(told)?;
         self.awaited.push(Awaited::Item)?;
         Ok(())
     }
@@ -147,10 +160,14 @@ impl<E: Events> Nest<E> {
     /// Opens an object.
     #[inline(always)]
     pub(super) fn open_object(&mut self) -> Result<(), AllocError>
-        ensures { (start : E) (fs : List Frame) → IsOpen (E.holds start) self.old fs →
+        ensures opens { (start : E) (fs : List Frame) → IsOpen (E.holds start) self.old fs →
             OnOk result (IsOpen (E.holds start) self.new (at_key no_members ∷ fs)) }
+        ensures some { (start : E) (fs : List Frame) → IsOpen (E.holds start) self.old fs →
+            IfErr result (λ _. Leaves (E.holds start) (E.is start) OutOfMemory self.new.stopped
+            self.new.events) }
     {
-        self.events.open_object()?;
+        let told = self.events.open_object();
+        self.keep(told)?;
         self.awaited.push(Awaited::Key)?;
         Ok(())
     }
@@ -168,7 +185,8 @@ impl<E: Events> Nest<E> {
     {
         self.awaited.pop();
         self.refuse_key(JsonKind::Array)?;
-        completed(self.events.close_array())
+        let put = self.events.close_array();
+        self.complete(put)
     }
 
     /// Closes the innermost container, an object, which is complete then.
@@ -183,7 +201,8 @@ impl<E: Events> Nest<E> {
     {
         self.awaited.pop();
         self.refuse_key(JsonKind::Object)?;
-        completed(self.events.close_object())
+        let put = self.events.close_object();
+        self.complete(put)
     }
 
     /// Puts an array that has no items where it belongs.
@@ -196,7 +215,8 @@ impl<E: Events> Nest<E> {
         ensures kept { KeepsEvents result self.old self.new }
     {
         self.refuse_key(JsonKind::Array)?;
-        completed(self.events.empty_array())
+        let put = self.events.empty_array();
+        self.complete(put)
     }
 
     /// Puts an object that has no members where it belongs.
@@ -209,7 +229,8 @@ impl<E: Events> Nest<E> {
         ensures kept { KeepsEvents result self.old self.new }
     {
         self.refuse_key(JsonKind::Object)?;
-        completed(self.events.empty_object())
+        let put = self.events.empty_object();
+        self.complete(put)
     }
 
     /// Puts a string where it belongs, which is no key.
@@ -221,7 +242,8 @@ impl<E: Events> Nest<E> {
             (complete true fs (string (chars value.now)) true) result self.new }
         ensures kept { KeepsEvents result self.old self.new }
     {
-        completed(self.events.string_before(value, end))
+        let put = self.events.string_before(value, end);
+        self.complete(put)
     }
 
     /// Puts a number where it belongs.
@@ -237,7 +259,8 @@ impl<E: Events> Nest<E> {
         ensures kept { KeepsEvents result self.old self.new }
     {
         self.refuse_key(JsonKind::Number)?;
-        completed(self.events.number_before(value, end))
+        let put = self.events.number_before(value, end);
+        self.complete(put)
     }
 
     /// Puts a number with this text where it belongs.
@@ -254,7 +277,8 @@ impl<E: Events> Nest<E> {
         ensures kept { KeepsEvents result self.old self.new }
     {
         self.refuse_key(JsonKind::Number)?;
-        completed(self.events.number_text(text, end))
+        let put = self.events.number_text(text, end);
+        self.complete(put)
     }
 
     /// Puts a boolean, or null, where it belongs.
@@ -266,7 +290,37 @@ impl<E: Events> Nest<E> {
         ensures kept { KeepsEvents result self.old self.new }
     {
         self.refuse_key(literal_kind(value))?;
-        completed(self.events.literal(value))
+        let put = self.events.literal(value);
+        self.complete(put)
+    }
+
+    /// A value is complete, unless its event returned an error, which is kept.
+    #[inline(always)]
+    fn complete(&mut self, put: Result<(), E::Error>) -> Result<Progress, JsonParseErrorKind>
+        ensures { Completed put result self.old self.new }
+    {
+        match put {
+            Ok(()) => Ok(Progress::Complete),
+            Err(error) => {
+                self.stopped = Some(error);
+                Err(JsonParseErrorKind::OutOfMemory)
+            }
+        }
+    }
+
+    /// Keeps the error of an event.
+    #[inline(always)]
+    fn keep(&mut self, told: Result<(), E::Error>) -> Result<(), AllocError>
+        ensures { MatchResult result (λ _. (told ≡ Ok tt) × (self.new ≡ self.old))
+            (λ _. IsSome self.new.stopped) }
+    {
+        match told {
+            Ok(()) => Ok(()),
+            Err(error) => {
+                self.stopped = Some(error);
+                Err(AllocError)
+            }
+        }
     }
 }
 
@@ -278,16 +332,5 @@ fn literal_kind(literal: Option<bool>) -> JsonKind
     match literal {
         None => JsonKind::Null,
         Some(_) => JsonKind::Boolean,
-    }
-}
-
-/// A value is complete, if there was memory for it.
-#[inline(always)]
-fn completed(put: Result<(), AllocError>) -> Result<Progress, JsonParseErrorKind>
-    ensures { MatchResult put (λ _. result ≡ Ok Complete) (λ _. result ≡ Err OutOfMemory) }
-{
-    match put {
-        Ok(()) => Ok(Progress::Complete),
-        Err(_) => Err(JsonParseErrorKind::OutOfMemory),
     }
 }

@@ -1,7 +1,7 @@
 //! The reader: values by their first character, arrays and objects (RFC 8259, sections 4 and 5), and the
 //! loop over open containers. What is built is a matter of the events.
 ghost use Rattle.std.specs.Prelude.{◌≡◌, ℕ, ◌<◌, ◌≤◌, List, [], ◌∷◌, false, OnOk, IfErr};
-ghost use Rattle.std.specs.Prelude.{IsTrue, Option, Some, None, cond};
+ghost use Rattle.std.specs.Prelude.{IsTrue, Option, Some, None};
 ghost use Rattle.tinyjson_grammar.specs.Characters.{begin_array, begin_object, is_white};
 ghost use Rattle.tinyjson_grammar.specs.Characters.{quotation_mark, text};
 ghost use Rattle.tinyjson_grammar.specs.Refusal.{begins_growth};
@@ -12,6 +12,7 @@ ghost use Rattle.tinyjson.specs.private.Building.{awaited_of, Builds, Continues,
 ghost use Rattle.tinyjson.specs.private.Building.{KeepsEvents, LeavesSome, Stands};
 ghost use Rattle.tinyjson.specs.private.Steps.{GrowsFor};
 ghost use Rattle.tinyjson_tokens.specs.NumberSteps.{BeginsNumber};
+ghost use Rattle.tinyjson_tokens.specs.Source.{characters};
 ghost use Rattle.tinyjson_tokens.specs.Steps.{NeedsNone, Reads};
 ghost use Rattle.tinyjson_grammar.specs.Characters.{BeginsLiteral};
 ghost use Rattle.tinyjson_grammar.specs.declared.error.JsonParseErrorKind.TheVariants.{OutOfMemory};
@@ -22,7 +23,7 @@ use super::error::JsonParseErrorKind;
 use super::events::Events;
 use super::nest::{Awaited, Nest, Progress};
 use std::alloc::Global;
-use tinyjson_tokens::{TokenReader, Tokens};
+use tinyjson_tokens::{Lent, TokenReader, Tokens};
 
 /// Reads values from a source of characters.
 #[derive(Drop)]
@@ -324,7 +325,7 @@ impl<S: Tokens> Reader<S> {
     fn colon<E: Events>(
         &mut self,
         nest: &mut Nest<E>,
-        lent: bool,
+        lent: Lent,
     ) -> Result<Progress, JsonParseErrorKind>
         requires open { (start : E) × (ms : Members) × (fs : List Frame) ×
             IsOpen (E.holds start) nest.old (at_key ms ∷ fs) }
@@ -332,7 +333,7 @@ impl<S: Tokens> Reader<S> {
             IsOpen (E.holds start) nest.old (at_key ms ∷ fs) →
             Continues (E.holds start) (E.is start) S.sight limit self.old.tokens.source
             (next (at_key ms ∷ fs)
-            (colon (cond lent (S.lent self.old.tokens.source) (text self.old.string))))
+            (colon (characters lent (S.lent self.old.tokens.source) (text self.old.string))))
             result nest.new self.new.tokens.source }
         ensures left { OnOk result (S.left self.new.tokens.source ≤ S.left self.old.tokens.source) }
         ensures some { (start : E) (ms : Members) (fs : List Frame) →

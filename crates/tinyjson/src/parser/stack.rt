@@ -49,6 +49,8 @@ pub(super) struct Stack {
 }
 
 impl Events for Stack {
+    type Error = AllocError;
+
     ghost use Rattle.tinyjson.specs.private.Stack.{holds, is};
 
     ghost holds = { λ s. holds };

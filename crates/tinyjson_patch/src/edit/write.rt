@@ -1,5 +1,5 @@
 //! The document of a value that was changed, without recursion: what is left of the open containers is on a stack.
-ghost use Rattle.std.specs.Prelude.{◌≡◌, ◌<◌, ◌+◌, ◌∷◌, List, IfOk, OnOk, reverse};
+ghost use Rattle.std.specs.Prelude.{◌≡◌, ◌<◌, ◌+◌, [], ◌∷◌, ◌++◌, List, IfOk, OnOk, reverse};
 ghost use Rattle.tinyjson.specs.Events.{Open, Puts};
 ghost use Rattle.tinyjson.specs.View.{view};
 ghost use Rattle.tinyjson_document.specs.Comparing.{weight};
@@ -37,7 +37,7 @@ fn pass<'e, 'd, E: Events>(
     alloc: Global,
     value: &'e Edited<'d>,
     events: &mut E,
-) -> Result<(), AllocError>
+) -> Result<(), E::Error>
     requires { (start : E) × (os : List Open) × E.holds start events.old os }
     ensures { (start : E) (os : List Open) → E.holds start events.old os →
         OnOk result (Puts (E.holds start) (E.is start) os (tree value.now) events.new) }
@@ -56,7 +56,7 @@ fn begin<'e, 'd, E: Events>(
     part: &'e Edited<'d>,
     events: &mut E,
     stack: &mut Vec<Left<'e, 'd>>,
-) -> Result<(), AllocError>
+) -> Result<(), E::Error>
     requires { (start : E) × (os : List Open) × E.holds start events.old os }
     ensures waits { (start : E) (os fs : List Open) (t : Tree) → E.holds start events.old fs
         → Encloses (reverse stack.old.items) fs os (tree part.now) t
@@ -69,23 +69,19 @@ fn begin<'e, 'd, E: Events>(
         Edited::Kept(view) => pass_view(alloc, *view, events),
         Edited::Array(items) => {
             events.open_array()?;
-            stack.push(Left::Items(items.iter()))?;
+            push(stack, Left::Items(items.iter()))?;
             Ok(())
         }
         Edited::Object(members) => {
             events.open_object()?;
-            stack.push(Left::Members(members.iter()))?;
+            push(stack, Left::Members(members.iter()))?;
             Ok(())
         }
     }
 }
 
 /// Passes a value as it was.
-fn pass_view<E: Events>(
-    alloc: Global,
-    view: ValueView<'_>,
-    events: &mut E,
-) -> Result<(), AllocError>
+fn pass_view<E: Events>(alloc: Global, view: ValueView<'_>, events: &mut E) -> Result<(), E::Error>
     requires { (start : E) × (os : List Open) × E.holds start events.old os }
     ensures { (start : E) (os : List Open) → E.holds start events.old os →
         OnOk result (Puts (E.holds start) (E.is start) os (tree_of view.entry) events.new) }
@@ -118,7 +114,7 @@ fn resume<'e, 'd, E: Events>(
     rest: Left<'e, 'd>,
     events: &mut E,
     stack: &mut Vec<Left<'e, 'd>>,
-) -> Result<(), AllocError>
+) -> Result<(), E::Error>
     requires { (start : E) × (os : List Open) × (t : Tree) ×
         Waits (E.holds start) (E.is start) os t (rest ∷ reverse stack.old.items) events.old }
     ensures waits { (start : E) (os : List Open) (t : Tree) →
@@ -133,7 +129,7 @@ fn resume<'e, 'd, E: Events>(
             let Some(item) = items.next() else {
                 return events.close_array();
             };
-            stack.push(Left::Items(items))?;
+            push(stack, Left::Items(items))?;
             begin(alloc, item.as_ref(), events, stack)
         }
         Left::Members(mut members) => {
@@ -141,8 +137,16 @@ fn resume<'e, 'd, E: Events>(
                 return events.close_object();
             };
             events.key(key.as_str())?;
-            stack.push(Left::Members(members))?;
+            push(stack, Left::Members(members))?;
             begin(alloc, member, events, stack)
         }
     }
+}
+
+/// Puts what is left of a container on the stack.
+fn push<'e, 'd>(stack: &mut Vec<Left<'e, 'd>>, rest: Left<'e, 'd>) -> Result<(), AllocError>
+    ensures items { OnOk result (stack.new.items ≡ stack.old.items ++ rest.entry ∷ []) }
+{
+    stack.push(rest)?;
+    Ok(())
 }

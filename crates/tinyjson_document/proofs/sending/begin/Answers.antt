@@ -1,4 +1,4 @@
-use Rattle.std.proofs.Common.{◌≡◌, [], ◌∷◌, ◌∙◌, ap, arith, reverse, subst, sym}
+use Rattle.std.proofs.Common.{[], ◌∷◌, ◌∙◌, ap, arith, reverse, subst, sym}
 use Rattle.std.proofs.lemmas.List.{reverse-append}
 use Rattle.std.proofs.lemmas.Result.{IfOk-from_err}
 use Rattle.tinyjson_document.specs.Comparing.{items_weight, members_weight}
@@ -6,7 +6,7 @@ use Rattle.tinyjson_document.proofs.Callers.{node_sound}
 use Rattle.tinyjson_document.specs.Document.{tree}
 use Rattle.tinyjson_document.specs.Replaying.{Waits, left_weight}
 use Rattle.tinyjson_document.specs.declared.sending.Left.TheVariants as left
-use Rattle.tinyjson_document.proofs.Replaying.{array_weight, completed, items_opened, members_opened, object_weight, some_weight, weight_last}
+use Rattle.tinyjson_document.proofs.Replaying.{array_weight, completed, members_opened, object_weight, some_weight, weight_last}
 use Rattle.tinyjson_document.proofs.Replaying.{ok_always, ok_map}
 use Rattle.tinyjson_document.proofs.sending.begin.Goals as goal
 

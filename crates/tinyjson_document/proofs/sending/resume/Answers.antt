@@ -1,4 +1,4 @@
-use Rattle.std.proofs.Common.{◌≡◌, ◌∷◌, ◌∙◌, ap, arith, reverse, subst}
+use Rattle.std.proofs.Common.{◌∷◌, ◌∙◌, ap, arith, reverse, subst}
 use Rattle.std.proofs.lemmas.Result.{IfOk-from_err}
 use Rattle.tinyjson_document.specs.Comparing.{items_weight, members_weight}
 use Rattle.tinyjson_document.specs.Replaying.{Waits, left_weight}

@@ -1,4 +1,4 @@
-use Rattle.std.proofs.Common.{◌≡◌, ◌∙◌, None, Ok, sym, ap, subst}
+use Rattle.std.proofs.Common.{◌≡◌, ◌∙◌, None, Ok, Err, sym, ap, subst}
 use Rattle.std.specs.Prelude.{string_bytes}
 use Rattle.std.specs.Str.{chars}
 use Rattle.tinyjson_grammar.proofs.Callers.{text_sound}
@@ -6,6 +6,7 @@ use Rattle.tinyjson.specs.Events.{TellsText}
 use Rattle.tinyjson_document.specs.Document.{HasTree}
 use Rattle.tinyjson_document.specs.Holding.{IsBuilt}
 use Rattle.tinyjson_cells.specs.Texts.{source_bytes}
+use Rattle.tinyjson.proofs.Callers.{told_error}
 use Rattle.tinyjson_document.proofs.document.Document.of_text.Goals as goal
 
 pub over-requires : goal.over-requires
@@ -32,3 +33,7 @@ returns c =
       refused = tt;
       broken_off = tt;
     })
+
+pub returns-in-Err : goal.returns-in-Err
+returns-in-Err c = subst (λ bs. TellsText HasTree None (chars bs) (Err c.from.result)) c.as_str-2.ensures.value
+    (told_error _ None (chars c.as_str-2.result.now) HasTree c.in-Err.error c.from.result c.in-Err.ensures.tells c.from.ensures)

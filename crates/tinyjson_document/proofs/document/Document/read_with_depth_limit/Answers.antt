@@ -1,4 +1,8 @@
+use Rattle.std.proofs.Common.{Some}
+use Rattle.std.specs.Str.{chars}
 use Rattle.tinyjson_grammar.proofs.Callers.{text_sound}
+use Rattle.tinyjson.proofs.Callers.{told_error}
+use Rattle.tinyjson_document.specs.Document.{HasTree}
 use Rattle.tinyjson_document.proofs.document.Document.read_with_depth_limit.Goals as goal
 
 pub of_arena-requires : goal.of_arena-requires
@@ -15,3 +19,6 @@ returns-in-Ok c =
       refused = tt;
       broken_off = tt;
     }
+
+pub returns : goal.returns
+returns c = told_error _ (Some c.args.limit) (chars c.args.text.now) HasTree c.in-Err.error c.from.result c.in-Err.ensures.tells c.from.ensures

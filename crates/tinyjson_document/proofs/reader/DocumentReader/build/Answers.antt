@@ -1,5 +1,7 @@
 use Rattle.std.proofs.Common.{◌∙◌, sym, subst}
 use Rattle.tinyjson_document.specs.Holding.{IsBuilt}
+use Rattle.std.specs.Str.{chars}
+use Rattle.tinyjson.proofs.Callers.{told_error}
 use Rattle.tinyjson_document.proofs.reader.DocumentReader.build.Goals as goal
 
 pub returns-in-Ok : goal.returns-in-Ok
@@ -19,3 +21,7 @@ returns-in-Ok c =
       refused = tt;
       broken_off = tt;
     }
+
+pub returns-in-Err : goal.returns-in-Err
+returns-in-Err c = told_error _ c.args.limit (chars c.args.text.now) (IsBuilt c.args.source.now) c.in-Err.error c.from.result
+    c.in-Err.ensures c.from.ensures

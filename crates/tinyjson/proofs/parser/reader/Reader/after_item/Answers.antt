@@ -5,7 +5,7 @@ use Rattle.tinyjson_tokens.proofs.Callers.{end_after, white_after, Leads_whites,
 use Rattle.tinyjson.proofs.Reading.Building.{within}
 use Rattle.tinyjson.proofs.Reading.Containers.{array_comma, array_closes, array_other}
 use Rattle.tinyjson.proofs.Reading.Loop.{awaits, joined}
-use Rattle.tinyjson.proofs.Reading.Left.{left_kept}
+use Rattle.tinyjson.proofs.Reading.Left.{left_kept, open_at_error}
 use Rattle.tinyjson.proofs.parser.reader.Reader.after_item.Goals as goal
 
 pub returns-in-Some-eq44-clause-reads : goal.returns-in-Some-eq44-clause-reads
@@ -43,10 +43,12 @@ returns-in-None-clause-reads g c = λ start limit ts fs h.
 pub returns-in-Some-eq93-clause-some : goal.returns-in-Some-eq93-clause-some
 returns-in-Some-eq93-clause-some g c = λ start ts fs h.
     left_kept (g.E.Events.holds start) (g.E.Events.is start) _ c.args.nest.now c.close_array.new.self
-    (inl (in_array ts ∷ fs, h.0)) c.close_array.ensures.kept
+    (inl (in_array ts ∷ fs, h.0)) h.2 c.close_array.ensures.kept
 
 pub returns-in-Some-clause-some : goal.returns-in-Some-clause-some
-returns-in-Some-clause-some g c = λ start ts fs h n. inl (in_array ts ∷ fs, h.0)
+returns-in-Some-clause-some g c = λ start ts fs h.
+    open_at_error (g.E.Events.holds start) (g.E.Events.is start) _ c.args.nest.now (in_array ts ∷ fs) h
 
 pub returns-in-None-clause-some : goal.returns-in-None-clause-some
-returns-in-None-clause-some g c = λ start ts fs h n. inl (in_array ts ∷ fs, h.0)
+returns-in-None-clause-some g c = λ start ts fs h.
+    open_at_error (g.E.Events.holds start) (g.E.Events.is start) _ c.args.nest.now (in_array ts ∷ fs) h

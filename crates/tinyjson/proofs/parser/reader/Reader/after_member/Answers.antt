@@ -5,7 +5,7 @@ use Rattle.tinyjson_tokens.proofs.Callers.{end_after, white_after, Leads_whites,
 use Rattle.tinyjson_tokens.proofs.Callers.{taken_complete}
 use Rattle.tinyjson.proofs.Reading.Containers.{object_comma, object_closes, object_other}
 use Rattle.tinyjson.proofs.Reading.Loop.{Continues_after, joined}
-use Rattle.tinyjson.proofs.Reading.Left.{left_kept}
+use Rattle.tinyjson.proofs.Reading.Left.{left_at, left_kept}
 use Rattle.tinyjson.proofs.parser.reader.Reader.after_member.Goals as goal
 
 pub returns-in-Some-eq44-clause-reads : goal.returns-in-Some-eq44-clause-reads
@@ -43,10 +43,12 @@ returns-in-None-clause-reads g c = λ start limit ms fs h.
 pub returns-in-Some-eq125-clause-some : goal.returns-in-Some-eq125-clause-some
 returns-in-Some-eq125-clause-some g c = λ start ms fs h.
     left_kept (g.E.Events.holds start) (g.E.Events.is start) _ c.args.nest.now c.close_object.new.self
-    (inl (at_key ms ∷ fs, h.0)) c.close_object.ensures.kept
+    (inl (at_key ms ∷ fs, h.0)) h.2 c.close_object.ensures.kept
 
 pub returns-in-Some-clause-some : goal.returns-in-Some-clause-some
-returns-in-Some-clause-some g c = λ start ms fs h n. inl (at_key ms ∷ fs, h.0)
+returns-in-Some-clause-some g c = λ start ms fs h.
+    left_at (g.E.Events.holds start) (g.E.Events.is start) _ c.args.nest.now (inl (at_key ms ∷ fs, h.0)) h.2
 
 pub returns-in-None-clause-some : goal.returns-in-None-clause-some
-returns-in-None-clause-some g c = λ start ms fs h n. inl (at_key ms ∷ fs, h.0)
+returns-in-None-clause-some g c = λ start ms fs h.
+    left_at (g.E.Events.holds start) (g.E.Events.is start) _ c.args.nest.now (inl (at_key ms ∷ fs, h.0)) h.2

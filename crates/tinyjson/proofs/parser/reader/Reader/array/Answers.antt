@@ -1,4 +1,4 @@
-use Rattle.std.proofs.Common.{rules, ◌≡◌, ◌∷◌, [], IfSome, false, true, inl, refl}
+use Rattle.std.proofs.Common.{rules, ◌≡◌, ◌∷◌, [], IfSome, false, true, inl, is_err}
 use Rattle.tinyjson_grammar.specs.Machine.{fits, in_array, first}
 use Rattle.tinyjson.specs.private.Building.{IsOpen}
 use Rattle.tinyjson_grammar.specs.declared.error.JsonParseErrorKind.TheVariants.{TooDeep}
@@ -6,7 +6,7 @@ use Rattle.tinyjson_tokens.proofs.Callers.{Leads_trans, Leads_whites, Leads_one,
 use Rattle.tinyjson_tokens.proofs.Callers.{white_first, taken_complete}
 use Rattle.tinyjson.proofs.Reading.Containers.{array_begins, array_too_deep, array_closes_first, array_goes_on}
 use Rattle.tinyjson.proofs.Reading.Loop.{awaits, Continues_after, joined}
-use Rattle.tinyjson.proofs.Reading.Left.{left_kept}
+use Rattle.tinyjson.proofs.Reading.Left.{err_if, left_kept, open_at_error}
 use Rattle.tinyjson.proofs.parser.reader.Reader.array.Goals as goal
 use Rattle.tinyjson.proofs.parser.reader.Reader.array.Goals.{in_default-via-in-Some+in_default, in_default-via-in_default}
 
@@ -60,12 +60,14 @@ pub empty_array-requires : goal.empty_array-requires
 empty_array-requires g c = (c.requires.open.0, c.requires.open.1, c.requires.open.2.0)
 
 pub returns-then-not-fits-clause-some : goal.returns-then-not-fits-clause-some
-returns-then-not-fits-clause-some g c = λ start fs h n. inl (fs, h.0)
+returns-then-not-fits-clause-some g c = λ start fs h. open_at_error (g.E.Events.holds start) (g.E.Events.is start) _ c.args.nest.now fs h
 
 pub returns-in-Some-eq93-clause-some : goal.returns-in-Some-eq93-clause-some
 returns-in-Some-eq93-clause-some g c = λ start fs h.
     left_kept (g.E.Events.holds start) (g.E.Events.is start) _ c.args.nest.now c.empty_array.new.self
-    (inl (fs, h.0)) c.empty_array.ensures.kept
+    (inl (fs, h.0)) h.2 c.empty_array.ensures.kept
 
 pub returns-then-is_err-clause-some : goal.returns-then-is_err-clause-some
-returns-then-is_err-clause-some g c = λ start fs h n. absurd (n refl)
+returns-then-is_err-clause-some g c = λ start fs h.
+    let e : is_err c.open_array.result ≡ true = search rules in
+    err_if _ e (c.open_array.ensures.some start fs h)

@@ -1,12 +1,14 @@
-use Rattle.std.proofs.Common.{rules, ◌∷◌, cond, chars, subst, refl, inl}
+use Rattle.std.proofs.Common.{rules, ◌≡◌, ◌∷◌, true, is_err, chars, subst}
 use Rattle.tinyjson.specs.View.{text}
 use Rattle.tinyjson.specs.private.Building.{IsOpen}
-use Rattle.tinyjson_grammar.specs.Machine.{at_key, at_value}
+use Rattle.tinyjson_grammar.specs.Machine.{at_value}
 use Rattle.tinyjson_grammar.specs.declared.error.JsonParseErrorKind.TheVariants.{UnexpectedEof, ExpectedColon}
 use Rattle.tinyjson_tokens.proofs.Callers.{end_colon, Leads_nil, Leads_whites, Leads_one, Leads_end, Halts_here}
 use Rattle.tinyjson_tokens.proofs.Callers.{Refuses_as, Refuses_memory, white_colon}
 use Rattle.tinyjson.proofs.Reading.Containers.{colon_read, colon_other}
 use Rattle.tinyjson.proofs.Reading.Loop.{awaits}
+use Rattle.tinyjson.proofs.Reading.Left.{err_if, open_at_error, left_stopped}
+use Rattle.tinyjson_tokens.specs.Source.{characters}
 use Rattle.tinyjson.proofs.parser.reader.Reader.colon.Goals as goal
 
 pub returns-then-is_err-clause-reads : goal.returns-then-is_err-clause-reads
@@ -18,7 +20,7 @@ pub returns-in-Some-eq58-clause-reads : goal.returns-in-Some-eq58-clause-reads
 returns-in-Some-eq58-clause-reads g c = λ start limit ms fs h.
     let sight = g.S.Source.sight in
     let holds = g.E.Events.holds start in
-    let key = cond c.args.lent (g.S.Source.lent c.args.self.now.tokens.source) (text c.args.self.now.string) in
+    let key = characters c.args.lent (g.S.Source.lent c.args.self.now.tokens.source) (text c.args.self.now.string) in
     let keyed : IsOpen holds c.key.new.self (at_value ms (chars c.characters.result.now) ∷ fs) = search rules in
     awaits holds (g.E.Events.is start) sight limit _ _ (at_value ms key ∷ fs) c.key.new.self
     (Leads_one sight limit _ _ _ 58 (Leads_whites sight limit _ _ _ c.skip_white.ensures.white tt (white_colon limit _ _))
@@ -28,7 +30,7 @@ returns-in-Some-eq58-clause-reads g c = λ start limit ms fs h.
 pub returns-in-Some-clause-reads : goal.returns-in-Some-clause-reads
 returns-in-Some-clause-reads g c = λ start limit ms fs h.
     let sight = g.S.Source.sight in
-    let key = cond c.args.lent (g.S.Source.lent c.args.self.now.tokens.source) (text c.args.self.now.string) in
+    let key = characters c.args.lent (g.S.Source.lent c.args.self.now.tokens.source) (text c.args.self.now.string) in
     let d = c.in-Some.c in
     Refuses_as sight limit _ _ (ExpectedColon d)
     (Leads_one sight limit _ _ _ d (Leads_whites sight limit _ _ _ c.skip_white.ensures.white tt (white_colon limit _ _))
@@ -42,14 +44,16 @@ returns-in-None-clause-reads g c = λ start limit ms fs h.
     c.in-None.ensures.shows (end_colon limit _ _) tt)
 
 pub returns-then-is_err-clause-some : goal.returns-then-is_err-clause-some
-returns-then-is_err-clause-some g c = λ start ms fs h n. absurd (n refl)
+returns-then-is_err-clause-some g c = λ start ms fs h.
+    let e : is_err c.key.result ≡ true = search rules in
+    left_stopped (g.E.Events.holds start) (g.E.Events.is start) c.key.new.self (err_if _ e c.key.ensures.stops)
 
 pub returns-in-Some-clause-some : goal.returns-in-Some-clause-some
-returns-in-Some-clause-some g c = λ start ms fs h n.
+returns-in-Some-clause-some g c = λ start ms fs h.
     let keyed : IsOpen (g.E.Events.holds start) c.key.new.self (at_value ms (chars c.characters.result.now) ∷ fs) = search rules in
-    inl (at_value ms (chars c.characters.result.now) ∷ fs, keyed.0)
+    open_at_error (g.E.Events.holds start) (g.E.Events.is start) _ c.key.new.self (at_value ms (chars c.characters.result.now) ∷ fs) keyed
 
 pub returns-in-None-clause-some : goal.returns-in-None-clause-some
-returns-in-None-clause-some g c = λ start ms fs h n.
+returns-in-None-clause-some g c = λ start ms fs h.
     let keyed : IsOpen (g.E.Events.holds start) c.key.new.self (at_value ms (chars c.characters.result.now) ∷ fs) = search rules in
-    inl (at_value ms (chars c.characters.result.now) ∷ fs, keyed.0)
+    open_at_error (g.E.Events.holds start) (g.E.Events.is start) _ c.key.new.self (at_value ms (chars c.characters.result.now) ∷ fs) keyed

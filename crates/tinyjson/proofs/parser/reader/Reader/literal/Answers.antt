@@ -1,3 +1,4 @@
+use Rattle.std.proofs.Common.{refl}
 use Rattle.std.proofs.lemmas.Result.{err_from_is_err_and}
 use Rattle.tinyjson_grammar.specs.Machine.{awaited}
 use Rattle.tinyjson.proofs.Reading.Loop.{joined}
@@ -15,4 +16,4 @@ returns-clause-reads g c = λ start limit fs h.
     (c.in_ok-literal.ensures.reads limit fs) (c.literal-2.ensures.joins start fs h)
 
 pub returns-in_err-literal-clause-kept : goal.returns-in_err-literal-clause-kept
-returns-in_err-literal-clause-kept g c = same_events _ c.args.nest.now
+returns-in_err-literal-clause-kept g c = same_events _ c.args.nest.now c.args.nest.now refl refl

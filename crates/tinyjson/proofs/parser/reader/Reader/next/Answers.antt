@@ -1,7 +1,7 @@
-use Rattle.std.proofs.Common.{inl}
 use Rattle.tinyjson_grammar.specs.declared.error.JsonParseErrorKind.TheVariants.{UnexpectedEof}
 use Rattle.tinyjson_tokens.proofs.Callers.{end_awaited, Leads_whites, Leads_end, Refuses_as, white_awaited}
 use Rattle.tinyjson.proofs.Reading.Loop.{Continues_after}
+use Rattle.tinyjson.proofs.Reading.Left.{open_at_error}
 use Rattle.tinyjson.proofs.parser.reader.Reader.next.Goals as goal
 
 pub returns-in-Some-clause-reads : goal.returns-in-Some-clause-reads
@@ -20,4 +20,4 @@ returns-in-None-clause-reads g c = λ start fs h.
     c.in-None.ensures.shows (end_awaited limit _) tt)
 
 pub returns-in-None-clause-some : goal.returns-in-None-clause-some
-returns-in-None-clause-some g c = λ start fs h n. inl (fs, h.0)
+returns-in-None-clause-some g c = λ start fs h. open_at_error (g.E.Events.holds start) (g.E.Events.is start) _ c.args.nest.now fs h

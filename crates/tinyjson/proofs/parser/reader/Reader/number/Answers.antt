@@ -1,4 +1,4 @@
-use Rattle.std.proofs.Common.{◌≡◌, ◌≤◌, ◌∙◌, length, subst, sym, true}
+use Rattle.std.proofs.Common.{◌≤◌, ◌∙◌, length, refl, subst, sym, true}
 use Rattle.std.proofs.lemmas.Result.{err_from_is_err_and}
 use Rattle.tinyjson_grammar.specs.Machine.{awaited, complete, next}
 use Rattle.tinyjson_grammar.specs.Tree.{number}
@@ -29,4 +29,4 @@ returns-in-None-clause-reads g c = λ start limit fs h.
     (c.number_text.ensures.joins start fs t.0 (c.lent.ensures ∙ text.0) (subst (λ ls. length ls ≤ 24) (sym c.lent.ensures) text.1) h)
 
 pub returns-in_err-number-clause-kept : goal.returns-in_err-number-clause-kept
-returns-in_err-number-clause-kept g c = same_events _ c.args.nest.now
+returns-in_err-number-clause-kept g c = same_events _ c.args.nest.now c.args.nest.now refl refl

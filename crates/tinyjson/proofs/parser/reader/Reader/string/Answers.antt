@@ -30,4 +30,4 @@ returns-in_err-lent-clause-some g c = λ start fs h. left_open (g.E.Events.holds
 
 pub returns-clause-some : goal.returns-clause-some
 returns-clause-some g c = λ start fs h.
-    left_kept (g.E.Events.holds start) (g.E.Events.is start) _ c.args.nest.now c.string-2.new.self (inl (fs, h.0)) c.string-2.ensures.kept
+    left_kept (g.E.Events.holds start) (g.E.Events.is start) _ c.args.nest.now c.string-2.new.self (inl (fs, h.0)) h.2 c.string-2.ensures.kept

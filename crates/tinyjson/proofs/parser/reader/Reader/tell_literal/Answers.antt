@@ -6,8 +6,8 @@ use Rattle.tinyjson.proofs.parser.reader.Reader.tell_literal.Goals as goal
 pub returns-in-Err-clause-reads : goal.returns-in-Err-clause-reads
 returns-in-Err-clause-reads g c = λ limit. c.in-Err.ensures.reads limit []
 
-pub returns-then-is_err-clause-reads : goal.returns-then-is_err-clause-reads
-returns-then-is_err-clause-reads g c = λ limit.
+pub returns-in-Err-literal-clause-reads : goal.returns-in-Err-literal-clause-reads
+returns-in-Err-literal-clause-reads g c = λ limit.
     let sight = g.S.Source.sight in
     Refuses_memory sight limit _ _ (Halts_here sight limit _ _ (c.in-Ok.ensures.reads limit []) tt tt)
 

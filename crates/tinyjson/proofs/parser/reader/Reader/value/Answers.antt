@@ -4,7 +4,7 @@ use Rattle.tinyjson_grammar.specs.Refusal.{begins_growth}
 use Rattle.tinyjson_grammar.specs.declared.error.JsonParseErrorKind.{JsonParseErrorKind}
 use Rattle.tinyjson_grammar.specs.declared.error.JsonParseErrorKind.TheVariants.{InvalidCharacter}
 use Rattle.tinyjson_tokens.proofs.Callers.{Leads_nil, Leads_shown, Refuses_as, invalid}
-use Rattle.tinyjson.proofs.Reading.Left.{left_kept}
+use Rattle.tinyjson.proofs.Reading.Left.{left_kept, open_at_error}
 use Rattle.tinyjson.proofs.parser.reader.Reader.value.Goals as goal
 
 grows_for : {T : Type 0} (c : ℕ) (r : Result T JsonParseErrorKind) → IsTrue (begins_growth c) → GrowsFor c r
@@ -44,11 +44,11 @@ returns-in-123-clause-memory g c = λ _. grows_for c.args.first c.object.result 
 
 pub returns-in-n-clause-some : goal.returns-in-n-clause-some
 returns-in-n-clause-some g c = λ start fs h.
-    left_kept (g.E.Events.holds start) (g.E.Events.is start) _ c.args.nest.now c.literal.new.nest (inl (fs, h.0)) c.literal.ensures.kept
+    left_kept (g.E.Events.holds start) (g.E.Events.is start) _ c.args.nest.now c.literal.new.nest (inl (fs, h.0)) h.2 c.literal.ensures.kept
 
 pub returns-in_default-clause-some : goal.returns-in_default-clause-some
 returns-in_default-clause-some g c = λ start fs h.
-    left_kept (g.E.Events.holds start) (g.E.Events.is start) _ c.args.nest.now c.number.new.nest (inl (fs, h.0)) c.number.ensures.kept
+    left_kept (g.E.Events.holds start) (g.E.Events.is start) _ c.args.nest.now c.number.new.nest (inl (fs, h.0)) h.2 c.number.ensures.kept
 
 pub returns-in_default-2-clause-some : goal.returns-in_default-2-clause-some
-returns-in_default-2-clause-some g c = λ start fs h n. inl (fs, h.0)
+returns-in_default-2-clause-some g c = λ start fs h. open_at_error (g.E.Events.holds start) (g.E.Events.is start) _ c.args.nest.now fs h
