@@ -1,6 +1,6 @@
 -- A line that is passed over, of which a part is read.
 use Rattle.std.proofs.Common.{◌≡◌, ◌<◌, ◌==◌, ℕ, ◌+◌, ◌-◌, Bool, true, false, cond, List, [], ◌∷◌, ◌++◌, All, length, take, drop, get_or}
-use Rattle.std.proofs.Common.{Option, None, Some, Result, Ok, Err, refl, sym, ap, ◌∙◌}
+use Rattle.std.proofs.Common.{Option, None, Some, IfSome, Result, Ok, Err, refl, sym, ap, ◌∙◌, ◌≢◌, ◌⊎◌, inl, inr}
 use Rattle.std.proofs.Common.{subst, append_assoc, append-nil, length-append, arith}
 use Rattle.std.proofs.KnownBytes.{Consumes-nil}
 use Rattle.std.proofs.Math.Seq.{drop-append_seam, take-append-add, take-append_seam}
@@ -10,14 +10,19 @@ use Rattle.std.proofs.lemmas.List.Elements.{All-append, All-drop, All-nil, All-t
 use Rattle.std.proofs.lemmas.Str.{IsUtf8-append, IsUtf8-nil}
 use Rattle.std.specs.Io.BufRead.{take_through, drop_through, DropsThrough}
 use Rattle.std.specs.Io.KnownBytes.{Consumes, prepend_known}
+use Rattle.std.specs.IoError.{error_kind}
 use Rattle.std.specs.Prelude.{MatchResult}
-use Rattle.std.specs.Result.{is_ok}
+use Rattle.std.specs.Result.{IsErrAnd, is_ok}
+use Rattle.std.specs.declared.io.Error.{Error}
+use Rattle.std.specs.declared.io.ErrorKind.TheVariants.{Interrupted, OutOfMemory}
+use Rattle.tinyjson.specs.Grammar.{IsAccepted}
 use Rattle.std.specs.Str.{IsUtf8, chars}
 use Rattle.tinyjson_lines.proofs.Beginnings.{rest_utf8}
 use Rattle.tinyjson_lines.proofs.Callers.{first_line}
-use Rattle.tinyjson_lines.proofs.Pieces.{IsInLine, content_part, part_alone, part_first, some_taken}
-use Rattle.tinyjson_lines.specs.Checked.{IsRefused, RejectsNext}
-use Rattle.tinyjson_lines.specs.Lines.{content, lines, onto_first, LinesRead, AllRead}
+use Rattle.tinyjson_lines.proofs.Pieces.{IsInLine, content_part, memory_kind, part_alone, part_first, some_taken}
+use Rattle.tinyjson_lines.specs.Checked.{BeginsRejected, IsRefused, ReadsChecked, RejectsNext, StopsChecked}
+use Rattle.tinyjson_lines.specs.Lines.{content, lines, onto_first, BeginsLonger, LinesRead, AllRead, Stops, StopsInLine}
+use Rattle.tinyjson_lines.specs.declared.checked.CheckedRead.{CheckedRead}
 use Rattle.tinyjson_lines.specs.private.Beginnings.{IsCutAfter, IsNoUtf8, PassesOver, Rejects, TellsUtf8, usize_max}
 use Rattle.tinyjson_lines.specs.declared.refusal.Cause.{Cause}
 use Rattle.tinyjson_lines.specs.declared.refusal.Cause.TheVariants.{NotUtf8, NotJson, TooLong}
@@ -254,6 +259,14 @@ pub tells_utf8 : {S E : Type 0} (xs : List ℕ) (P : S → Type 0) (Q : E → Ty
 tells_utf8 xs P Q (Ok s) b e h = subst (TellsUtf8 xs) (sym e) h.1
 tells_utf8 xs P Q (Err x) b e h = subst (TellsUtf8 xs) (sym e) h.0
 
+-- ---- errors
+
+-- an error that is no interruption is handed on
+pub passes_err : (unread after : Option (List ℕ)) (part : List ℕ) (e : Error) (r : Result Bool Error) → IsErrAnd r (λ d. d ≡ e)
+    → error_kind e ≢ Interrupted → PassesOver unread after part r
+passes_err unread after part e (Ok x) is h = absurd is
+passes_err unread after part e (Err d) is h = subst (λ y. error_kind y ≢ Interrupted) (sym is) h
+
 -- ---- a line that is rejected by its beginning
 
 module _ (limit : Option ℕ) (unread after : Option (List ℕ)) (part : List ℕ) where
@@ -272,3 +285,53 @@ module _ (limit : Option ℕ) (unread after : Option (List ℕ)) (part : List �
 
   pub rejected_bytes : (b : Bool) → b ≡ false → PassesOver unread after part (Ok b) → RejectsNext limit unread after NotUtf8
   rejected_bytes b is h = (h.0, h.2, λ u. subst (TellsUtf8 (part ++ h.1)) is h.4 (subst IsUtf8 h.3 u))
+
+-- the line that begins with the part is no text
+no_text : (limit : Option ℕ) (part rest : List ℕ) (c : Cause) → Rejects limit part c → IsUtf8 (part ++ rest)
+    → ¬ IsAccepted limit (chars (part ++ rest))
+no_text limit part rest NotUtf8 n u = absurd (n rest u)
+no_text limit part rest (NotJson e) n u = (n rest).2
+no_text limit part rest (TooLong m) n u = absurd n
+
+pub begins_rejected : (limit : Option ℕ) (unread left : Option (List ℕ)) (part : List ℕ) (c : Cause) → IsPart usize_max unread left part
+    → 0 < length part → Rejects limit part c → BeginsRejected limit unread
+begins_rejected limit None left part c p some n = tt
+begins_rejected limit (Some u) None part c p some n = absurd p.taken
+begins_rejected limit (Some u) (Some l) part c p some n =
+    let r = passed (Some u) (Some l) (Some (drop_through 10 l)) part p.taken p.unended some refl in (
+      part ++ r.0,
+      lines (drop_through 10 l),
+      r.1,
+      λ t. let is = content_join part r.0 p.unended in
+          subst (λ x. ¬ IsAccepted limit (chars x)) (sym is) (no_text limit part (content r.0) c n (subst IsUtf8 is t)),
+    )
+
+module _ (limit : Option ℕ) (unread left : Option (List ℕ)) (line : List ℕ) where
+  stops_in : (e : Error) → Stops usize_max unread left line e → StopsChecked limit unread left line e
+  stops_in e h = record { kind = h.kind; within = by h.within }
+    where
+      by : StopsInLine unread left line ⊎ BeginsLonger usize_max unread
+          → StopsInLine unread left line ⊎ (BeginsLonger usize_max unread ⊎ BeginsRejected limit unread)
+      by (inl s) = inl s
+      by (inr b) = inr (inl b)
+
+  -- the error of a piece is handed on
+  pub checked_stops : (e : Error) (r : Result CheckedRead Error) → IsErrAnd r (λ d. d ≡ e) → Stops usize_max unread left line e
+      → ReadsChecked limit unread left line r
+  checked_stops e (Ok x) is h = absurd is
+  checked_stops e (Err d) is h = subst (StopsChecked limit unread left line) (sym is) (stops_in e h)
+
+  -- there was no memory to check a part
+  pub checked_memory : (e : Error) (r : Result CheckedRead Error) → IsErrAnd r (λ d. d ≡ e) → error_kind e ≡ OutOfMemory
+      → IsPart usize_max unread left line → ReadsChecked limit unread left line r
+  checked_memory e (Ok x) is k p = absurd is
+  checked_memory e (Err d) is k p = subst (StopsChecked limit unread left line) (sym is) (record {
+    kind = memory_kind e k;
+    within = inl (record { taken = p.taken; unended = p.unended });
+  })
+
+  -- a rejected line was passed over
+  pub checked_passing : (e : Error) (r : Result CheckedRead Error) → IsErrAnd r (λ d. d ≡ e) → error_kind e ≢ Interrupted
+      → BeginsRejected limit unread → ReadsChecked limit unread left line r
+  checked_passing e (Ok x) is k b = absurd is
+  checked_passing e (Err d) is k b = subst (StopsChecked limit unread left line) (sym is) (record { kind = k; within = inr (inr b) })

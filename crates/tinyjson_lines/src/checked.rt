@@ -1,6 +1,8 @@
 //! Lines that are checked while they are read.
 ghost use Rattle.std.specs.Prelude.{◌≡◌, ◌<◌, ℕ, List, MatchOption};
-ghost use Rattle.std.specs.Prelude.{Option, Some, IfOk, IfSome, length};
+ghost use Rattle.std.specs.IoError.{error_kind};
+ghost use Rattle.std.specs.Prelude.{Option, Some, IfErr, IfOk, IfSome, length};
+ghost use Rattle.std.specs.declared.io.ErrorKind.{ErrorKind};
 ghost use Rattle.std.specs.Result.{result_map_both};
 ghost use Rattle.tinyjson_lines.specs.Checked.{ReadsChecked, checked_as};
 ghost use Rattle.tinyjson_lines.specs.private.Beginnings.{IsCutAfter, IsNoUtf8, PassesOver, Rejects, usize_max};
@@ -49,7 +51,10 @@ impl CheckedRead {
 /// `limit` containers may be nested. The rest of such a line is passed over and not kept in memory.
 ///
 /// The beginning of a line is checked after 64 KB, and each time that four times as many bytes are read. So a line that
-/// is rejected may also be read whole. After an error a part of the line may have been read.
+/// is rejected may also be read whole.
+///
+/// Interruptions of the reader are passed over. Another error ends the reading within the line: `line` has the bytes
+/// that were consumed, and no line feed; or the line is rejected, and a part of it was passed over.
 ///
 /// ```
 /// let mut input = brackets.as_slice(); // 1 MB of `[`, and "\n4\n"
@@ -92,7 +97,8 @@ pub fn read_line_checked<R: BufRead>(
 
 /// Why each line is rejected that begins with this part, if that is known.
 fn beginning_cause(alloc: Global, part: &[u8], limit: usize) -> io::Result<Option<Cause>>
-    ensures { IfOk result (λ o. IfSome o (Rejects (Some limit) part.now)) }
+    ensures cause { IfOk result (λ o. IfSome o (Rejects (Some limit) part.now)) }
+    ensures err { IfErr result (λ e. error_kind e ≡ ErrorKind.OutOfMemory) }
 {
     let Some(text) = text_of(part) else {
         return Ok(Some(Cause::NotUtf8));

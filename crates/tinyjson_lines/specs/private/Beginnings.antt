@@ -1,7 +1,9 @@
 -- The beginnings of lines that are checked. For private contracts.
-use Rattle.std.specs.Prelude.{◌≡◌, ℕ, Bool, true, false, List, [], ◌∷◌, ◌++◌, Option, Result, Ok, Err, ⊤}
+use Rattle.std.specs.IoError.{error_kind}
+use Rattle.std.specs.Prelude.{◌≡◌, ◌≢◌, ℕ, Bool, true, false, List, [], ◌∷◌, ◌++◌, Option, Result, Ok, Err}
 use Rattle.std.specs.Str.{IsUtf8, chars}
 use Rattle.std.specs.declared.io.Error.{Error}
+use Rattle.std.specs.declared.io.ErrorKind.TheVariants.{Interrupted}
 use Rattle.tinyjson_lines.specs.Checked.{IsRefused}
 use Rattle.tinyjson_lines.specs.Lines.{content, LinesRead}
 pub use Rattle.tinyjson_lines.specs.Lines.{usize_max}
@@ -31,4 +33,4 @@ TellsUtf8 text false = ¬ IsUtf8 text
 abbrev pub PassesOver : Option (List ℕ) → Option (List ℕ) → List ℕ → Result Bool Error → Type 0
 PassesOver unread left part (Ok b) =
     (line rest : List ℕ) × LinesRead unread left (line ∷ []) × (content line ≡ part ++ rest) × TellsUtf8 (part ++ rest) b
-PassesOver unread left part (Err e) = ⊤
+PassesOver unread left part (Err e) = error_kind e ≢ Interrupted

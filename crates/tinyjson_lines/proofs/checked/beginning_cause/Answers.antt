@@ -10,6 +10,9 @@ pub returns-then-column-count : goal.returns-then-column-count
 returns-then-column-count c =
     let text = c.in-Some.text.now in
     let counted : c.count.result ≡ length (chars text) = search (rules, chars_from_encodes) in
-    refused_line (Some c.args.limit) text c.args.part.now c.in-Err.error c.in-Some.ensures
-    (λ k. false≢true (c.if-is_out_of_memory.ensures.1 k)) (sym c.line.ensures ∙ c.if-line-eq1.true)
-    (omega (arith, c.column.ensures, c.if-column-count.true, counted)) (omega (arith, c.count.type_inv, counted)) c.in-Err.ensures
+    record {
+      cause = refused_line (Some c.args.limit) text c.args.part.now c.in-Err.error c.in-Some.ensures
+          (λ k. false≢true (c.if-is_out_of_memory.ensures.1 k)) (sym c.line.ensures ∙ c.if-line-eq1.true)
+          (omega (arith, c.column.ensures, c.if-column-count.true, counted)) (omega (arith, c.count.type_inv, counted)) c.in-Err.ensures;
+      err = tt;
+    }
