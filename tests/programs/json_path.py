@@ -588,7 +588,7 @@ LONG_PATHS = [
     (["$"], b"[1,]", reported(3, "json_path", "Parse error at line:1, col:3: Invalid character: ]")),
     *((words, b"1", misused("json_path", "QUERY is missing")) for words in ([], ["-p"])),
     *((words, b"1", misused("json_path", "an argument is not UTF-8")) for words in ([NOT_UTF8], ["-p", NOT_UTF8])),
-    (["-x", "$"], b"1", misused("json_path", 'unknown option "-x"')),
+    (["-x", "$"], b"1", misused("json_path", 'unknown option "-x"; after -- it is an operand')),
     *((words, b"[1]", printed(b"$[0]")) for words in (["$[0]", "-p"], ["--paths", "$[0]"], ["-pp", "--", "$[0]", "-"])),
 ]
 

@@ -1395,7 +1395,7 @@ TURNS = 300
 ROWS = [
     *((words, b"1", misused("json_schema", "SCHEMA is missing")) for words in ([], ["-l"])),
     ([NOT_UTF8], b"1", misused("json_schema", "an argument is not UTF-8")),
-    (["-L", SCHEMA], b"1", misused("json_schema", 'unknown option "-L"')),
+    (["-L", SCHEMA], b"1", misused("json_schema", 'unknown option "-L"; after -- it is an operand')),
     *((words, b"1", misused("json_schema", "no text after -r")) for words in ([SCHEMA, "-r"], ["--ref"])),
     *((words, b"1\n", (1, unit_of("", "/type", NO_OBJECT, line=1, column=1), b"")) for words in ([SCHEMA, "-l"], ["--lines", SCHEMA, "-"])),
     (["/none"], b"1", reported(2, "json_schema", "/none: No such file or directory (os error 2)")),

@@ -77,7 +77,7 @@ class Page:
         """An option that is not known is named, wherever it is; after `--` it is an operand."""
         for word, shown in (("-x", "-x"), ("--x", "--x"), ("-hx", "-hx"), ("--helpx", "--helpx"), ("--help=1", "--help=1"), ("-\x1b", "-U+001B")):
             for words in ([word, *self.words], [*self.words, word]):
-                answer = misused(self.name, f'unknown option "{shown}"')
+                answer = misused(self.name, f'unknown option "{shown}"; after -- it is an operand')
                 checks.row(f"{self.name} {words}, an unknown option", answer, self.run, words, self.given)
         after = [*self.words, "--", "-x"]
         checks.row(f"{self.name} {after}, a file", (4, b"", b"-x: No such file or directory (os error 2)\n"), self.run, after, cwd="/")

@@ -6,7 +6,7 @@ use Rattle.tinyjson_cli.specs.declared.arguments.Misuse.{Misuse}
 use Rattle.tinyjson_cli.specs.declared.arguments.Misuse.TheVariants as misuse
 
 abbrev pub misuse_message : Misuse → List ℕ
-misuse_message (misuse.Unknown w) = codes "unknown option \"" ++ (shown (chars w.now) ++ codes "\"")
+misuse_message (misuse.Unknown w) = codes "unknown option \"" ++ (shown (chars w.now) ++ codes "\"; after -- it is an operand")
 misuse_message (misuse.NoNumber c) = codes "no number of 1 to 9 digits after -" ++ encode_utf8_all (c ∷ [])
 misuse_message (misuse.NoText c) = codes "no text after -" ++ encode_utf8_all (c ∷ [])
 misuse_message (misuse.Missing w) = w.now ++ codes " is missing"

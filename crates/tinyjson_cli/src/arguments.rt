@@ -87,7 +87,11 @@ impl fmt::Display for Misuse<'_> {
 
     fn fmt<W: fmt::Write>(&self, f: &mut fmt::Formatter<W>) -> fmt::Result {
         match self {
-            Misuse::Unknown(word) => write!(f, "unknown option \"{}\"", Shown(word)),
+            Misuse::Unknown(word) => write!(
+                f,
+                "unknown option \"{}\"; after -- it is an operand",
+                Shown(word)
+            ),
             Misuse::NoNumber(letter) => {
                 let letter = *letter as char;
                 write!(f, "no number of 1 to 9 digits after -{letter}")
