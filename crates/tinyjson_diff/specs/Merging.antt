@@ -1,10 +1,11 @@
 -- The merge patch (RFC 7396) that leads from one tree to another.
-use Rattle.std.specs.Prelude.{◌≡◌, Some, Result, Ok, Err, unwrap_or}
+use Rattle.std.specs.Prelude.{◌≡◌, ◌++◌, ℕ, List, Some, Result, Ok, Err, unwrap_or, codes, encode_utf8_all}
 use Rattle.tinyjson.specs.Soundness.{IsTree}
 use Rattle.tinyjson.specs.Tree.{Tree, null, object, Members, no_members, member, find}
 use Rattle.tinyjson.specs.View.{view}
 use Rattle.tinyjson.specs.declared.value.JsonValue.{JsonValue}
 use Rattle.tinyjson_patch.specs.Merge.{members_of, merge_patch}
+use Rattle.tinyjson_pointer.specs.Text.{pointer_text}
 use Rattle.tinyjson_pointer.specs.Tokens.{tokens_of}
 use Rattle.tinyjson_pointer.specs.Walk.{part_at}
 use Rattle.tinyjson_diff.specs.declared.merge.NoMergePatch.{NoMergePatch}
@@ -33,3 +34,9 @@ GivesMergePatch t u (Ok p) = Leads t u (view p) × HasChangesAlone t u (view p)
 GivesMergePatch t u (Err (Null place)) =
     (part_at u (tokens_of place) ≡ Some null) × ((p : Tree) → IsTree p → ¬ Leads t u p)
 GivesMergePatch t u (Err OutOfMemory) = Unit {0}
+
+-- the message of an error
+abbrev pub no_merge_patch_message : NoMergePatch → List ℕ
+no_merge_patch_message (Null place) =
+    codes "no merge patch sets a member to null: " ++ encode_utf8_all (pointer_text (tokens_of place))
+no_merge_patch_message OutOfMemory = codes "out of memory"

@@ -10,10 +10,13 @@ ghost use Rattle.tinyjson_view.specs.Views.{tree_of};
 ghost use Rattle.tinyjson_diff.specs.Changes.{AreRemovals, Changes, IsBelow, KeepsAll};
 ghost use Rattle.tinyjson_diff.specs.Changes.{members_had, object_members, with_change};
 ghost use Rattle.tinyjson_diff.specs.Merging.{GivesMergePatch};
+ghost use Rattle.tinyjson_diff.specs.Merging.{no_merge_patch_message};
 
 use crate::parts::{are_found_equal, copy_of, has_key};
 use std::alloc::{AllocError, Global};
 use std::collections::HashMap;
+use std::error::Error;
+use std::fmt;
 use tinyjson::{JsonKind, JsonValue};
 use tinyjson_document::JsonView;
 use tinyjson_pointer::{Pointer, put_member};
@@ -38,6 +41,19 @@ impl From<AllocError> for NoMergePatch {
         NoMergePatch::OutOfMemory
     }
 }
+
+impl fmt::Display for NoMergePatch {
+    ghost output = { λ e. Some (no_merge_patch_message e) };
+
+    fn fmt<W: fmt::Write>(&self, f: &mut fmt::Formatter<W>) -> fmt::Result {
+        match self {
+            NoMergePatch::Null(place) => write!(f, "no merge patch sets a member to null: {place}"),
+            NoMergePatch::OutOfMemory => f.write_str("out of memory"),
+        }
+    }
+}
+
+impl Error for NoMergePatch {}
 
 /// The merge patch (RFC 7396) that leads from the old value to the new one: merged into the old value it gives the new
 /// one. Of two objects it has the members that differ, and of these again only what differs; any other value that

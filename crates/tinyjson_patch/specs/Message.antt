@@ -10,6 +10,11 @@ use Rattle.tinyjson_patch.specs.declared.fault.PatchError.{PatchError}
 use Rattle.tinyjson_patch.specs.declared.fault.PatchError.TheVariants as document
 use Rattle.tinyjson_patch.specs.declared.patch.ApplyError.{ApplyError}
 use Rattle.tinyjson_patch.specs.declared.patch.ApplyError.TheVariants as applying
+use Rattle.tinyjson_patch.specs.declared.operation.OperationError.{OperationError}
+use Rattle.tinyjson_patch.specs.declared.operation.OperationError.TheVariants as operating
+use Rattle.tinyjson_patch.specs.declared.operation.Reason.TheVariants as reason
+use Rattle.tinyjson_pointer.specs.declared.change.InsertError.{InsertError}
+use Rattle.tinyjson_pointer.specs.declared.change.InsertError.TheVariants as inserting
 
 -- a text with the key of the member in quotes
 abbrev pub member_message : Member → List ℕ → List ℕ
@@ -35,3 +40,12 @@ patch_error_message document.OutOfMemory = codes "out of memory"
 abbrev pub apply_error_message : ApplyError → List ℕ
 apply_error_message (applying.Failed n r) = numbered_message n (reason_message r)
 apply_error_message applying.OutOfMemory = codes "out of memory"
+
+abbrev pub operation_error_message : OperationError → List ℕ
+operation_error_message (operating.Failed r) = reason_message r
+operation_error_message operating.OutOfMemory = codes "out of memory"
+
+-- what fails for an operation whose part is not inserted
+abbrev pub failure_of : InsertError → OperationError
+failure_of inserting.NoPlace = operating.Failed reason.NoPlace
+failure_of inserting.OutOfMemory = operating.OutOfMemory

@@ -5,8 +5,10 @@ ghost use Rattle.tinyjson_pointer.specs.Tokens.{tokens_of};
 ghost use Rattle.tinyjson_patch.specs.Operation.{action_of, applied, added, removed, replaced, moved};
 ghost use Rattle.tinyjson_patch.specs.Running.{is_among};
 ghost use Rattle.tinyjson_patch.specs.Operation.{stayed, copied, copy_of, tested, Applies, Copies};
+ghost use Rattle.tinyjson_patch.specs.Message.{operation_error_message};
 
 use std::alloc::{AllocError, Global};
+use std::error::Error;
 use std::fmt;
 use tinyjson::JsonValue;
 use tinyjson_pointer::{InsertError, Pointer};
@@ -81,6 +83,32 @@ impl From<AllocError> for OperationError {
         OperationError::OutOfMemory
     }
 }
+
+impl From<InsertError> for OperationError {
+    ghost use Rattle.tinyjson_patch.specs.Message.{failure_of};
+
+    ghost from_gives = { λ i e. e ≡ failure_of i };
+
+    fn from(error: InsertError) -> OperationError {
+        match error {
+            InsertError::NoPlace => OperationError::Failed(Reason::NoPlace),
+            InsertError::OutOfMemory => OperationError::OutOfMemory,
+        }
+    }
+}
+
+impl fmt::Display for OperationError {
+    ghost output = { λ e. Some (operation_error_message e) };
+
+    fn fmt<W: fmt::Write>(&self, f: &mut fmt::Formatter<W>) -> fmt::Result {
+        match self {
+            OperationError::Failed(reason) => reason.fmt(f),
+            OperationError::OutOfMemory => f.write_str("out of memory"),
+        }
+    }
+}
+
+impl Error for OperationError {}
 
 impl Operation {
     /// Applies this to the target. After an error the target may have any value.

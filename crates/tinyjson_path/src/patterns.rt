@@ -3,7 +3,7 @@ ghost use Rattle.std.specs.Prelude.{◌≡◌, ◌≤◌, ℕ, Bool, List, [], �
 ghost use Rattle.std.specs.Prelude.{option_map, vec_len};
 ghost use Rattle.std.specs.Str.{chars};
 ghost use Rattle.tinyjson.specs.View.{text};
-ghost use Rattle.tinyjson_path.specs.Limits.{limit_message};
+ghost use Rattle.tinyjson_path.specs.Limits.{find_error_message, limit_message};
 ghost use Rattle.tinyjson_view.specs.Views.{tree_of};
 ghost use Rattle.tinyjson_path.specs.Patterns.{judged, answer_of, holds_of_trees, pattern_holds};
 ghost use Rattle.tinyjson_path.specs.Seen.{operand_tree, value_tree};
@@ -13,6 +13,7 @@ ghost use Rattle.tinyjson_path_query.specs.declared.query.PatternFunction.{Patte
 
 use crate::operand::{Operand, release, value_of};
 use std::alloc::{AllocError, AllocFailed, Global};
+use std::error::Error;
 use std::fmt;
 use text_iregexp::{IRegexp, IRegexpErrorKind};
 use tinyjson_document::JsonView;
@@ -20,7 +21,7 @@ use tinyjson_path_query::PatternFunction;
 use tinyjson_view::ValueView;
 
 /// Which limit a regular expression exceeds.
-#[derive(Clone, Copy)]
+#[derive(Clone, Copy, Debug, PartialEq, Eq)]
 pub enum PatternLimit {
     /// More than 200 groups are nested.
     TooDeep,
@@ -40,7 +41,7 @@ impl fmt::Display for PatternLimit {
 }
 
 /// Why `find` returns no nodes.
-#[derive(Clone, Copy)]
+#[derive(Clone, Copy, Debug, PartialEq, Eq)]
 pub enum FindError {
     /// A regular expression that the query needs is too deep or too large.
     Pattern(PatternLimit),
@@ -63,6 +64,19 @@ impl<T: Drop> From<AllocFailed<T>> for FindError {
         FindError::OutOfMemory
     }
 }
+
+impl fmt::Display for FindError {
+    ghost output = { λ e. Some (find_error_message e) };
+
+    fn fmt<W: fmt::Write>(&self, f: &mut fmt::Formatter<W>) -> fmt::Result {
+        match self {
+            FindError::Pattern(limit) => limit.fmt(f),
+            FindError::OutOfMemory => f.write_str("out of memory"),
+        }
+    }
+}
+
+impl Error for FindError {}
 
 /// A text, and the regular expression that was parsed from it.
 #[derive(Drop)]

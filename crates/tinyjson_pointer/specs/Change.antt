@@ -81,3 +81,8 @@ abbrev pub Removes : Option Tree → Option Tree → Tree → Option JsonValue �
 Removes part without t result t' = MatchOption result
     ((without ≡ None) × (t' ≡ t))
     (λ old. (part ≡ Some (view old)) × (without ≡ Some t'))
+
+-- the message of an error
+abbrev pub insert_error_message : InsertError → List ℕ
+insert_error_message NoPlace = codes "the pointer names no place for a value"
+insert_error_message OutOfMemory = codes "out of memory"

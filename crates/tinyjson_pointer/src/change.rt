@@ -9,13 +9,15 @@ ghost use Rattle.tinyjson_pointer.specs.Change.{insertion_index, with_child, wit
 ghost use Rattle.tinyjson_pointer.specs.Change.{without_part, Inserts, Removes};
 ghost use Rattle.tinyjson_pointer.specs.Tokens.{tokens_of, begins_with};
 ghost use Rattle.tinyjson_pointer.specs.Walk.{step, part_at, with_part};
+ghost use Rattle.tinyjson_pointer.specs.Change.{insert_error_message};
 
 use crate::array_index::index;
 use crate::pointer::Pointer;
 use crate::walk::replace_at;
 use std::alloc::{AllocError, Global};
 use std::collections::HashMap;
-use std::mem;
+use std::error::Error;
+use std::{fmt, mem};
 use tinyjson::{JsonValue, insert_member, remove_member};
 
 /// Why a part is not inserted.
@@ -27,6 +29,19 @@ pub enum InsertError {
     /// An allocation failed.
     OutOfMemory,
 }
+
+impl fmt::Display for InsertError {
+    ghost output = { λ e. Some (insert_error_message e) };
+
+    fn fmt<W: fmt::Write>(&self, f: &mut fmt::Formatter<W>) -> fmt::Result {
+        match self {
+            InsertError::NoPlace => f.write_str("the pointer names no place for a value"),
+            InsertError::OutOfMemory => f.write_str("out of memory"),
+        }
+    }
+}
+
+impl Error for InsertError {}
 
 impl Pointer {
     /// Inserts the part at the place that this names, as `add` of RFC 6902, section 4.1. In an object it

@@ -5,6 +5,7 @@ pub mod Evaluated
 pub mod Every
 pub mod Leads
 pub mod Marks
+pub mod Messages
 pub mod Nested
 pub mod Parts
 pub mod Places

@@ -5,6 +5,8 @@ ghost use Rattle.tinyjson.specs.View.{view};
 ghost use Rattle.tinyjson_schema.specs.Leads.{are_led};
 ghost use Rattle.tinyjson_schema.specs.Schemas.{is_schema};
 ghost use Rattle.tinyjson_schema.specs.declared.schema.SchemaError.{SchemaError};
+ghost use Rattle.std.specs.Prelude.{Some};
+ghost use Rattle.tinyjson_schema.specs.Messages.{schema_error_message};
 
 use crate::lead::Lead;
 use crate::leads::leads_of;
@@ -13,6 +15,8 @@ use crate::validate::{find_violation, find_violations};
 use crate::violation::Violation;
 use crate::walk::{CheckError, Ground, Walk};
 use std::alloc::{AllocError, Global};
+use std::error::Error;
+use std::fmt;
 use tinyjson::JsonValue;
 use tinyjson_pointer::Pointer;
 use tinyjson_schema_keywords::{Budget, Document, KeptPatterns, Whole, anchors_of, repeated};
@@ -52,7 +56,7 @@ pub struct Checks {
 }
 
 /// Why a tree is not accepted as a schema.
-#[derive(Drop)]
+#[derive(Debug, Drop)]
 pub enum SchemaError {
     /// The tree can't be applied at this place. It has a keyword's value whose form is not the standard's, or
     /// a schema that is neither an object nor a boolean. Or a reference there leads to no schema in the tree, or in
@@ -71,6 +75,23 @@ impl From<AllocError> for SchemaError {
         SchemaError::OutOfMemory
     }
 }
+
+impl fmt::Display for SchemaError {
+    ghost output = { λ e. Some (schema_error_message e) };
+
+    fn fmt<W: fmt::Write>(&self, f: &mut fmt::Formatter<W>) -> fmt::Result {
+        match self {
+            SchemaError::Refused(place) => write!(f, "it can't be applied at '{place}'"),
+            SchemaError::PatternLimit(place) => write!(
+                f,
+                "the pattern at '{place}' is too deep or too large"
+            ),
+            SchemaError::OutOfMemory => f.write_str("out of memory"),
+        }
+    }
+}
+
+impl Error for SchemaError {}
 
 impl<'s> Schema<'s> {
     ghost use Rattle.tinyjson_schema.specs.Reading.{ReadsSchema, tree_of, root_in};

@@ -6,15 +6,19 @@ ghost use Rattle.tinyjson.specs.View.{view};
 ghost use Rattle.tinyjson_schema.specs.Leads.{are_led};
 ghost use Rattle.tinyjson_schema.specs.declared.walk.CheckError.{CheckError};
 ghost use Rattle.tinyjson_schema_table.specs.Places.{is_of};
+ghost use Rattle.std.specs.Prelude.{Some};
+ghost use Rattle.tinyjson_schema.specs.Messages.{check_error_message};
 
 use crate::lead::Lead;
 use std::alloc::{AllocError, AllocFailed, Global};
+use std::error::Error;
+use std::fmt;
 use tinyjson_schema_keywords as keywords;
 use tinyjson_schema_keywords::{SearchError, Whole};
 use tinyjson_schema_table::Known;
 
 /// Why a check has no result.
-#[derive(Clone, Copy)]
+#[derive(Clone, Copy, Debug, PartialEq, Eq)]
 pub enum CheckError {
     /// More schemas are applied one within the other than the caller allows.
     TooDeep,
@@ -39,6 +43,20 @@ impl<T: Drop> From<AllocFailed<T>> for CheckError {
         CheckError::OutOfMemory
     }
 }
+
+impl fmt::Display for CheckError {
+    ghost output = { λ e. Some (check_error_message e) };
+
+    fn fmt<W: fmt::Write>(&self, f: &mut fmt::Formatter<W>) -> fmt::Result {
+        match self {
+            CheckError::TooDeep => f.write_str("schemas are nested too deep"),
+            CheckError::TooMuch => f.write_str("the check takes too many steps"),
+            CheckError::OutOfMemory => f.write_str("out of memory"),
+        }
+    }
+}
+
+impl Error for CheckError {}
 
 impl From<SearchError> for CheckError {
     ghost use Rattle.tinyjson_schema.specs.Deep.{IsShallow};

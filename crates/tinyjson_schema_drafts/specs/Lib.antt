@@ -5,6 +5,7 @@ pub mod Recursion
 pub mod Rules
 pub mod Translated
 pub mod Documents
+pub mod Messages
 pub mod Meta
 pub mod References
 pub mod Retrieval

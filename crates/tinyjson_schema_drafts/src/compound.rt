@@ -8,6 +8,8 @@ ghost use Rattle.tinyjson_schema_drafts.specs.References.{compound_of, draft_of,
 ghost use Rattle.tinyjson_schema_drafts.specs.References.{referring, with_reference};
 ghost use Rattle.tinyjson_schema_drafts.specs.References.{EmbedsOne, EmbedsAll, HasMetaSchemas};
 ghost use Rattle.tinyjson_schema_drafts.specs.References.{IsCause, IsResourceOf};
+ghost use Rattle.std.specs.Prelude.{Some};
+ghost use Rattle.tinyjson_schema_drafts.specs.Messages.{embed_error_message};
 
 use crate::dialect::{draft_of, is_older};
 use crate::document::{string_of, with_document};
@@ -17,6 +19,8 @@ use crate::read::read_as;
 use crate::wanted::wanted;
 use std::alloc::{AllocError, Global};
 use std::collections::HashMap;
+use std::error::Error;
+use std::fmt;
 use tinyjson::{JsonParseError, JsonValue};
 use tinyjson_pointer::put_member;
 use tinyjson_schema_bundle::{bundle_of, bundled};
@@ -31,7 +35,7 @@ pub struct Compound {
 }
 
 /// Why a meta-schema is not embedded.
-#[derive(Drop)]
+#[derive(Debug, Drop)]
 pub enum EmbedError {
     /// The text of this meta-schema is no JSON. None of this crate is so.
     NotJson(MetaSchema, JsonParseError),
@@ -48,6 +52,23 @@ impl From<AllocError> for EmbedError {
         EmbedError::OutOfMemory
     }
 }
+
+impl fmt::Display for EmbedError {
+    ghost output = { λ e. Some (embed_error_message e) };
+
+    fn fmt<W: fmt::Write>(&self, f: &mut fmt::Formatter<W>) -> fmt::Result {
+        match self {
+            EmbedError::NotJson(schema, _) => write!(
+                f,
+                "the meta-schema {} is no JSON text",
+                schema.uri
+            ),
+            EmbedError::OutOfMemory => f.write_str("out of memory"),
+        }
+    }
+}
+
+impl Error for EmbedError {}
 
 /// The schema in the words of 2020-12, with no further document: by the draft that it names, or else by the default. The
 /// only error is out of memory.

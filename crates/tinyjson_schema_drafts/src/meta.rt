@@ -9,7 +9,7 @@ mod draft_6;
 mod draft_7;
 
 /// A document that json-schema.org publishes.
-#[derive(Clone, Copy)]
+#[derive(Clone, Copy, Debug)]
 pub struct MetaSchema {
     /// Its URI, without a fragment.
     pub uri: &'static str,

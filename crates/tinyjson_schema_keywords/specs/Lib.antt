@@ -1,6 +1,7 @@
 pub mod Anchors
 pub mod Applied
 pub mod Forms
+pub mod Messages
 pub mod Names
 pub mod Patterns
 pub mod References

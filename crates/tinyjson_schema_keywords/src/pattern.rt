@@ -1,15 +1,18 @@
 //! Patterns in schemas (Core, 6.4).
-ghost use Rattle.std.specs.Prelude.{◌≡◌, ℕ, List, IfOk, IfErr, IfSome, is_some};
+ghost use Rattle.std.specs.Prelude.{◌≡◌, ℕ, List, IfOk, IfErr, IfSome, is_some, Some};
 ghost use Rattle.std.specs.Str.{chars};
 ghost use Rattle.tinyjson.specs.View.{text};
 ghost use Rattle.text_iregexp.specs.PatternDeciding.{is_pattern, is_found};
 ghost use Rattle.tinyjson_schema_keywords.specs.Patterns.{answer_of, IsPatternError};
+ghost use Rattle.tinyjson_schema_keywords.specs.Messages.{pattern_error_message};
 
 use crate::budget::Budget;
 use crate::walk::SearchError;
 use std::alloc::{AllocError, Global};
 use std::cell::RefCell;
 use std::collections::HashMap;
+use std::error::Error;
+use std::fmt;
 use text_iregexp::{SchemaPattern, SchemaPatternErrorKind};
 use tinyjson_bytes::are_equal;
 
@@ -20,13 +23,26 @@ const KEPT: usize = 100;
 const LARGEST: usize = 10_000;
 
 /// Why a pattern is not parsed.
-#[derive(Clone, Copy)]
+#[derive(Clone, Copy, Debug, PartialEq, Eq)]
 pub enum PatternError {
     /// It is too deep or too large.
     AboveLimits,
     /// An allocation failed.
     OutOfMemory,
 }
+
+impl fmt::Display for PatternError {
+    ghost output = { λ e. Some (pattern_error_message e) };
+
+    fn fmt<W: fmt::Write>(&self, f: &mut fmt::Formatter<W>) -> fmt::Result {
+        match self {
+            PatternError::AboveLimits => f.write_str("a pattern is too deep or too large"),
+            PatternError::OutOfMemory => f.write_str("out of memory"),
+        }
+    }
+}
+
+impl Error for PatternError {}
 
 /// A text that was parsed as a pattern.
 #[derive(Drop)]

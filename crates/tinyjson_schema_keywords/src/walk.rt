@@ -3,12 +3,16 @@ ghost use Rattle.text_iregexp.specs.PatternDeciding.{is_found};
 ghost use Rattle.std.specs.Prelude.{◌≡◌, IfOk, MatchResult};
 ghost use Rattle.std.specs.Str.{chars};
 ghost use Rattle.tinyjson_schema_keywords.specs.Walks.{IsDeeper};
+ghost use Rattle.std.specs.Prelude.{Some};
+ghost use Rattle.tinyjson_schema_keywords.specs.Messages.{check_error_message, search_error_message};
 
 use crate::document::Whole;
 use std::alloc::{AllocError, AllocFailed, Global};
+use std::error::Error;
+use std::fmt;
 
 /// Why a check has no result.
-#[derive(Clone, Copy)]
+#[derive(Clone, Copy, Debug, PartialEq, Eq)]
 pub enum CheckError {
     /// More nested schemas would be applied than the caller allows.
     TooDeep,
@@ -30,8 +34,22 @@ impl<T: Drop> From<AllocFailed<T>> for CheckError {
     }
 }
 
+impl fmt::Display for CheckError {
+    ghost output = { λ e. Some (check_error_message e) };
+
+    fn fmt<W: fmt::Write>(&self, f: &mut fmt::Formatter<W>) -> fmt::Result {
+        match self {
+            CheckError::TooDeep => f.write_str("schemas are nested too deep"),
+            CheckError::TooMuch => f.write_str("the check takes too many steps"),
+            CheckError::OutOfMemory => f.write_str("out of memory"),
+        }
+    }
+}
+
+impl Error for CheckError {}
+
 /// Why a search for a pattern, or an assertion, has no result.
-#[derive(Clone, Copy)]
+#[derive(Clone, Copy, Debug, PartialEq, Eq)]
 pub enum SearchError {
     /// It would take more steps than the caller allows.
     TooMuch,
@@ -50,6 +68,19 @@ impl<T: Drop> From<AllocFailed<T>> for SearchError {
         SearchError::OutOfMemory
     }
 }
+
+impl fmt::Display for SearchError {
+    ghost output = { λ e. Some (search_error_message e) };
+
+    fn fmt<W: fmt::Write>(&self, f: &mut fmt::Formatter<W>) -> fmt::Result {
+        match self {
+            SearchError::TooMuch => f.write_str("the check takes too many steps"),
+            SearchError::OutOfMemory => f.write_str("out of memory"),
+        }
+    }
+}
+
+impl Error for SearchError {}
 
 impl From<SearchError> for CheckError {
     fn from(error: SearchError) -> CheckError {

@@ -3,6 +3,7 @@ pub mod Counts
 pub mod Ends
 pub mod Faults
 pub mod Kinds
+pub mod Messages
 pub mod Missing
 pub mod Nearest
 pub mod Refused

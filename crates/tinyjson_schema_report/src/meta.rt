@@ -5,10 +5,14 @@ ghost use Rattle.tinyjson.specs.View.{view};
 ghost use Rattle.tinyjson_schema_drafts.specs.References.{seen, meta_schema_of, HasMetaSchemas};
 ghost use Rattle.tinyjson_schema_report.specs.Meta.{judged_by, GivesBy, IsErrorOf, SchemaGives, WholeGives};
 ghost use Rattle.tinyjson_schema_report.specs.Verdicts.{TextGivesAs};
+ghost use Rattle.std.specs.Prelude.{Some};
+ghost use Rattle.tinyjson_schema_report.specs.Messages.{meta_error_message};
 
 use crate::refused::{Refusal, refused_words};
 use crate::verdict::{Cause, DEPTH_LIMIT, Every, Judge, check_as};
 use std::alloc::{AllocError, Global};
+use std::error::Error;
+use std::fmt;
 use tinyjson::JsonValue;
 use tinyjson_buffers::Buffers;
 use tinyjson_schema::{Schema, SchemaError};
@@ -30,7 +34,7 @@ pub struct MetaSchemas {
 }
 
 /// Why a schema is not checked by its meta-schema.
-#[derive(Drop)]
+#[derive(Debug, Drop)]
 pub enum MetaError {
     /// The meta-schema with this URI is not known.
     Unknown(String),
@@ -51,6 +55,21 @@ impl From<AllocError> for MetaError {
         MetaError::OutOfMemory
     }
 }
+
+impl fmt::Display for MetaError {
+    ghost output = { λ e. Some (meta_error_message e) };
+
+    fn fmt<W: fmt::Write>(&self, f: &mut fmt::Formatter<W>) -> fmt::Result {
+        match self {
+            MetaError::Unknown(uri) => write!(f, "the meta-schema {uri} is not known"),
+            MetaError::Refused { place, words } => write!(f, "{place} {words}"),
+            MetaError::Embed(error) => error.fmt(f),
+            MetaError::OutOfMemory => f.write_str("out of memory"),
+        }
+    }
+}
+
+impl Error for MetaError {}
 
 impl MetaSchemas {
     /// Checks the schema of a text by its meta-schema. It fails if that is not known.
