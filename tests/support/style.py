@@ -14,7 +14,7 @@ WORDS = {
     "CHANGELOG.md": 1_500,
     "CONTRIBUTING.md": 1_800,
     "bench/results.md": 800,
-    "bindings/README.md": 650,
+    "bindings/README.md": 1_000,
     "docs/ARCHITECTURE.md": 1_100,
     "docs/CALLERS.md": 3_300,
     "docs/DECISIONS.md": 2_100,
