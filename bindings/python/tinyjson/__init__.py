@@ -12,7 +12,11 @@ import ctypes
 import enum
 import os
 import pathlib
+import platform
 from typing import Any, Callable, List, Optional, Tuple, Union, overload
+
+#: The version of the package.
+__version__ = "0.2.0"
 
 __all__ = ["DEPTH", "BadPatch", "BadPointer", "BadQuery", "BadSchema", "Error", "Failed", "Kind", "NotUtf8"]
 __all__ += ["PatternLimit", "Refused", "SchemaFault", "StepLimit", "Value", "check", "equal", "indented", "is_normal"]
@@ -163,12 +167,15 @@ class _Place(ctypes.Structure):
 
 
 def _library() -> ctypes.CDLL:
-    """The shared library: the one that TINYJSON_LIBRARY names, the package's own, or what tests/bindings built."""
+    """The shared library: the one that TINYJSON_LIBRARY names, the package's own, or what tools/bindings built."""
     here = pathlib.Path(__file__).resolve().parent
     places = [here / "libtinyjson.so", here.parents[1] / "out" / "libtinyjson.so"]
     named = os.environ.get("TINYJSON_LIBRARY")
-    found = named or next((str(it) for it in places if it.is_file()), "libtinyjson.so")
-    return ctypes.CDLL(found)
+    found = named or next((str(it) for it in places if it.is_file()), "libtinyjson.so.0")
+    try:
+        return ctypes.CDLL(found)
+    except OSError as error:
+        raise ImportError(f"tinyjson has no library for this machine ({platform.machine()}): {error}") from error
 
 
 _lib = _library()
