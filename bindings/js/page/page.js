@@ -32,9 +32,9 @@ const EXAMPLES = {
   'two numbers': { tab: 'Compare', text: '1e400', other: '10e399' },
 };
 
-// After so many ms a call is ended, with its worker. From so many characters on a text is read when no key was pressed for a
-// while, its fault is selected and not marked, and of an answer only the front is shown.
-const LIMIT = 2000;
+// After so many ms a call is ended, with its worker: two seconds, or `limit` of the address. From so many characters on a text
+// is read when no key was pressed for a while, its fault is not marked, and of an answer only the front is shown.
+const LIMIT = Number(new URLSearchParams(location.search).get('limit') ?? 2000);
 const LONG = 100000;
 const PAUSE = 250;
 const SHOWN = 100000;
