@@ -33,7 +33,8 @@ const EXAMPLES = {
 };
 
 // After so many ms a call is ended, with its worker: two seconds, or `limit` of the address. From so many characters on a text
-// is read when no key was pressed for a while, its fault is not marked, and of an answer only the front is shown.
+// is read when no key was pressed for a while, its lines do not wrap, its fault is not marked, and of an answer only the front
+// is shown.
 const LIMIT = Number(new URLSearchParams(location.search).get('limit') ?? 2000);
 const LONG = 100000;
 const PAUSE = 250;
@@ -152,6 +153,7 @@ function open(name) {
 
 function counted() {
   for (const [name, field] of Object.entries(fields)) {
+    field.classList.toggle('long', field.value.length > LONG);
     $(name).querySelector('.about').textContent = `${field.value.length.toLocaleString('en')} characters`;
   }
 }
